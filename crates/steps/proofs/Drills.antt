@@ -1,0 +1,122 @@
+-- The starred drills hold: for each row, tables found by rounds pass the test that they prove it. Assumes nothing.
+use Prim.Native.Nat.{ℕ, zero, suc, _<_}
+use mathlib.Core.Path.{_≡_, refl}
+use mathlib.Core.Bool.{Bool, true, false, cond, not, _&&_, _||_}
+use mathlib.Core.List.{List, [], _∷_, List·Memᴰ, Memᴰ·cast}
+use mathlib.Core.Logic.{⊎-elim}
+use lib.Dec.{T, eqb, ltb, eqb→eq, eqb-refl, T-not}
+use borrow.Author.Tests.{ltb-true}
+use lib.ListN.{length}
+use Rattle.steps.specs.State.{State, holds, added, removed}
+use Rattle.steps.specs.Step.{query, insert, delete, call, Body}
+use Rattle.steps.specs.Run.{Run, Goal}
+use Rattle.steps.specs.Counting.{Rising, rising-nil, rising-cons}
+use Rattle.steps.specs.Drills.{Drill, Holds, drills, drill, _⟵_}
+use Rattle.steps.proofs.ListTests.{both, both-l, both-r, both-in, either, holds-true, every, any, every-at, any-at, distinct, distinct-of}
+use Rattle.steps.proofs.Certified.{CallRow, AnswerRow, Place, places, bodies, next, certified, certified-exact, separate, closed, justified, reached, owned, kept, apart, some-place, every-place, ends-at, comes-at, call-row, answer-row, has-answer}
+
+-- ---- tables by rounds, newest row first
+
+abbrev Tables : Type 0
+Tables = List CallRow × List AnswerRow
+
+-- the call or the answer that a place of a walk shows, if it is new
+note : CallRow → State → Body → Tables → Tables
+note c E [] (C, A) = (C, cond (any (answer-row (c .0, c .1, E)) A) A ((c .0, c .1, E) ∷ A))
+note c E (query p ∷ left) t = t
+note c E (insert p ∷ left) t = t
+note c E (delete p ∷ left) t = t
+note c E (call b ∷ left) (C, A) = (cond (any (call-row (b, E)) C) C ((b, E) ∷ C), A)
+
+abbrev fold : {X Y : Type 0} → (X → Y → Y) → List X → Y → Y
+fold f [] y = y
+fold f (x ∷ xs) y = fold f xs (f x y)
+
+round : Run → Tables → Tables
+round run (C, A) =
+    fold (λ (c : CallRow) (t : Tables).
+    fold (λ (body : Body) (t : Tables).
+    fold (λ (q : Place) (t : Tables). note c (q .0) (q .1) t) (places A (c .1) body) t) (bodies run (c .0)) t) C (C, A)
+
+rounds : ℕ → Run → Tables → Tables
+rounds zero run t = t
+rounds (suc n) run t = rounds n run (round run t)
+
+-- eight rounds are enough for each of the ten
+tables : Run → Tables
+unfolding rounds round note answer-row call-row places bodies next
+tables run = rounds 8 run ((Goal, run .start) ∷ [], [])
+
+-- ---- the test of a row
+
+call-row-refl : (c : CallRow) → T (call-row c c)
+unfolding call-row
+call-row-refl c = both-in (eqb (c .0) (c .0)) (eqb (c .1) (c .1)) (eqb-refl (c .0)) (eqb-refl (c .1))
+
+answer-row-refl : (t : AnswerRow) → T (answer-row t t)
+unfolding answer-row
+answer-row-refl t = both-in (eqb (t .0) (t .0)) (eqb (t .1) (t .1) && eqb (t .2) (t .2)) (eqb-refl (t .0)) (both-in (eqb (t .1) (t .1)) (eqb (t .2) (t .2)) (eqb-refl (t .1)) (eqb-refl (t .2)))
+
+abbrev rising : List ℕ → Bool
+rising [] = true
+rising (x ∷ xs) = every (ltb x) xs && rising xs
+
+rising-of : (xs : List ℕ) → T (rising xs) → Rising xs
+rising-of [] t = rising-nil
+rising-of (x ∷ xs) t =
+    let (h, hs) = both (every (ltb x) xs) (rising xs) t in
+    rising-cons (λ y m. ltb-true x y (holds-true (ltb x y) (every-at (ltb x) h m))) (rising-of xs hs)
+
+-- the answer is not the goal's at the start, or its final state is listed
+listed : Drill → AnswerRow → Bool
+listed d t = not (call-row (t .0, t .1) (Goal, d .run .start)) || any (eqb (t .2)) (d .ends)
+
+-- the state is an answer of the goal at the start
+answered : Drill → List AnswerRow → State → Bool
+answered d A D = any (answer-row (Goal, d .run .start, D)) A
+
+-- the tables C and A prove the row
+proves : Drill → List CallRow → List AnswerRow → Bool
+proves d C A =
+    certified (d .run) C A && distinct call-row C && distinct answer-row A && eqb (length C) (d .calls) && eqb (length A) (d .answers)
+    && rising (d .ends) && every (answered d A) (d .ends) && every (listed d) A
+
+proved : (d : Drill) (C : List CallRow) (A : List AnswerRow) → T (proves d C A) → Holds d
+unfolding proves answered listed
+proved d C A t =
+    let c : T (certified (d .run) C A) = search (both-l, both-r) depth 9 in
+    let dC : T (distinct call-row C) = search (both-l, both-r) depth 9 in
+    let dA : T (distinct answer-row A) = search (both-l, both-r) depth 9 in
+    let nC : T (eqb (length C) (d .calls)) = search (both-l, both-r) depth 9 in
+    let nA : T (eqb (length A) (d .answers)) = search (both-l, both-r) depth 9 in
+    let up : T (rising (d .ends)) = search (both-l, both-r) depth 9 in
+    let all : T (every (answered d A) (d .ends)) = search (both-l, both-r) depth 9 in
+    let only : T (every (listed d) A) = search (both-l, both-r) depth 9 in
+    let x = certified-exact (d .run) C A c in
+    record {
+      rising = rising-of (d .ends) up;
+      ends = λ D. (λ m. x .ends D .0 (from-list D (every-at (answered d A) all m)), λ f. in-list D (x .ends D .1 f) only);
+      calls = (C, distinct-of call-row call-row-refl C dC, (λ k. x .calls (k .0) (k .1)), eqb→eq (length C) (d .calls) nC);
+      answers = (A, distinct-of answer-row answer-row-refl A dA, (λ k. x .answers (k .0) (k .1) (k .2)), eqb→eq (length A) (d .answers) nA);
+    }
+  where
+    from-list : (D : State) → T (answered d A D) → List·Memᴰ {A = AnswerRow} (Goal, d .run .start, D) A
+    from-list D h = has-answer (Goal, d .run .start, D) A h
+
+    in-list : (D : State) → List·Memᴰ {A = AnswerRow} (Goal, d .run .start, D) A → T (every (listed d) A) → List·Memᴰ D (d .ends)
+    in-list D m only =
+        ⊎-elim (λ n. absurd (T-not (call-row (Goal, d .run .start) (Goal, d .run .start)) n (call-row-refl (Goal, d .run .start))))
+        (λ s. let (E, k, q) = any-at (eqb D) (d .ends) s in Memᴰ·cast (eqb→eq D E q) k)
+        (either (not (call-row (Goal, d .run .start) (Goal, d .run .start))) (any (eqb D) (d .ends)) (every-at (listed d) only m))
+
+passes : Drill → Bool
+passes d = let t = tables (d .run) in proves d (t .0) (t .1)
+
+pass : T (every passes drills)
+unfolding passes proves listed answered tables certified drills drill _⟵_ separate apart closed every-place kept justified some-place ends-at reached comes-at owned call-row answer-row
+pass = tt
+
+-- Every row holds.
+pub drills-hold : (d : Drill) → List·Memᴰ d drills → Holds d
+unfolding passes
+drills-hold d m = proved d (tables (d .run) .0) (tables (d .run) .1) (every-at passes pass m)

@@ -1,0 +1,32 @@
+-- What an elementary step word does, by its kind. Assumes nothing.
+use Prim.Native.Nat.{ℕ, zero, suc, _/_, _%_}
+use native.Mathlib.Omega.{arith}
+use mathlib.Core.Path.{_≡_, refl}
+use mathlib.Core.Bool.{cond}
+use lib.Dec.{ltb}
+use Rattle.steps.specs.State.{State, holds, added, removed}
+use Rattle.steps.specs.Words.{step-by, step-of}
+use Rattle.steps.specs.Elementary.{on, stuck, elementary}
+
+module _ (w : ℕ) (s : State) where
+  pub query-word : w / 256 ≡ 0 → elementary (step-of w) s ≡ cond (holds s (w % 256)) (on s) stuck
+  unfolding step-by elementary
+  query-word e = rw e refl
+
+  pub insert-word : w / 256 ≡ 1 → elementary (step-of w) s ≡ cond (ltb (w % 256) 64) (on (added s (w % 256))) stuck
+  unfolding step-by elementary
+  insert-word e = rw e refl
+
+  pub delete-word : w / 256 ≡ 2 → elementary (step-of w) s ≡ on (removed s (w % 256))
+  unfolding step-by elementary
+  delete-word e = rw e refl
+
+call-by : (k i : ℕ) (s : State) → (k ≡ 0 → ⊥) → (k ≡ 1 → ⊥) → (k ≡ 2 → ⊥) → elementary (step-by k i) s ≡ stuck
+unfolding step-by elementary
+call-by zero i s a b c = absurd (a refl)
+call-by (suc zero) i s a b c = absurd (b refl)
+call-by (suc (suc zero)) i s a b c = absurd (c refl)
+call-by (suc (suc (suc k))) i s a b c = refl
+
+pub other-word : (w : ℕ) (s : State) → (w / 256 ≡ 0 → ⊥) → (w / 256 ≡ 1 → ⊥) → (w / 256 ≡ 2 → ⊥) → elementary (step-of w) s ≡ stuck
+other-word w s = call-by (w / 256) (w % 256) s

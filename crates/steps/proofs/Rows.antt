@@ -1,0 +1,62 @@
+-- The rows of a table as a list: what "row i, for i below n" says of `Distinct`, `Counts` and `Outnumbers`. Assumes nothing.
+use Prim.Native.Nat.{ℕ, zero, suc, _+_, _≤_, _<_}
+use native.Mathlib.Omega.{arith}
+use mathlib.Core.Path.{_≡_, refl, sym, _∙_, ap}
+use mathlib.Core.List.{List, [], _∷_, List·Memᴰ, List·Memᴰ·head, List·Memᴰ·tail, List·Memᴰ·not-nil, List·Memᴰ·cases-cons}
+use mathlib.Core.Logic.{_↔_, _≢_, _⊎_, inl, inr, ⊎-elim}
+use native.Mathlib.Decide.{ℕ-discrete}
+use lib.ListN.{length}
+use Rattle.steps.specs.Counting.{Distinct, none, more, Counts, Outnumbers}
+use Rattle.steps.proofs.Counting.{counts-outnumbers, full-outnumbers}
+
+module _ {X : Type 0} (row : ℕ → X) where
+  rows : ℕ → List X
+  rows zero = []
+  rows (suc n) = row n ∷ rows n
+
+  rows-length : (n : ℕ) → length (rows n) ≡ n
+  unfolding rows
+  rows-length zero = refl
+  rows-length (suc n) = ap suc (rows-length n)
+
+  rows-out : (n : ℕ) (x : X) → List·Memᴰ x (rows n) → (i : ℕ) × (i < n) × (x ≡ row i)
+  unfolding rows
+  rows-out zero x m = absurd (List·Memᴰ·not-nil m)
+  rows-out (suc n) x (List·Memᴰ·head e) = (n, omega arith, e)
+  rows-out (suc n) x (List·Memᴰ·tail m) = let (i, l, e) = rows-out n x m in (i, omega arith, e)
+
+  rows-in : (n i : ℕ) (x : X) → i < n → x ≡ row i → List·Memᴰ x (rows n)
+  unfolding rows
+  rows-in zero i x l e = absurd (omega arith)
+  rows-in (suc n) i x l e = go (ℕ-discrete i n) (rows-in n i x)
+    where
+      go : Dec (i ≡ n) → (i < n → x ≡ row i → List·Memᴰ x (rows n)) → List·Memᴰ x (row n ∷ rows n)
+      go (yes p) k = List·Memᴰ·head (e ∙ ap row p)
+      go (no p) k = List·Memᴰ·tail (k (omega arith) e)
+
+  rows-distinct : (n : ℕ) → ((i j : ℕ) → i < j → j < n → row i ≢ row j) → Distinct (rows n)
+  unfolding rows
+  rows-distinct zero new = none
+  rows-distinct (suc n) new = more (λ y m. fresh y (rows-out n y m)) (rows-distinct n (λ i j l k. new i j l (omega arith)))
+    where
+      fresh : (y : X) → (i : ℕ) × (i < n) × (y ≡ row i) → y ≢ row n
+      fresh y (i, l, e) q = new i n l (omega arith) (sym e ∙ q)
+
+  module _ (P : X → Type 0) (n : ℕ) (new : (i j : ℕ) → i < j → j < n → row i ≢ row j) (sound : (i : ℕ) → i < n → P (row i)) where
+    each : (x : X) → (i : ℕ) × (i < n) × (x ≡ row i) → P x
+    each x (i, l, e) = rw e (sound i l)
+
+    -- a table that holds each thing of P once counts P
+    pub table-counts : ((x : X) → P x → (i : ℕ) × (i < n) × (x ≡ row i)) → Counts P n
+    table-counts complete = (rows n, rows-distinct n new, (λ x. (λ m. each x (rows-out n x m), λ h. let (i, l, e) = complete x h in rows-in n i x l e)), rows-length n)
+
+    -- and none outnumber it
+    pub table-fits : ((x : X) → P x → (i : ℕ) × (i < n) × (x ≡ row i)) → (room : ℕ) → n ≤ room → ¬ Outnumbers P room
+    table-fits complete room l o = omega (arith, counts-outnumbers P n room (table-counts complete) .0 o)
+
+    -- a table of things of P that is full, and one more: P outnumbers the room
+    pub table-full : (y : X) → P y → ((i : ℕ) → i < n → row i ≢ y) → Outnumbers P n
+    table-full y h away = rw rows-length at (full-outnumbers P (rows n) y (rows-distinct n new) (λ x m. each x (rows-out n x m)) h (λ x m. other x (rows-out n x m)))
+      where
+        other : (x : X) → (i : ℕ) × (i < n) × (x ≡ row i) → x ≢ y
+        other x (i, l, e) q = away i l (sym e ∙ q)

@@ -1,0 +1,61 @@
+-- Which rules, goal and start are accepted: the refusals 20 to 24, computed in the order of document 01's table. Assumes nothing.
+use Prim.Native.Nat.{ℕ, zero, suc, _+_, _*_, _/_, _%_, _^_}
+use mathlib.Core.Bool.{Bool, true, false, cond, not, _&&_, _||_}
+use mathlib.Core.List.{List}
+use lib.ListN.{getD, length}
+use lib.Dec.{eqb, ltb}
+use Rattle.steps.specs.Words.{head-of, count-of}
+
+-- The test holds of each number below n.
+unfoldable pub each-below : ℕ → (ℕ → Bool) → Bool
+each-below zero p = true
+each-below (suc n) p = each-below n p && p n
+
+-- A good step: its kind is one of the four, and its index is below the count of fluents (of actions for a call).
+unfoldable pub good-step : ℕ → ℕ → ℕ → Bool
+good-step fluents actions w = ltb (w / 256) 4 && ltb (w % 256) (cond (eqb (w / 256) 3) actions fluents)
+
+-- Step word i of a rule with n steps is a good step, or unused and 0.
+unfoldable pub good-word : ℕ → ℕ → ℕ → ℕ → ℕ → Bool
+good-word fluents actions n i w = cond (ltb i n) (good-step fluents actions w) (eqb w 0)
+
+-- Rule r: its head is an action, its count is at most 16, and its 16 step words are good.
+unfoldable pub good-rule : ℕ → ℕ → List ℕ → ℕ → Bool
+good-rule fluents actions rules r =
+    ltb (head-of rules r) actions && (ltb (count-of rules r) 17 && each-below 16 (λ i. good-word fluents actions (count-of rules r) i (getD rules (18 * r + 2 + i) 0)))
+
+-- 20: over 64 fluents or over 64 actions
+unfoldable pub bad-counts : ℕ → ℕ → Bool
+bad-counts fluents actions = ltb 64 fluents || ltb 64 actions
+
+-- 21: length not a multiple of 18, or over 256 rules
+unfoldable pub bad-length : List ℕ → Bool
+bad-length rules = not (eqb (length rules % 18) 0) || ltb 256 (length rules / 18)
+
+-- 22: bad head, count over 16, bad step, unused word not 0
+unfoldable pub bad-rules : ℕ → ℕ → List ℕ → Bool
+bad-rules fluents actions rules = not (each-below (length rules / 18) (good-rule fluents actions rules))
+
+-- 23: over 16 steps or a bad step
+unfoldable pub bad-goal : ℕ → ℕ → List ℕ → Bool
+bad-goal fluents actions goal = ltb 16 (length goal) || not (each-below (length goal) (λ i. good-step fluents actions (getD goal i 0)))
+
+-- 24: a bit at or above the fluent count
+unfoldable pub bad-start : ℕ → ℕ → Bool
+bad-start fluents start = not (eqb (start / 2 ^ fluents) 0)
+
+-- The first of 20 to 23 that is met, down the table, or 0.
+unfoldable pub words-refusal : ℕ → ℕ → List ℕ → List ℕ → ℕ
+words-refusal fluents actions rules goal =
+    cond (bad-counts fluents actions) 20
+    (cond (bad-length rules) 21
+    (cond (bad-rules fluents actions rules) 22
+    (cond (bad-goal fluents actions goal) 23
+    0)))
+
+-- The first of 20 to 24 that is met, down the table, or 0: then rules, goal and start are accepted.
+unfoldable pub refusal-of : ℕ → ℕ → List ℕ → List ℕ → ℕ → ℕ
+refusal-of fluents actions rules goal start =
+    cond (eqb (words-refusal fluents actions rules goal) 0)
+    (cond (bad-start fluents start) 24 0)
+    (words-refusal fluents actions rules goal)

@@ -1,0 +1,18 @@
+-- One elementary step as the code gives it. Assumes nothing.
+use Prim.Native.Nat.{ℕ}
+use mathlib.Core.Bool.{cond}
+use lib.Dec.{ltb}
+use Rattle.steps.specs.State.{State, holds, added, removed}
+use Rattle.steps.specs.Step.{Step, query, insert, delete, call}
+
+-- A step goes on in a state, or has no continuation.
+pub data Onward : Type 0 where
+  on : State → Onward
+  stuck : Onward
+
+-- The moves of a query, an insert and a delete. A call is no elementary step, and a state has no fluent 64 to insert: these have no continuation here.
+unfoldable pub elementary : Step → State → Onward
+elementary (query p) s = cond (holds s p) (on s) stuck
+elementary (insert p) s = cond (ltb p 64) (on (added s p)) stuck
+elementary (delete p) s = on (removed s p)
+elementary (call a) s = stuck

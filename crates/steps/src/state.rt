@@ -1,0 +1,74 @@
+// States by value, and calls.
+ghost use mathlib.Core.Path.{_≡_};
+ghost use mathlib.Core.Bool.{cond};
+ghost use lib.Dec.{ltb};
+ghost use Rattle.steps.specs.State.{holds, added, removed};
+
+// A set of at most 64 fluents: fluent k holds exactly if bit k is set.
+pub struct State(pub u64);
+
+impl State {
+    // The state in which nothing holds.
+    pub const NOTHING: State = State(0);
+
+    // The state that a 64-bit word stands for.
+    pub fn of(word: u64) -> State
+        ensures { λ r. ⌜ r .0 ≡ word ⌝ }
+    {
+        State(word)
+    }
+
+    // Whether fluent k holds; none from 64 on does.
+    pub fn holds(self, k: u64) -> bool
+        ensures { λ r. ⌜ r ≡ holds (self .0) k ⌝ }
+    {
+        if k < 64 {
+            return (self.0 >> k) % 2 == 1;
+        }
+        false
+    }
+
+    // The state with fluent k added; a state has no fluent from 64 on.
+    pub fn insert(self, k: u64) -> State
+        ensures { λ r. ⌜ r .0 ≡ cond (ltb k 64) (added (self .0) k) (self .0) ⌝ }
+    {
+        if k < 64 {
+            if self.holds(k) {
+                return self;
+            }
+            return State(self.0 + (1 << k));
+        }
+        self
+    }
+
+    // The state with fluent k removed.
+    pub fn delete(self, k: u64) -> State
+        ensures { λ r. ⌜ r .0 ≡ removed (self .0) k ⌝ }
+    {
+        if self.holds(k) {
+            return State(self.0 - (1 << k));
+        }
+        self
+    }
+}
+
+// An action and the state in which it is called.
+pub struct Call {
+    pub action: u64,
+    pub state: State,
+}
+
+impl Call {
+    // The number under which the goal stands in the tables.
+    pub const GOAL: u64 = 64;
+
+    // The call of an action in the state that a 64-bit word stands for.
+    pub fn of(action: u64, word: u64) -> Call
+        ensures { λ r. ⌜ (r .action ≡ action) × (r .state .0 ≡ word) ⌝ }
+    {
+        Call {
+            action: action,
+            state: State::of(word),
+        }
+    }
+}

@@ -1,0 +1,51 @@
+// Step words: their kinds and indices, and the one elementary step.
+use crate::state::State;
+ghost use mathlib.Core.Path.{_≡_};
+ghost use Prim.Native.Nat.{_/_, _%_};
+ghost use Rattle.steps.specs.Words.{step-of};
+ghost use Rattle.steps.specs.Elementary.{elementary};
+ghost use Rattle.steps.specs.Number.{onward};
+
+// The kind of a step word: 0 query, 1 insert, 2 delete, 3 call.
+pub fn kind(word: u16) -> u64
+    ensures { λ r. ⌜ r ≡ word / 256 ⌝ }
+{
+    (word / 256) as u64
+}
+
+// The index of a step word: of a fluent, for a call of an action.
+pub fn index(word: u16) -> u64
+    ensures { λ r. ⌜ r ≡ word % 256 ⌝ }
+{
+    (word % 256) as u64
+}
+
+// How a step comes out: it goes on in a state, or has no continuation.
+pub enum Next {
+    On(State),
+    Stuck,
+}
+
+// One elementary step on a state. All that is said of queries, inserts and deletes by their kinds is said here.
+pub fn elementary(word: u16, state: State) -> Next
+    ensures { λ r. ⌜ onward r ≡ elementary (step-of word) (state .0) ⌝ }
+{
+    let which = kind(word);
+    let k = index(word);
+    if which == 0 {
+        if state.holds(k) {
+            return Next::On(state);
+        }
+        return Next::Stuck;
+    }
+    if which == 1 {
+        if k < 64 {
+            return Next::On(state.insert(k));
+        }
+        return Next::Stuck;
+    }
+    if which == 2 {
+        return Next::On(state.delete(k));
+    }
+    Next::Stuck
+}
