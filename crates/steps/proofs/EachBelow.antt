@@ -35,3 +35,8 @@ each-not p n i l e = by (each-below n p) refl
     by : (b : Bool) → each-below n p ≡ b → each-below n p ≡ false
     by true f = absurd (true-not-false (sym (each-at p n f i l) ∙ e))
     by false f = f
+
+pub each-all : (p : ℕ → Bool) (n : ℕ) → ((i : ℕ) → i < n → p i ≡ true) → each-below n p ≡ true
+unfolding each-below
+each-all p zero all = refl
+each-all p (suc n) all = rw (each-all p n (λ i l. all i (omega arith)), all n (omega arith)) refl

@@ -40,7 +40,7 @@ set-below s k j h =
     omega arith
 
 -- the low digits have the same bit
-low-bit : (s k j : ℕ) → k < j → bit (s % 2 ^ j) k ≡ bit s k
+pub low-bit : (s k j : ℕ) → k < j → bit (s % 2 ^ j) k ≡ bit s k
 low-bit s k j h =
     let e : j ≡ suc (j - suc k) + k = omega arith in
     let f : s % 2 ^ j / 2 ^ k ≡ s / 2 ^ k % 2 ^ suc (j - suc k) = ap (λ (n : ℕ). s % 2 ^ n / 2 ^ k) e ∙ field s (suc (j - suc k)) k in

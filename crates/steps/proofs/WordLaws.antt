@@ -46,10 +46,10 @@ Low (insert p) = p < 64
 Low (delete p) = p < 64
 Low (call a) = Unit {0}
 
-on-same : {s t : State} → on s ≡ on t → s ≡ t
+pub on-same : {s t : State} → on s ≡ on t → s ≡ t
 on-same e = cc
 
-not-on : {t : State} → stuck ≡ on t → ⊥
+pub not-on : {t : State} → stuck ≡ on t → ⊥
 not-on e = let z : _≡_ {A = ℕ} 0 1 = cc in omega arith
 
 -- the code's step is the logic's

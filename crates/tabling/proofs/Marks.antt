@@ -1,0 +1,98 @@
+-- Marks of a place 0 to 15 and a call record, as bits of one word for each record, under the number of the walk that set them:
+-- a word of an earlier walk holds no mark, so nothing is ever cleared. Assumes nothing.
+use Prim.Native.Nat.{ℕ, _+_, _*_, _/_, _%_, _^_, _<_, _≤_}
+use native.Mathlib.Omega.{arith}
+use native.Mathlib.Decide.{ℕ-discrete}
+use mathlib.Core.Path.{_≡_, refl, sym, ap, _∙_}
+use mathlib.Core.Bool.{Bool, true, false, cond}
+use mathlib.Core.List.{List}
+use mathlib.Core.Logic.{_⊎_, inl, inr}
+use lib.ListN.{length, getD, set, length-set}
+use lib.Seq.{getD-set-same, getD-set-other}
+use lib.Dec.{eqb}
+use borrow.Author.Tests.{eqb-true}
+use Rattle.steps.specs.State.{bit}
+use Rattle.steps.proofs.StateLaws.{set-other, room, low-bit, high}
+
+-- The walk has marked place q of call record r.
+pub record Mark (marks : List ℕ) (walk q r : ℕ) : Type 0 where
+  pub small : q < 16
+  pub stamp : getD marks r 0 / 65536 ≡ walk
+  pub held : bit (getD marks r 0) q ≡ 1
+
+-- No word is of a later walk.
+pub record Stamped (marks : List ℕ) (walk : ℕ) : Type 0 where
+  pub long : length marks ≡ 65536
+  pub early : (r : ℕ) → getD marks r 0 / 65536 ≤ walk
+  pub few : walk < 2 ^ 48
+
+-- The word of a record, as the walk sees it: without the marks of earlier walks.
+unfoldable pub word-in : List ℕ → ℕ → ℕ → ℕ
+word-in marks walk r = cond (eqb (getD marks r 0 / 65536) walk) (getD marks r 0) (walk * 65536)
+
+-- The words with one mark more.
+unfoldable pub with-mark : List ℕ → ℕ → ℕ → ℕ → List ℕ
+with-mark marks walk q r = set marks r (word-in marks walk r + 2 ^ q)
+
+-- no mark stands under the number of a later walk
+pub no-mark : {marks : List ℕ} {walk q r : ℕ} → Stamped marks walk → ¬ Mark marks (walk + 1) q r
+no-mark {r = r} s m = omega (arith, s .early r, m .stamp)
+
+pub next-walk : {marks : List ℕ} {walk : ℕ} → Stamped marks walk → walk + 1 < 2 ^ 48 → Stamped marks (walk + 1)
+next-walk s l = record { long = s .long; early = λ r. omega (arith, s .early r); few = l }
+
+-- ---- the word that is written
+
+-- one bit more does not carry into the stamp
+stamp-same : (w q : ℕ) → q < 16 → bit w q ≡ 0 → (w + 2 ^ q) / 65536 ≡ w / 65536
+stamp-same w q l e =
+    let low : w % 65536 + 2 ^ q < 65536 = room 16 q (w % 65536) l (omega arith) (low-bit w q 16 l ∙ e) in
+    omega arith
+
+bit-base : (walk q : ℕ) → q < 16 → bit (walk * 65536) q ≡ 0
+bit-base walk q l = let z : walk * 65536 % 65536 ≡ 0 = omega arith in sym (low-bit (walk * 65536) q 16 l) ∙ ap (λ (n : ℕ). bit n q) z ∙ high 0 q 0 (omega arith) (omega arith)
+
+module _ (marks : List ℕ) (walk q r : ℕ) where
+  word-stamp : word-in marks walk r / 65536 ≡ walk
+  unfolding word-in
+  word-stamp = by (eqb (getD marks r 0 / 65536) walk) refl
+    where
+      by : (b : Bool) → eqb (getD marks r 0 / 65536) walk ≡ b → cond b (getD marks r 0) (walk * 65536) / 65536 ≡ walk
+      by true e = eqb-true (getD marks r 0 / 65536) walk e
+      by false e = omega arith
+
+  -- a bit of the word is a mark
+  word-mark : (p : ℕ) → p < 16 → bit (word-in marks walk r) p ≡ 1 → Mark marks walk p r
+  unfolding word-in
+  word-mark p l = by (eqb (getD marks r 0 / 65536) walk) refl
+    where
+      by : (b : Bool) → eqb (getD marks r 0 / 65536) walk ≡ b → bit (cond b (getD marks r 0) (walk * 65536)) p ≡ 1 → Mark marks walk p r
+      by true e h = record { small = l; stamp = eqb-true (getD marks r 0 / 65536) walk e; held = h }
+      by false e h = absurd (omega (arith, bit-base walk p l))
+
+  pub word-free : q < 16 → ¬ Mark marks walk q r → bit (word-in marks walk r) q ≡ 0
+  word-free l free = elim (ℕ-discrete (bit (word-in marks walk r) q) 1) [ yes e ↦ absurd (free (word-mark q l e)) | no n ↦ omega arith ]
+
+  module _ (l : q < 16) (inside : r < length marks) (free : ¬ Mark marks walk q r) where
+    pub mark-new : (p y : ℕ) → Mark (with-mark marks walk q r) walk p y → Mark marks walk p y ⊎ ((p ≡ q) × (y ≡ r))
+    unfolding with-mark
+    mark-new p y m = by (ℕ-discrete y r) (ℕ-discrete p q)
+      where
+        by : Dec (y ≡ r) → Dec (p ≡ q) → Mark marks walk p y ⊎ ((p ≡ q) × (y ≡ r))
+        by (no n) d = let e = getD-set-other marks r y (word-in marks walk r + 2 ^ q) 0 n in inl (record { small = m .small; stamp = rw e at (m .stamp); held = rw e at (m .held) })
+        by (yes e) (yes f) = inr (f, e)
+        by (yes e) (no f) =
+            let a : bit (word-in marks walk r + 2 ^ q) p ≡ 1 = rw (e, getD-set-same marks r (word-in marks walk r + 2 ^ q) 0 inside) at (m .held) in
+            inl (rw e (word-mark p (m .small) (sym (set-other (word-in marks walk r) q p f (word-free l free)) ∙ a)))
+
+    new-word : getD (with-mark marks walk q r) r 0 ≡ word-in marks walk r + 2 ^ q
+    unfolding with-mark
+    new-word = getD-set-same marks r (word-in marks walk r + 2 ^ q) 0 inside
+
+    pub mark-stamped : Stamped marks walk → Stamped (with-mark marks walk q r) walk
+    unfolding with-mark
+    mark-stamped s = record { long = simp length-set (s .long); early = λ y. early y (ℕ-discrete y r); few = s .few }
+      where
+        early : (y : ℕ) → Dec (y ≡ r) → getD (with-mark marks walk q r) y 0 / 65536 ≤ walk
+        early y (yes e) = rw (e, new-word, stamp-same (word-in marks walk r) q l (word-free l free), word-stamp) (omega arith)
+        early y (no n) = rw (getD-set-other marks r y (word-in marks walk r + 2 ^ q) 0 n) (s .early y)
