@@ -2,6 +2,7 @@
 use crate::state::State;
 ghost use mathlib.Core.Path.{_≡_};
 ghost use Prim.Native.Nat.{_/_, _%_};
+ghost use lib.Dec.{ltb};
 ghost use Rattle.steps.specs.Words.{step-of};
 ghost use Rattle.steps.specs.Elementary.{elementary};
 ghost use Rattle.steps.specs.Number.{onward};
@@ -18,6 +19,13 @@ pub fn index(word: u16) -> u64
     ensures { λ r. ⌜ r ≡ word % 256 ⌝ }
 {
     (word % 256) as u64
+}
+
+// Whether a step word is a call. (An accepted word has no kind above 3.)
+pub fn is_call(word: u16) -> bool
+    ensures { λ r. ⌜ r ≡ ltb 2 (word / 256) ⌝ }
+{
+    2 < word / 256
 }
 
 // How a step comes out: it goes on in a state, or has no continuation.

@@ -3,7 +3,7 @@ use Prim.Native.Nat.{ℕ, zero, suc, _+_, _/_, _%_, _<_, _≤_}
 use native.Mathlib.Omega.{arith}
 use mathlib.Core.Path.{_≡_, refl, sym, subst, ap, _∙_}
 use mathlib.Core.Bool.{true}
-use mathlib.Core.List.{List, [], _∷_}
+use mathlib.Core.List.{List, [], _∷_, List·Memᴰ}
 use mathlib.Core.Logic.{_⊎_, inl, inr, ⊎-elim}
 use lib.ListN.{length, getD, drop, drop-of-length-le}
 use lib.Seq.{drop-cons}
@@ -21,6 +21,10 @@ use Rattle.tabling.proofs.Justification.{Has, Justified, Follow, names,
 use Rattle.tabling.proofs.Sweep.{Way}
 use Rattle.tabling.proofs.Graph.{Leads}
 use Rattle.tabling.proofs.Walking.{front, move-step, move, Of, final, EdgeT}
+
+-- Roots given as a list.
+abbrev pub Among : List (ℕ × State) → ℕ → State → Type 0
+Among roots a D = List·Memᴰ {A = ℕ × State} (a, D) roots
 
 -- What holds of the tables throughout an evaluation: the roots stand, each record stands once, each call is reached, each answer justified.
 pub record Valid (bodies : Bodies) (Root : ℕ → State → Type 0) (t : Tables) : Type 0 where

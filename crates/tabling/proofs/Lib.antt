@@ -10,3 +10,8 @@ pub mod Justification
 pub mod Walking
 pub mod Evidence
 pub mod Adding
+pub mod Turn
+pub mod Rounds
+pub mod Going
+pub mod StorageLaws
+pub mod FinalsLaws

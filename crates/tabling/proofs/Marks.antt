@@ -10,9 +10,9 @@ use mathlib.Core.Logic.{_⊎_, inl, inr}
 use lib.ListN.{length, getD, set, length-set}
 use lib.Seq.{getD-set-same, getD-set-other}
 use lib.Dec.{eqb}
-use borrow.Author.Tests.{eqb-true}
-use Rattle.steps.specs.State.{bit}
-use Rattle.steps.proofs.StateLaws.{set-other, room, low-bit, high}
+use borrow.Author.Tests.{eqb-true, eq-eqb}
+use Rattle.steps.specs.State.{bit, holds}
+use Rattle.steps.proofs.StateLaws.{set-other, room, low-bit, high, held, not-held}
 
 -- The walk has marked place q of call record r.
 pub record Mark (marks : List ℕ) (walk q r : ℕ) : Type 0 where
@@ -33,6 +33,11 @@ word-in marks walk r = cond (eqb (getD marks r 0 / 65536) walk) (getD marks r 0)
 -- The words with one mark more.
 unfoldable pub with-mark : List ℕ → ℕ → ℕ → ℕ → List ℕ
 with-mark marks walk q r = set marks r (word-in marks walk r + 2 ^ q)
+
+-- Whether a place is marked.
+abbrev pub Marked : List ℕ → ℕ → ℕ → ℕ → Bool → Type 0
+Marked marks walk q r true = Mark marks walk q r
+Marked marks walk q r false = ¬ Mark marks walk q r
 
 -- no mark stands under the number of a later walk
 pub no-mark : {marks : List ℕ} {walk q r : ℕ} → Stamped marks walk → ¬ Mark marks (walk + 1) q r
@@ -70,6 +75,10 @@ module _ (marks : List ℕ) (walk q r : ℕ) where
       by true e h = record { small = l; stamp = eqb-true (getD marks r 0 / 65536) walk e; held = h }
       by false e h = absurd (omega (arith, bit-base walk p l))
 
+  mark-word : (p : ℕ) → Mark marks walk p r → bit (word-in marks walk r) p ≡ 1
+  unfolding word-in
+  mark-word p m = rw (eq-eqb (getD marks r 0 / 65536) walk (m .stamp)) (m .held)
+
   pub word-free : q < 16 → ¬ Mark marks walk q r → bit (word-in marks walk r) q ≡ 0
   word-free l free = elim (ℕ-discrete (bit (word-in marks walk r) q) 1) [ yes e ↦ absurd (free (word-mark q l e)) | no n ↦ omega arith ]
 
@@ -96,3 +105,8 @@ module _ (marks : List ℕ) (walk q r : ℕ) where
         early : (y : ℕ) → Dec (y ≡ r) → getD (with-mark marks walk q r) y 0 / 65536 ≤ walk
         early y (yes e) = rw (e, new-word, stamp-same (word-in marks walk r) q l (word-free l free), word-stamp) (omega arith)
         early y (no n) = rw (getD-set-other marks r y (word-in marks walk r + 2 ^ q) 0 n) (s .early y)
+
+-- What the code asks of a record's word.
+pub marked-by : (marks : List ℕ) (walk q r : ℕ) → q < 16 → (b : Bool) → b ≡ holds (word-in marks walk r) q → Marked marks walk q r b
+marked-by marks walk q r l true e = word-mark marks walk q r q l (held (word-in marks walk r) q (sym e))
+marked-by marks walk q r l false e = λ m. omega (arith, not-held (word-in marks walk r) q (sym e), mark-word marks walk q r q m)

@@ -16,6 +16,10 @@ last-or {q} {n} h = elim (decLt q n) [ yes l ↦ inl l | no m ↦ inr (omega ari
 pub first-or : {q p : ℕ} → q ≤ p → (q < p) ⊎ (q ≡ p)
 first-or {q} {p} h = elim (decLt q p) [ yes l ↦ inl l | no m ↦ inr (omega arith) ]
 
+-- what holds past p and at p holds from p on
+pub from-here : (P : ℕ → Type 0) {at p : ℕ} → ((q : ℕ) → p < q → q < at → P q) → P p → (q : ℕ) → p ≤ q → q < at → P q
+from-here P k s q a b = ⊎-elim (λ l. k q l b) (λ z. subst P z s) (first-or a)
+
 -- the states of f up to place k, and those of g after it
 module _ {St : Type 0} (f g : ℕ → St) (k : ℕ) where
   choose : (q : ℕ) → Dec (k < q) → St

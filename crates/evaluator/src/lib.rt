@@ -1,0 +1,2 @@
+// Tabled evaluation of a goal over rule words.
+mod ends;

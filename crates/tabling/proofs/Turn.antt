@@ -1,0 +1,270 @@
+-- One turn of the walk: each way that the code may go keeps the search's invariant or sweeps the node. Assumes nothing.
+use Prim.Native.Nat.{ℕ, zero, suc, _+_, _-_, _*_, _/_, _%_, _<_, _≤_}
+use native.Mathlib.Omega.{arith}
+use mathlib.Core.Path.{_≡_, refl, sym, subst, ap, _∙_}
+use mathlib.Core.Bool.{Bool, true, false}
+use mathlib.Core.List.{List}
+use mathlib.Core.Logic.{_⊎_, inl, inr, ⊎-elim}
+use lib.ListN.{length, getD, set, length-set}
+use lib.Seq.{getD-set-same, getD-set-other}
+use Rattle.steps.specs.State.{State}
+use Rattle.steps.specs.Counting.{Outnumbers}
+use Rattle.steps.specs.Words.{step-of, body-of}
+use Rattle.steps.specs.Elementary.{on, stuck, elementary}
+use Rattle.steps.proofs.EachBelow.{true-not-false}
+use Rattle.steps.proofs.Deductions.{Does}
+use Rattle.steps.proofs.Execution.{Ends}
+use Rattle.steps.proofs.Tables.{Reached}
+use Rattle.tabling.specs.Records.{Calls, Answers, Bodies}
+use Rattle.tabling.proofs.Storage.{CallAt, AnswerAt, NextAnswer, CallPut, call-stood, call-added, call-no-room, AnswerPut, answer-stood, answer-added, answer-no-room, AnswerAdded}
+use Rattle.tabling.proofs.Growth.{Tables, tables, HeldCall, Held, Grew, Inside, grew-refl, grew-trans, grew-call, grew-answer, call-up, held-call-up, held-up, row-once}
+use Rattle.tabling.proofs.Justification.{Has, Proper, Justified}
+use Rattle.tabling.proofs.Evidence.{Valid, inside-of, come-reached, way-ends, way-follows}
+use Rattle.tabling.proofs.Adding.{valid-call, valid-answer, full-calls, full-answers}
+use Rattle.tabling.proofs.Sweep.{Swept, Way}
+use Rattle.tabling.proofs.Walking.{Of, call-of, NoneIn, Retreat, Chosen, EdgeT, GoodT, Walking, walk-start, walk-forward, walk-way, chosen-of, Done, done-end, done-stuck, done-seen, done-call, take-first, back-over, back-take, walking-up}
+use Rattle.tabling.proofs.Marks.{Mark, Stamped, with-mark, mark-stamped}
+
+-- ---- from record numbers in the present tables to contents in the tables at the walk's start
+
+-- at place q no answer after the chosen one is left
+abbrev pub SpentRow : List ℕ → Answers → ℕ → List ℕ → ℕ → Type 0
+SpentRow body answers known chosen q = 2 < getD body q 0 / 256 → (y : ℕ) → getD chosen q 0 + 1 ≤ y → y < known → answers .call y ≡ answers .call (getD chosen q 0) → ⊥
+
+-- The search goes back to the place before r and takes answer j there; where r is 0 it is over: by record numbers.
+pub record RetreatRow (body : List ℕ) (answers : Answers) (known : ℕ) (chosen : List ℕ) (at r j : ℕ) : Type 0 where
+  pub low : r ≤ at
+  pub spent : (q : ℕ) → r ≤ q → q < at → SpentRow body answers known chosen q
+  pub found : (p : ℕ) → r ≡ p + 1 → (2 < getD body p 0 / 256) × (j < known) × NextAnswer answers known (answers .call (getD chosen p 0)) (getD chosen p 0 + 1) j
+
+module _ {bodies : Bodies} {Root : ℕ → State → Type 0} {b t : Tables} {known : ℕ} (v : Valid bodies Root t) (g : Grew b t) (enough : known ≤ b .answers .count) (inside : Inside b (b .answers .count)) where
+  row-of : {row y : ℕ} (c : ℕ × State) → row < t .calls .count → CallAt (t .calls) row (c .0) (c .1) → Of b known c y → t .answers .call y ≡ row
+  row-of {row} {y} c l k o =
+      let h : y < b .answers .count = omega (arith, o .below) in
+      let i : b .answers .call y < b .calls .count = inside y h in
+      g .call-same h ∙ row-once (t .calls) (v .calls-once) (b .answers .call y) row (c .0) (c .1) (omega (arith, g .calls-more)) l (call-up g i (record { has-action = o .action; has-state = o .state })) k
+
+  of-row : {row y : ℕ} (c : ℕ × State) → y < known → CallAt (t .calls) row (c .0) (c .1) → t .answers .call y ≡ row → Of b known c y
+  of-row {row} {y} c l k e =
+      let h : y < b .answers .count = omega arith in
+      let i : b .answers .call y < b .calls .count = inside y h in
+      let z : b .answers .call y ≡ row = sym (g .call-same h) ∙ e in
+      record { below = l; action = sym (g .action-same i) ∙ ap (t .calls .action) z ∙ k .has-action; state = sym (g .state-same i) ∙ ap (t .calls .state) z ∙ k .has-state }
+
+  -- the call record of an answer
+  call-there : {x : ℕ} → x < known → (t .answers .call x < t .calls .count) × CallAt (t .calls) (t .answers .call x) (call-of b x .0) (call-of b x .1)
+  call-there {x} l =
+      let h : x < b .answers .count = omega arith in
+      let i : b .answers .call x < b .calls .count = inside x h in
+      let e : t .answers .call x ≡ b .answers .call x = g .call-same h in
+      (omega (arith, g .calls-more), record { has-action = ap (t .calls .action) e ∙ g .action-same i; has-state = ap (t .calls .state) e ∙ g .state-same i })
+
+  none-old : {row from j : ℕ} (c : ℕ × State) → row < t .calls .count → CallAt (t .calls) row (c .0) (c .1) → NextAnswer (t .answers) known row from j → NoneIn b known c from j
+  none-old c l k n y x z o = n .skipped y x z (row-of c l k o)
+
+  retreat-old : {body chosen : List ℕ} {at r j : ℕ} → Chosen body known chosen at → RetreatRow body (t .answers) known chosen at r j → Retreat body b known chosen at r j
+  retreat-old {body} {chosen} {at} {r} {j} k R = record {
+    low = R .low;
+    spent = λ q x y e z a d o. (let (l, w) = call-there (k q y e) in R .spent q x y e z a d (row-of (call-of b (getD chosen q 0)) l w o));
+    found = λ p e.
+      (let (f, i, n) = R .found p e in
+      let (l, w) = call-there (k p (omega (arith, R .low)) f) in
+      (f, omega (arith, n .low), none-old (call-of b (getD chosen p 0)) l w n, of-row (call-of b (getD chosen p 0)) i w (n .found i)));
+  }
+
+-- ---- the invariant
+
+-- What does not change while a body is walked from a call record.
+pub record Given (bodies : Bodies) (Root : ℕ → State → Type 0) (b : Tables) (known rule row : ℕ) (body : List ℕ) : Type 0 where
+  pub proper : Proper bodies
+  pub valid : Valid bodies Root b
+  pub enough : known ≤ b .answers .count
+  pub row-in : row < b .calls .count
+  pub fits : bodies .fits rule (b .calls .action row) ≡ true
+  pub words : body ≡ bodies .words rule
+
+-- More calls or answers than the tables have places.
+abbrev pub Outgrown : Bodies → (ℕ → State → Type 0) → ℕ → ℕ → Type 0
+Outgrown bodies Root call-places answer-places =
+    Outnumbers (λ (c : ℕ × State). Reached Does (Has bodies) Root (c .0) (c .1)) call-places
+    ⊎ Outnumbers (λ (c : ℕ × State × State). Reached Does (Has bodies) Root (c .0) (c .1) × Ends Does (Has bodies) (c .0) (c .1) (c .2)) answer-places
+
+module _ (bodies : Bodies) (Root : ℕ → State → Type 0) (b : Tables) (known rule row walk : ℕ) (body : List ℕ) where
+  -- the state that the walk begins in
+  abbrev from : State
+  from = b .calls .state row
+
+  -- The search in tables t that have grown from b.
+  pub record Turning (t : Tables) (marks chosen : List ℕ) (at : ℕ) (s : State) : Type 0 where
+    pub given : Given bodies Root b known rule row body
+    pub valid : Valid bodies Root t
+    pub grew : Grew b t
+    pub stamped : Stamped marks walk
+    pub chosen-long : length chosen ≡ 16
+    pub unused : (q : ℕ) → length body ≤ q → getD chosen q 0 ≡ 0
+    pub walking : Walking body b known walk (HeldCall t) (Held t row) from marks chosen at at s
+
+  -- Where the walk has to go back: nothing is left from the present place on.
+  pub record Turned (t : Tables) (marks chosen : List ℕ) (at : ℕ) (s : State) : Type 0 where
+    pub turning : Turning t marks chosen at s
+    pub done : Done body b known walk (HeldCall t) (Held t row) from at s
+
+  -- The walk is over.
+  pub record Over (t : Tables) (marks : List ℕ) : Type 0 where
+    pub valid : Valid bodies Root t
+    pub grew : Grew b t
+    pub stamped : Stamped marks walk
+    pub swept : Swept (EdgeT b known body) (GoodT b known body (HeldCall t) (Held t row)) 0 from
+
+  has-body : Given bodies Root b known rule row body → Has bodies (b .calls .action row) (body-of body)
+  has-body G = (rule, G .fits, ap body-of (G .words))
+
+  pub body-short : Given bodies Root b known rule row body → length body ≤ 16
+  body-short G = rw (G .words) (G .proper .short rule _ (G .fits))
+
+  turning-up : {t u : Tables} {marks chosen : List ℕ} {at : ℕ} {s : State} → Turning t marks chosen at s → Grew t u → Valid bodies Root u → Turning u marks chosen at s
+  turning-up T g v = record {
+    given = T .given; valid = v; grew = grew-trans (T .grew) g; stamped = T .stamped; chosen-long = T .chosen-long; unused = T .unused;
+    walking = walking-up body b known walk from (held-call-up g) (held-up g row) (T .walking);
+  }
+
+  -- the first turn
+  pub turn-start : {marks chosen : List ℕ} → Given bodies Root b known rule row body → Stamped marks walk → ((q r : ℕ) → ¬ Mark marks walk q r) → length chosen ≡ 16 → ((q : ℕ) → length body ≤ q → getD chosen q 0 ≡ 0)
+      → Turning b marks chosen 0 from
+  turn-start G s none long unused = record {
+    given = G; valid = G .valid; grew = grew-refl b; stamped = s; chosen-long = long; unused = unused;
+    walking = walk-start body b known walk (HeldCall b) (Held b row) from none;
+  }
+
+  module _ {t : Tables} {marks chosen : List ℕ} {at : ℕ} {s : State} (T : Turning t marks chosen at s) where
+    chosen-far : (p j : ℕ) → p < length body → (q : ℕ) → length body ≤ q → getD (set chosen p j) q 0 ≡ 0
+    chosen-far p j h q l = getD-set-other chosen p q j 0 (omega arith) ∙ T .unused q l
+
+    place-low : at < length body → at < 16
+    place-low h = omega (arith, body-short (T .given))
+
+    -- ---- an elementary step
+    pub turn-forward : {u : State} → at < length body → elementary (step-of (getD body at 0)) s ≡ on u → Turning t marks (set chosen at 0) (at + 1) u
+    turn-forward h e = record {
+      given = T .given; valid = T .valid; grew = T .grew; stamped = T .stamped; chosen-long = simp length-set (T .chosen-long); unused = chosen-far at 0 h;
+      walking = walk-forward body b known walk (HeldCall t) (Held t row) from (T .walking) h (omega (arith, T .chosen-long, place-low h)) e;
+    }
+
+    pub turn-stuck : at < length body → getD body at 0 / 256 ≤ 2 → elementary (step-of (getD body at 0)) s ≡ stuck → Turned t marks chosen at s
+    turn-stuck h l e = record { turning = T; done = done-stuck body b known walk (HeldCall t) (Held t row) from (T .walking) h l e }
+
+    -- ---- a call
+    module _ (h : at < length body) (e : 2 < getD body at 0 / 256) where
+      -- it is reached
+      came : Reached Does (Has bodies) Root (getD body at 0 % 256) s
+      came =
+          let G = T .given in
+          come-reached b known body (G .valid) (G .enough) (G .valid .reached row (G .row-in)) (has-body G) h e (walk-way body b known walk (HeldCall t) (Held t row) from (T .walking))
+
+      -- it stands in the table
+      pub turn-called : {calls′ : Calls} {r places : ℕ} {full : Bool} → CallPut places (t .calls) (getD body at 0 % 256) s calls′ r full → full ≡ false
+          → Turning (tables calls′ (t .answers)) marks chosen at s × (r < calls′ .count) × CallAt calls′ r (getD body at 0 % 256) s
+      turn-called (call-stood f l k z) n = rw z (T, l, k)
+      turn-called (call-added f i l none p) n = (turning-up T (grew-call t p) (valid-call (T .valid) (T .given .proper) p none came), omega (arith, p .count), rw i (p .new))
+      turn-called (call-no-room f i none z) n = absurd (true-not-false (sym f ∙ n))
+
+      -- or there is no room for it
+      pub turn-calls-full : {calls′ : Calls} {r places : ℕ} {full : Bool} (answer-places : ℕ) → CallPut places (t .calls) (getD body at 0 % 256) s calls′ r full → full ≡ true → Outgrown bodies Root places answer-places
+      turn-calls-full m (call-stood f l k z) n = absurd (true-not-false (sym n ∙ f))
+      turn-calls-full m (call-added f i l none p) n = absurd (true-not-false (sym n ∙ f))
+      turn-calls-full m (call-no-room f i none z) n = inl (rw i at (full-calls (T .valid) none came))
+
+      module _ {r : ℕ} (l : r < t .calls .count) (k : CallAt (t .calls) r (getD body at 0 % 256) s) where
+        -- the node has been searched before
+        pub turn-seen : Mark marks walk at r → Turned t marks chosen at s
+        turn-seen m =
+            let i : r < b .calls .count = T .walking .stood at r m in
+            record { turning = T; done = done-seen body b known walk (HeldCall t) (Held t row) from (T .walking) (r, i,
+              record { has-action = sym (T .grew .action-same i) ∙ k .has-action; has-state = sym (T .grew .state-same i) ∙ k .has-state }, m) }
+
+        -- the call has no answer yet
+        pub turn-none : NextAnswer (t .answers) known r 0 known → Turned t marks chosen at s
+        turn-none n = record { turning = T; done = done-call body b known walk (HeldCall t) (Held t row) from (T .walking) h e (r, l, k)
+          (none-old (T .valid) (T .grew) (T .given .enough) (inside-of (T .given .valid)) (getD body at 0 % 256, s) l k n) }
+
+        -- its first answer is taken
+        pub turn-take : {j : ℕ} → r < 65536 → ¬ Mark marks walk at r → j < known → NextAnswer (t .answers) known r 0 j → Turning t (with-mark marks walk at r) (set chosen at j) (at + 1) (t .answers .final j)
+        turn-take {j} room free i n =
+            let G = T .given in
+            let c : ℕ × State = (getD body at 0 % 256, s) in
+            let inside = inside-of (G .valid) in
+            let x : j < b .answers .count = omega (arith, G .enough) in
+            let o : Of b known c j = of-row (T .valid) (T .grew) (G .enough) inside c i k (n .found i) in
+            let z : b .answers .call j ≡ r = sym (T .grew .call-same x) ∙ n .found i in
+            let old : r < b .calls .count = rw z at (inside j x) in
+            let at-b : CallAt (b .calls) r (c .0) (c .1) = record { has-action = ap (b .calls .action) (sym z) ∙ o .action; has-state = ap (b .calls .state) (sym z) ∙ o .state } in
+            let long : r < length marks = omega (arith, T .stamped .long) in
+            record {
+              given = G; valid = T .valid; grew = T .grew; stamped = mark-stamped marks walk at r (place-low h) long free (T .stamped);
+              chosen-long = simp length-set (T .chosen-long); unused = chosen-far at j h;
+              walking = rw (T .grew .final-same x) (take-first body b known walk (HeldCall t) (Held t row) from (T .walking) h e (r, l, k) (place-low h) (omega (arith, T .chosen-long, place-low h)) long old at-b free o
+                (none-old (T .valid) (T .grew) (G .enough) inside c l k n));
+            }
+
+    -- ---- the body's end
+    module _ (h : length body ≤ at) where
+      end-way : Way (EdgeT b known body) (λ q. getD chosen q 0) from (length body) s
+      end-way =
+          let z : at ≡ length body = omega (arith, T .walking .inside) in
+          subst (λ (n : ℕ). Way (EdgeT b known body) (λ q. getD chosen q 0) from n s) z (walk-way body b known walk (HeldCall t) (Held t row) from (T .walking))
+
+      end-final : Ends Does (Has bodies) (t .calls .action row) (t .calls .state row) s
+      end-final =
+          let G = T .given in
+          rw (T .grew .action-same (G .row-in), T .grew .state-same (G .row-in)) (way-ends b known body (G .valid) (G .enough) (has-body G) end-way)
+
+      end-justified : {answers′ : Answers} → AnswerAdded (t .answers) row s rule chosen answers′ → Justified bodies (tables (t .calls) answers′) (t .answers .count)
+      end-justified {answers′} p =
+          let G = T .given in
+          let u : Tables = tables (t .calls) answers′ in
+          let up : Grew b u = grew-trans (T .grew) (grew-answer t p) in
+          let w = way-follows b known up (inside-of (G .valid)) (G .enough) (t .answers .count) (omega (arith, G .enough, T .grew .answers-more)) body (body-short G)
+            (p .new-evidence) (T .unused) (sym (p .new .has-final)) end-way in
+          record {
+            exists = rw (p .new .has-call) (omega (arith, G .row-in, T .grew .calls-more));
+            fits = rw (p .new-rule, p .new .has-call, T .grew .action-same (G .row-in)) (G .fits);
+            followed = rw (p .new-rule, p .new .has-call, T .grew .state-same (G .row-in), ← (G .words)) w;
+          }
+
+      pub turn-ended : {answers′ : Answers} {places : ℕ} {full : Bool} → AnswerPut places (t .answers) row s rule chosen answers′ full → full ≡ false → Turned (tables (t .calls) answers′) marks chosen at s
+      turn-ended (answer-stood f k z) n = rw z (record { turning = T; done = done-end body b known walk (HeldCall t) (Held t row) from (T .walking) h k })
+      turn-ended {answers′} (answer-added f l none p) n =
+          let u : Tables = tables (t .calls) answers′ in
+          let w : Turning u marks chosen at s = turning-up T (grew-answer t p) (valid-answer (T .valid) (T .given .proper) p none (end-justified p)) in
+          record { turning = w; done = done-end body b known walk (HeldCall u) (Held u row) from (w .walking) h (t .answers .count, omega (arith, p .count), p .new) }
+      turn-ended (answer-no-room f i none z) n = absurd (true-not-false (sym f ∙ n))
+
+      pub turn-answers-full : {answers′ : Answers} {places : ℕ} {full : Bool} (call-places : ℕ) → AnswerPut places (t .answers) row s rule chosen answers′ full → full ≡ true → Outgrown bodies Root call-places places
+      turn-answers-full c (answer-stood f k z) n = absurd (true-not-false (sym n ∙ f))
+      turn-answers-full c (answer-added f l none p) n = absurd (true-not-false (sym n ∙ f))
+      turn-answers-full c (answer-no-room f i none z) n = inr (rw i at (full-answers (T .valid) (omega (arith, T .given .row-in, T .grew .calls-more)) none end-final))
+
+  -- ---- back
+  module _ {t : Tables} {marks chosen : List ℕ} {at : ℕ} {s : State} (T : Turned t marks chosen at s) where
+    old : {r j : ℕ} → RetreatRow body (t .answers) known chosen at r j → Retreat body b known chosen at r j
+    old R =
+        let U = T .turning in
+        retreat-old (U .valid) (U .grew) (U .given .enough) (inside-of (U .given .valid)) (chosen-of body b known walk (HeldCall t) (Held t row) from (U .walking)) R
+
+    pub turned-over : {j : ℕ} → RetreatRow body (t .answers) known chosen at 0 j → Over t marks
+    turned-over R =
+        let U = T .turning in
+        record { valid = U .valid; grew = U .grew; stamped = U .stamped; swept = back-over body b known walk (HeldCall t) (Held t row) from (U .walking) (T .done) (old R) }
+
+    pub turned-take : {j : ℕ} (p : ℕ) → RetreatRow body (t .answers) known chosen at (p + 1) j → Turning t marks (set chosen p j) (p + 1) (t .answers .final j)
+    turned-take {j} p R =
+        let U = T .turning in
+        let G = U .given in
+        let i : j < known = R .found p refl .1 in
+        let inside : at ≤ length body = U .walking .inside in
+        let low : p + 1 ≤ at = R .low in
+        record {
+          given = G; valid = U .valid; grew = U .grew; stamped = U .stamped; chosen-long = simp length-set (U .chosen-long); unused = chosen-far U p j (omega arith);
+          walking = rw (U .grew .final-same {x = j} (omega (arith, G .enough)))
+            (back-take body b known walk (HeldCall t) (Held t row) from (U .walking) (T .done) p (omega (arith, U .chosen-long, body-short G)) (old R));
+        }

@@ -1,0 +1,35 @@
+-- `finish` meets its contract: the answer stood, was added, or has no room. Assumes nothing.
+use mathlib.Core.Path.{refl}
+use lib.ListN.{length}
+use borrow.Author.Needs.{needs}
+use Rattle.tabling.specs.Records.{room}
+use Rattle.tabling.proofs.Evidence.{Among}
+use Rattle.tabling.proofs.Turn.{turn-ended, turn-answers-full}
+use Rattle.walk.proofs.finish.Statement.{statement}
+use Rattle.walk.proofs.finish.Tie as tie
+
+add-answer-requires : tie.Need-add-answer-requires
+add-answer-requires c κs = search needs
+
+same-length : tie.Need-same-length
+same-length c = search needs
+
+returns : tie.Need-returns
+returns c =
+    let x = c .before .before .before .add-answer .ensures in
+    let j = c .before .before .before .before .before .before .args .job in
+    ((x .long, x .stored, refl),
+    λ bodies roots b body calls marks at h T. turn-answers-full bodies (Among roots) b (j .known) (j .rule) (j .row) (j .walk) body T h (room 2 (length calls)) (x .put) (c .if1 .taken))
+
+same-length-2 : tie.Need-same-length-2
+same-length-2 c = search needs
+
+returns-2 : tie.Need-returns-2
+returns-2 c =
+    let x = c .before .before .before .add-answer .ensures in
+    let j = c .before .before .before .before .before .before .args .job in
+    ((x .long, x .stored, refl),
+    λ bodies roots b body calls marks at h T. (turn-ended bodies (Among roots) b (j .known) (j .rule) (j .row) (j .walk) body T h (x .put) (c .if1 .left), refl))
+
+pub finish-spec : {M : Type 1} → statement M
+finish-spec = tie.close (tie.spec add-answer-requires same-length returns same-length-2 returns-2)

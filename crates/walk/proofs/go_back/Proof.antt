@@ -1,0 +1,48 @@
+-- `go_back` meets its contract. Assumes nothing.
+use Prim.Native.Nat.{_+_, _-_, _<_}
+use mathlib.Core.Path.{_≡_, refl}
+use native.Mathlib.Omega.{arith}
+use borrow.Author.Needs.{needs}
+use Rattle.walk.proofs.go_back.Statement.{statement}
+use Rattle.walk.proofs.go_back.Tie as tie
+
+retreat-requires : tie.Need-retreat-requires
+retreat-requires c κs = search needs
+
+returns : tie.Need-returns
+returns c =
+    let r = c .before .retreat in
+    record { j = r .result .answer; row = rw (c .if1 .taken) at (r .ensures); taken = λ p e. absurd (omega arith) }
+
+sub-chosen : tie.Need-sub-chosen
+sub-chosen c = search needs
+
+mul-chosen : tie.Need-mul-chosen
+mul-chosen c = search needs
+
+element-write-chosen : tie.Need-element-write-chosen
+element-write-chosen c = search needs
+
+-- the answer is one of those known
+answer-below : (c : tie.Else1) → c .before .retreat .result .answer < c .before .before .before .before .before .args .known
+answer-below c = let r = c .before .retreat in let e : r .result .at ≡ (r .result .at - 1) + 1 = omega arith in r .ensures .found (r .result .at - 1) e .1
+
+final-of-requires : tie.Need-final-of-requires
+final-of-requires c κs = omega (arith, answer-below c)
+
+returns-2 : tie.Need-returns-2
+returns-2 c =
+    let r = c .before .before .retreat in
+    record { j = r .result .answer; row = r .ensures; taken = λ p e. (let z : r .result .at - 1 ≡ p = omega arith in (rw z refl, c .final-of .ensures)) }
+
+pub go-back-spec : {M : Type 1} → statement M
+go-back-spec =
+    tie.close
+    (tie.spec
+    retreat-requires
+    returns
+    sub-chosen
+    mul-chosen
+    element-write-chosen
+    final-of-requires
+    returns-2)

@@ -1,0 +1,119 @@
+-- `retreat` meets its contract. The loop's invariant: the places from `place` on have no answer left; the measure is `place`. Assumes nothing.
+use Prim.Native.Nat.{ℕ, _+_, _-_, _/_, _<_, _≤_}
+use native.Mathlib.Omega.{arith}
+use mathlib.Core.Path.{_≡_, sym, _∙_}
+use mathlib.Core.List.{List}
+use borrow.Author.Needs.{needs}
+use borrow.Author.Tests.{ltb-true, ltb-false}
+use lib.ListN.{getD}
+use Rattle.tabling.specs.Records.{answers-in}
+use Rattle.tabling.proofs.Sweep.{from-here}
+use Rattle.tabling.proofs.Turn.{SpentRow}
+use Rattle.walk.proofs.retreat.Statement.{statement}
+use Rattle.walk.proofs.retreat.Tie as tie
+
+abbrev Inv-loop : tie.InvT-loop
+Inv-loop body answers known chosen at place₀ place = (place ≤ at) × ((q : ℕ) → place ≤ q → q < at → SpentRow body (answers-in 19 answers known) known chosen q)
+
+abbrev μ-loop : tie.MeasureT-loop
+μ-loop body answers known chosen at place₀ place = place
+
+loop-holds : tie.Need-loop-holds Inv-loop μ-loop
+loop-holds c = (omega arith, λ q a b. absurd (omega arith))
+
+sub-place : tie.Need-sub-place Inv-loop μ-loop
+sub-place c = omega arith
+
+mul-is-call : tie.Need-mul-is-call Inv-loop μ-loop
+mul-is-call c = omega arith
+
+shared-slice-read-is-call : tie.Need-shared-slice-read-is-call Inv-loop μ-loop
+shared-slice-read-is-call c = omega arith
+
+is-call-requires : tie.Need-is-call-requires Inv-loop μ-loop
+is-call-requires c κs = search needs
+
+-- at a call step: the step is a call, and its chosen answer is one
+a-call : (c : tie.Then1 Inv-loop μ-loop) → 2 < getD (c .before .before .before .before .before .before .before .args .body .now) (c .before .before .before .before .loop .place - 1) 0 / 256
+a-call c = ltb-true 2 _ (sym (c .before .is-call .ensures) ∙ c .if1 .taken)
+
+chosen-below : (c : tie.Then1 Inv-loop μ-loop)
+    → getD (c .before .before .before .before .before .before .before .args .chosen .now) (c .before .before .before .before .loop .place - 1) 0 < c .before .before .before .before .before .before .before .args .known
+chosen-below c = c .before .before .before .before .before .before .before .pre .4 (c .before .before .before .before .loop .place - 1) (omega arith) (a-call c)
+
+mul-last : tie.Need-mul-last Inv-loop μ-loop
+mul-last c = omega arith
+
+element-copy-out-last : tie.Need-element-copy-out-last Inv-loop μ-loop
+element-copy-out-last c = omega arith
+
+call-of-requires : tie.Need-call-of-requires Inv-loop μ-loop
+call-of-requires c κs = omega (arith, chosen-below (c .before))
+
+add-next-answer : tie.Need-add-next-answer Inv-loop μ-loop
+add-next-answer c = omega (arith, chosen-below (c .before .before))
+
+next-answer-requires : tie.Need-next-answer-requires Inv-loop μ-loop
+next-answer-requires c κs = omega (arith, chosen-below (c .before .before))
+
+add-t20 : tie.Need-add-t20 Inv-loop μ-loop
+add-t20 c = omega arith
+
+returns : tie.Need-returns Inv-loop μ-loop
+returns c =
+    let l = c .before .before .before .before .before .before .before .before in
+    let n = c .before .next-answer .ensures in
+    record {
+      low = omega arith;
+      spent = λ q a b. l .loop .inv .1 q (omega arith) b;
+      found = λ p e. (let z : l .loop .place - 1 ≡ p = omega arith in
+        rw (← z) (a-call (c .before .before .before .before), c .if2 .taken, rw (c .before .before .call-of .ensures) at n));
+    }
+
+loop-less : tie.Need-loop-less Inv-loop μ-loop
+loop-less c = omega arith
+
+loop-again : tie.Need-loop-again Inv-loop μ-loop
+loop-again c =
+    let l = c .before .before .before .before .before .before .before .before in
+    let a = l .before .before .before .args in
+    let n = c .before .next-answer .ensures in
+    let e : c .before .next-answer .result ≡ a .known = omega arith in
+    (omega arith, from-here (SpentRow (a .body .now) (answers-in 19 (a .answers .now) (a .known)) (a .known) (a .chosen .now)) (λ q b d. l .loop .inv .1 q (omega arith) d) (λ k y b d f. n .skipped y b (rw e d) (f ∙ sym (c .before .before .call-of .ensures))))
+
+loop-less-2 : tie.Need-loop-less-2 Inv-loop μ-loop
+loop-less-2 c = omega arith
+
+loop-again-2 : tie.Need-loop-again-2 Inv-loop μ-loop
+loop-again-2 c =
+    let l = c .before .before .before .before in
+    let a = l .before .before .before .args in
+    let no : getD (a .body .now) (l .loop .place - 1) 0 / 256 ≤ 2 = ltb-false 2 _ (sym (c .before .is-call .ensures) ∙ c .if1 .left) in
+    (omega arith, from-here (SpentRow (a .body .now) (answers-in 19 (a .answers .now) (a .known)) (a .known) (a .chosen .now)) (λ q b d. l .loop .inv .1 q (omega arith) d) (λ k. absurd (omega arith)))
+
+returns-2 : tie.Need-returns-2 Inv-loop μ-loop
+returns-2 c = record { low = omega arith; spent = λ q a b. c .before .loop .inv .1 q (omega arith) b; found = λ p e. absurd (omega arith) }
+
+pub retreat-spec : {M : Type 1} → statement M
+retreat-spec =
+    tie.close
+    (tie.spec
+    Inv-loop
+    μ-loop
+    loop-holds
+    sub-place
+    mul-is-call
+    shared-slice-read-is-call
+    is-call-requires
+    mul-last
+    element-copy-out-last
+    call-of-requires
+    add-next-answer
+    next-answer-requires
+    add-t20
+    returns
+    loop-less
+    loop-again
+    loop-less-2
+    loop-again-2
+    returns-2)

@@ -1,0 +1,173 @@
+-- `turn` meets its contract: a step forward, and back where nothing is left. Assumes nothing.
+use Prim.Native.Nat.{ℕ, _+_, _-_, _*_, _<_, _≤_}
+use native.Mathlib.Omega.{arith}
+use mathlib.Core.Path.{_≡_, ap, subst}
+use mathlib.Core.List.{List}
+use lib.ListN.{length}
+use borrow.Author.Needs.{needs}
+use Rattle.tabling.specs.Records.{Bodies}
+use Rattle.tabling.proofs.Growth.{Tables, HeldCall, Held}
+use Rattle.tabling.proofs.Evidence.{Among}
+use Rattle.tabling.proofs.Walking.{chosen-of}
+use Rattle.tabling.proofs.Measure.{left}
+use Rattle.tabling.proofs.Turn.{Turned, body-short}
+use Rattle.tabling.proofs.Going.{Going, going-fits, in-words, went-over, went-on}
+use Rattle.walk.specs.declared.Job.{Job}
+use Rattle.walk.specs.declared.Front.{Front}
+use Rattle.walk.specs.declared.Front.the-variants as front
+use Rattle.walk.specs.Outcome.{Stepped}
+use Rattle.walk.proofs.turn.Statement.{statement}
+use Rattle.walk.proofs.turn.Tie as tie
+
+-- the walk as it stands at entry
+going : (c : tie.Start) → Going (c .pre .1 .0) (Among (c .pre .1 .1)) (c .pre .1 .2) (c .args .job .known) (c .args .job .rule) (c .args .job .row) (c .args .job .walk) (c .args .body .now)
+    (in-words (c .args .calls .now) (c .args .n) (c .args .answers .now) (c .args .m)) (c .args .marks .now) (c .args .chosen .now) (c .args .rest .now) (c .args .state .0)
+going c = c .pre .1 .3
+
+fits : (c : tie.Start) → length (c .args .rest .now) ≤ length (c .args .body .now)
+fits c = going-fits _ _ _ _ _ _ _ _ (going c)
+
+short : (c : tie.Start) → length (c .args .body .now) ≤ 16
+short c = body-short _ _ _ _ _ _ (c .args .job .walk) _ (going c .turning .given)
+
+sub-at : tie.Need-sub-at
+sub-at c = omega (arith, fits (c .before .before .before .before .before))
+
+advance-requires : tie.Need-advance-requires
+advance-requires c κs =
+    let i = c .before .before .before .before .before .before .before .before .before in
+    let T = going i .turning in
+    (i .pre .0, T .stamped, omega (arith, fits i, short i), omega (arith, T .given .enough, T .grew .answers-more))
+
+enum-known-front : tie.Need-enum-known-front
+enum-known-front c = search needs
+
+enum-told : tie.Need-enum-told
+enum-told c = search needs
+
+enum-told-2 : tie.Need-enum-told-2
+enum-told-2 c = search needs
+
+-- where nothing is left from here on
+module _ (v : tie.After-advance) (e : v .advance .result .front ≡ front.Spent) (bodies : Bodies) (roots : List (ℕ × ℕ)) (b : Tables) where
+  abbrev i : tie.Start
+  i = v .before .before .before .before .before .before .before .before .before .before
+
+  abbrev j : Job
+  j = i .args .job
+
+  abbrev at : ℕ
+  at = length (i .args .body .now) - length (i .args .rest .now)
+
+  spent : Going bodies (Among roots) b (j .known) (j .rule) (j .row) (j .walk) (i .args .body .now) (in-words (i .args .calls .now) (i .args .n) (i .args .answers .now) (i .args .m)) (i .args .marks .now) (i .args .chosen .now) (i .args .rest .now) (i .args .state .0)
+      → Turned bodies (Among roots) b (j .known) (j .rule) (j .row) (j .walk) (i .args .body .now) (in-words (v .advance .last .1 .1 .1 .0) (v .advance .result .calls) (v .advance .last .1 .1 .1 .1 .1 .0) (v .advance .result .answers))
+          (v .advance .last .1 .1 .1 .1 .1 .1 .1 .0) (v .advance .last .1 .1 .1 .1 .1 .1 .1 .1 .0) at (i .args .state .0)
+        × (v .advance .last .1 .1 .1 .1 .1 .1 .1 .1 .0 ≡ i .args .chosen .now)
+  spent G = subst
+    (λ (f : Front). Stepped f bodies (Among roots) b j (i .args .body .now) (length (i .args .calls .now)) (length (i .args .answers .now)) (i .args .chosen .now) at (i .args .state .0)
+      (in-words (v .advance .last .1 .1 .1 .0) (v .advance .result .calls) (v .advance .last .1 .1 .1 .1 .1 .0) (v .advance .result .answers)) (v .advance .last .1 .1 .1 .1 .1 .1 .1 .0) (v .advance .last .1 .1 .1 .1 .1 .1 .1 .1 .0))
+    e (v .advance .ensures .1 bodies roots b (i .args .body .now) (G .tail) (G .turning))
+
+go-back-requires : tie.Need-go-back-requires
+go-back-requires c κs =
+    let v = c .before .before .before .before .before .before .before .before .before .before in
+    let i = v .before .before .before .before .before .before .before .before .before .before in
+    let T = spent v (c .before .before .enum-told2 .given .1) (i .pre .1 .0) (i .pre .1 .1) (i .pre .1 .2) (going i) .0 .turning in
+    let k = v .advance .ensures .0 .kept .answers-stored in
+    (omega (arith, k .fits, T .given .enough, T .grew .answers-more), omega (arith, k .most, T .given .enough, T .grew .answers-more), T .walking .inside, omega (arith, T .walking .inside, short i), chosen-of _ _ _ _ _ _ _ (T .walking))
+
+same-length : tie.Need-same-length
+same-length c = search needs
+
+same-length-2 : tie.Need-same-length-2
+same-length-2 c = search needs
+
+same-length-3 : tie.Need-same-length-3
+same-length-3 c = search needs
+
+returns : tie.Need-returns
+returns c =
+    let g = c .before .before in
+    let v = g .before .before .before .before .before .before .before .before .before .before .before in
+    let j = v .before .before .before .before .before .before .before .before .before .before .args .job in
+    (v .advance .ensures .0, λ bodies roots b G.
+      went-over bodies (Among roots) b (j .known) (j .rule) (j .row) (j .walk) _ (v .advance .last .1 .1 .1 .0) (v .advance .result .calls) (v .advance .last .1 .1 .1 .1 .1 .0) (v .advance .result .answers)
+      (spent v (g .before .before .before .enum-told2 .given .1) bodies roots b G .0) (g .go-back .ensures) (c .if1 .taken))
+
+same-length-4 : tie.Need-same-length-4
+same-length-4 c = search needs
+
+same-length-5 : tie.Need-same-length-5
+same-length-5 c = search needs
+
+same-length-6 : tie.Need-same-length-6
+same-length-6 c = search needs
+
+returns-2 : tie.Need-returns-2
+returns-2 c =
+    let m = c .before .before .before in
+    let v = m .before .before .before .before .before .before in
+    (v .advance .ensures .0, λ bodies roots b G. rw (c .before .front .given .1) at (v .advance .ensures .1 bodies roots b _ (G .tail) (G .turning)))
+
+same-length-7 : tie.Need-same-length-7
+same-length-7 c = search needs
+
+same-length-8 : tie.Need-same-length-8
+same-length-8 c = search needs
+
+same-length-9 : tie.Need-same-length-9
+same-length-9 c = search needs
+
+returns-3 : tie.Need-returns-3
+returns-3 c =
+    let v = c .before .before .before .before .before .before .before .before in
+    (v .advance .ensures .0, λ bodies roots b G. rw (c .enum-told .given .1) at (v .advance .ensures .1 bodies roots b _ (G .tail) (G .turning)))
+
+same-length-10 : tie.Need-same-length-10
+same-length-10 c = search needs
+
+same-length-11 : tie.Need-same-length-11
+same-length-11 c = search needs
+
+same-length-12 : tie.Need-same-length-12
+same-length-12 c = search needs
+
+returns-4 : tie.Need-returns-4
+returns-4 c =
+    let g = c .before .before in
+    let v = g .before .before .before .before .before .before .before .before .before .before .before in
+    let a = v .before .before .before .before .before .before .before .before .before .before .args in
+    let j = a .job in
+    let r = g .go-back .result .at in
+    let e : r ≡ (r - 1) + 1 = omega (arith, c .if1 .left) in
+    (v .advance .ensures .0, λ bodies roots b G.
+      (let S = spent v (g .before .before .before .enum-told2 .given .1) bodies roots b G in
+      let W = went-on bodies (Among roots) b (j .known) (j .rule) (j .row) (j .walk) _ (v .advance .last .1 .1 .1 .0) (v .advance .result .calls) (v .advance .last .1 .1 .1 .1 .1 .0) (v .advance .result .answers) (S .0) (g .go-back .ensures) (r - 1) e in
+      (W .0, omega (arith, W .1, ap (λ (l : List ℕ). left (j .known) l (length (a .body .now) - length (a .rest .now))) (S .1)))))
+
+pub turn-spec : {M : Type 1} → statement M
+turn-spec =
+    tie.close
+    (tie.spec
+    sub-at
+    advance-requires
+    enum-known-front
+    enum-told
+    enum-told-2
+    go-back-requires
+    same-length
+    same-length-2
+    same-length-3
+    returns
+    same-length-4
+    same-length-5
+    same-length-6
+    returns-2
+    same-length-7
+    same-length-8
+    same-length-9
+    returns-3
+    same-length-10
+    same-length-11
+    same-length-12
+    returns-4)

@@ -1,0 +1,241 @@
+// One walk of a body: a depth-first search over the answers of its calls, in rising order.
+//
+// A step that goes on is passed, a step that does not sends the walk back to the latest call step with an answer left. The call in front is
+// found or added, and its answers are taken in turn; a call step that the walk comes to again in the same state has been searched already,
+// so it is marked and never entered twice. At the body's end the state is added as an answer, with the answers on the way as its evidence.
+pub mod marks;
+pub mod tables;
+
+use steps::state::Call;
+use steps::state::State;
+use steps::word;
+ghost use mathlib.Core.Path.{_≡_};
+ghost use mathlib.Core.List.{List};
+ghost use Prim.Native.Nat.{ℕ, _+_, _-_, _*_, _/_, _<_, _≤_};
+ghost use lib.ListN.{length, getD, drop};
+ghost use Rattle.tabling.specs.Records.{Bodies, answers-in};
+ghost use Rattle.tabling.proofs.Storage.{Stored};
+ghost use Rattle.tabling.proofs.Growth.{Tables};
+ghost use Rattle.tabling.proofs.Marks.{Stamped};
+ghost use Rattle.tabling.proofs.Walking.{Chosen};
+ghost use Rattle.tabling.proofs.Evidence.{Among};
+ghost use Rattle.tabling.proofs.Turn.{RetreatRow, Turning};
+ghost use Rattle.tabling.proofs.Going.{Kept, WentBack, Going, in-words};
+ghost use Rattle.walk.specs.Outcome.{Stepped, Outcome, Stays};
+
+// What does not change while a body is walked: its rule's number, the call record that it is of, how many answers may serve, and the
+// walk's own number.
+pub struct Job {
+    pub rule: u64,
+    pub row: usize,
+    pub known: usize,
+    pub walk: u64,
+}
+
+// How the step in front comes out: the walk goes on in a state, has nothing left from here on, or a table is full.
+pub enum Front {
+    On(State),
+    Spent,
+    Full,
+}
+
+// With how many records there are then.
+pub struct Advanced {
+    pub calls: usize,
+    pub answers: usize,
+    pub front: Front,
+}
+
+// The body's end: the state is an answer.
+fn finish(job: Job, n: usize, answers: &mut [u64], m: usize, chosen: &[u64; 16], state: State) -> Advanced
+    requires { ⌜ Stored 19 (now answers) m ⌝ }
+    ensures { λ r. ⌜ (length (now (answers .exit)) ≡ length (now (answers .entry))) × Stored 19 (now (answers .exit)) (r .answers) × (r .calls ≡ n) ⌝ }
+    ensures { λ r. ⌜ ((bodies : Bodies) (roots : List (ℕ × ℕ)) (b : Tables) (body calls marks : List ℕ) (at : ℕ) → length body ≤ at
+        → Turning bodies (Among roots) b (job .known) (job .rule) (job .row) (job .walk) body (in-words calls n (now (answers .entry)) m) marks (now (chosen .entry)) at (state .0)
+        → Stepped (r .front) bodies (Among roots) b job body (length calls) (length (now (answers .entry))) (now (chosen .entry)) at (state .0)
+            (in-words calls n (now (answers .exit)) (r .answers)) marks (now (chosen .entry))) ⌝ }
+{
+    let put = tables::add_answer(answers, m, job.row, state, job.rule, chosen);
+    if put.full {
+        return Advanced { calls: n, answers: put.count, front: Front::Full };
+    }
+    Advanced { calls: n, answers: put.count, front: Front::Spent }
+}
+
+// A call in front: it is found or added, and its first answer is taken.
+fn enter(
+    step: u16,
+    at: usize,
+    job: Job,
+    calls: &mut [u64],
+    n: usize,
+    answers: &[u64],
+    m: usize,
+    marks: &mut [u64],
+    chosen: &mut [u64; 16],
+    state: State,
+) -> Advanced
+    requires { ⌜ Kept (now calls) n (now answers) m × Stamped (now marks) (job .walk) × (at < 16) × (job .known ≤ m) ⌝ }
+    ensures { λ r. ⌜ (length (now (calls .exit)) ≡ length (now (calls .entry))) × Stored 2 (now (calls .exit)) (r .calls) × (r .answers ≡ m) ⌝ }
+    ensures { λ r. ⌜ ((bodies : Bodies) (roots : List (ℕ × ℕ)) (b : Tables) (body : List ℕ) → at < length body → 2 < getD body at 0 / 256 → getD body at 0 ≡ step
+        → Turning bodies (Among roots) b (job .known) (job .rule) (job .row) (job .walk) body (in-words (now (calls .entry)) n (now (answers .entry)) m) (now (marks .entry)) (now (chosen .entry)) at (state .0)
+        → Stepped (r .front) bodies (Among roots) b job body (length (now (calls .entry))) (length (now (answers .entry))) (now (chosen .entry)) at (state .0)
+            (in-words (now (calls .exit)) (r .calls) (now (answers .entry)) m) (now (marks .exit)) (now (chosen .exit))) ⌝ }
+{
+    let call = Call { action: word::index(step), state: state };
+    let put = tables::add_call(calls, n, call);
+    let row = put.row;
+    let count = put.count;
+    if put.full {
+        return Advanced { calls: count, answers: m, front: Front::Full };
+    }
+    if marks::is_marked(marks, job.walk, at, row) {
+        return Advanced { calls: count, answers: m, front: Front::Spent };
+    }
+    let first = tables::next_answer(answers, job.known, row as u64, 0);
+    if first == job.known {
+        return Advanced { calls: count, answers: m, front: Front::Spent };
+    }
+    marks::mark(marks, job.walk, at, row);
+    chosen[at] = first as u64;
+    Advanced { calls: count, answers: m, front: Front::On(tables::final_of(answers, first)) }
+}
+
+// The step in front, or the body's end, with the record that it adds.
+fn advance(
+    rest: &[u16],
+    at: usize,
+    job: Job,
+    calls: &mut [u64],
+    n: usize,
+    answers: &mut [u64],
+    m: usize,
+    marks: &mut [u64],
+    chosen: &mut [u64; 16],
+    state: State,
+) -> Advanced
+    requires { ⌜ Kept (now calls) n (now answers) m × Stamped (now marks) (job .walk) × (at + length (now rest) ≤ 16) × (job .known ≤ m) ⌝ }
+    ensures { λ r. ⌜ Stays (now (calls .entry)) (now (answers .entry)) (now (calls .exit)) (r .calls) (now (answers .exit)) (r .answers) ⌝ }
+    ensures { λ r. ⌜ ((bodies : Bodies) (roots : List (ℕ × ℕ)) (b : Tables) (body : List ℕ) → now (rest .entry) ≡ drop at body
+        → Turning bodies (Among roots) b (job .known) (job .rule) (job .row) (job .walk) body (in-words (now (calls .entry)) n (now (answers .entry)) m) (now (marks .entry)) (now (chosen .entry)) at (state .0)
+        → Stepped (r .front) bodies (Among roots) b job body (length (now (calls .entry))) (length (now (answers .entry))) (now (chosen .entry)) at (state .0)
+            (in-words (now (calls .exit)) (r .calls) (now (answers .exit)) (r .answers)) (now (marks .exit)) (now (chosen .exit))) ⌝ }
+{
+    if rest.len() == 0 {
+        return finish(job, n, answers, m, chosen, state);
+    }
+    let step = rest[0];
+    if word::is_call(step) {
+        return enter(step, at, job, calls, n, answers, m, marks, chosen, state);
+    }
+    let next = word::elementary(step, state);
+    match next {
+        word::Next::On(after) => {
+            chosen[at] = 0;
+            Advanced { calls: n, answers: m, front: Front::On(after) }
+        }
+        word::Next::Stuck => Advanced { calls: n, answers: m, front: Front::Spent },
+    }
+}
+
+// A place, and an answer to take before it.
+pub struct Later {
+    pub at: usize,
+    pub answer: usize,
+}
+
+// The place after the latest call step with an answer left, and that answer; place 0 where there is none.
+fn retreat(body: &[u16], answers: &[u64], known: usize, chosen: &[u64; 16], at: usize) -> Later
+    requires { ⌜ (19 * known ≤ length (now answers)) × (known ≤ 65536) × (at ≤ length (now body)) × (at ≤ 16) × Chosen (now body) known (now chosen) at ⌝ }
+    ensures { λ r. ⌜ RetreatRow (now (body .entry)) (answers-in 19 (now (answers .entry)) known) known (now (chosen .entry)) at (r .at) (r .answer) ⌝ }
+{
+    let mut place = at;
+    while 0 < place {
+        place -= 1;
+        if word::is_call(body[place]) {
+            let last = chosen[place] as usize;
+            let row = tables::call_of(answers, last);
+            let later = tables::next_answer(answers, known, row, last + 1);
+            if later < known {
+                return Later { at: place + 1, answer: later };
+            }
+        }
+    }
+    Later { at: 0, answer: 0 }
+}
+
+// A place and the state there.
+pub struct Went {
+    pub at: usize,
+    pub state: State,
+}
+
+// Takes the next answer of the latest call step that has one left: the place after it and its final state; place 0 where there is none.
+fn go_back(body: &[u16], answers: &[u64], known: usize, chosen: &mut [u64; 16], at: usize) -> Went
+    requires { ⌜ (19 * known ≤ length (now answers)) × (known ≤ 65536) × (at ≤ length (now body)) × (at ≤ 16) × Chosen (now body) known (now chosen) at ⌝ }
+    ensures { λ r. ⌜ WentBack (now (body .entry)) (now (answers .entry)) known (now (chosen .entry)) at (now (chosen .exit)) (r .at) (r .state .0) ⌝ }
+{
+    let back = retreat(body, answers, known, chosen, at);
+    let after = back.at;
+    let answer = back.answer;
+    if after == 0 {
+        return Went { at: 0, state: State::NOTHING };
+    }
+    chosen[after - 1] = answer as u64;
+    Went { at: after, state: tables::final_of(answers, answer) }
+}
+
+// How a turn comes out: on after the step in front, back at a place of the body, done, or a table is full.
+pub enum Next {
+    On(State),
+    Back(usize, State),
+    Done,
+    Full,
+}
+
+// With how many records there are then.
+pub struct Moved {
+    pub calls: usize,
+    pub answers: usize,
+    pub next: Next,
+}
+
+// One turn of the walk whose steps still to do are `rest`, the tail of the body, with the record that it adds.
+pub fn turn(
+    body: &[u16],
+    rest: &[u16],
+    job: Job,
+    calls: &mut [u64],
+    n: usize,
+    answers: &mut [u64],
+    m: usize,
+    marks: &mut [u64],
+    chosen: &mut [u64; 16],
+    state: State,
+) -> Moved
+    requires { ⌜ Kept (now calls) n (now answers) m ⌝ }
+    requires { ⌜ ((bodies : Bodies) × (roots : List (ℕ × ℕ)) × (b : Tables)
+        × Going bodies (Among roots) b (job .known) (job .rule) (job .row) (job .walk) (now body) (in-words (now calls) n (now answers) m) (now marks) (now chosen) (now rest) (state .0)) ⌝ }
+    ensures { λ r. ⌜ Stays (now (calls .entry)) (now (answers .entry)) (now (calls .exit)) (r .calls) (now (answers .exit)) (r .answers) ⌝ }
+    ensures { λ r. ⌜ ((bodies : Bodies) (roots : List (ℕ × ℕ)) (b : Tables)
+        → Going bodies (Among roots) b (job .known) (job .rule) (job .row) (job .walk) (now (body .entry)) (in-words (now (calls .entry)) n (now (answers .entry)) m) (now (marks .entry)) (now (chosen .entry)) (now (rest .entry)) (state .0)
+        → Outcome (r .next) bodies (Among roots) b job (now (body .entry)) (length (now (calls .entry))) (length (now (answers .entry))) (now (chosen .entry)) (length (now (body .entry)) - length (now (rest .entry)))
+            (in-words (now (calls .exit)) (r .calls) (now (answers .exit)) (r .answers)) (now (marks .exit)) (now (chosen .exit))) ⌝ }
+{
+    let at = body.len() - rest.len();
+    let a = advance(rest, at, job, calls, n, answers, m, marks, chosen, state);
+    let front = a.front;
+    match front {
+        Front::On(after) => Moved { calls: a.calls, answers: a.answers, next: Next::On(after) },
+        Front::Full => Moved { calls: a.calls, answers: a.answers, next: Next::Full },
+        Front::Spent => {
+            let back = go_back(body, answers, job.known, chosen, at);
+            let place = back.at;
+            let there = back.state;
+            if place == 0 {
+                return Moved { calls: a.calls, answers: a.answers, next: Next::Done };
+            }
+            Moved { calls: a.calls, answers: a.answers, next: Next::Back(place, there) }
+        }
+    }
+}
