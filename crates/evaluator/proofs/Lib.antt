@@ -1,2 +1,4 @@
 -- Laws for this crate's proofs.
 pub mod Listing
+pub mod Finishing
+pub mod Outcomes

@@ -142,10 +142,13 @@ module _ {fluents actions : ℕ} {rules goal : List ℕ} (acc : Accepted fluents
   pub goal-indexed : IndexedBody fluents actions (body-of goal)
   goal-indexed = words-indexed fluents actions goal (acc .goal-steps)
 
+  pub words-indexed-of : (i : ℕ) → i < length rules / 18 → IndexedBody fluents actions (body-of (words-of rules i))
+  words-indexed-of i l = words-indexed fluents actions (words-of rules i) (λ k j. rule-step i k l j)
+
   pub rule-indexed : (r : Rule) → List·Memᴰ r (book-of rules) → (r .head < actions) × IndexedBody fluents actions (r .body)
   rule-indexed r m =
       let (i, l, e) = book-member rules 0 (length rules / 18) r m in
-      rw e (acc .heads i (omega arith), words-indexed fluents actions (words-of rules i) (λ k j. rule-step i k (omega arith) j))
+      rw e (acc .heads i (omega arith), words-indexed-of i (omega arith))
 
   apart : {body : Body} → IndexedBody fluents actions body → (b : ℕ) → List·Memᴰ (call b) body → b ≢ Goal
   apart indexed b m = λ g. omega (arith, indexed (call b) m, acc .few-actions)

@@ -50,6 +50,12 @@ module _ {A : Type 0} where
     λ l. (take (k + 1) xs, take-distinct (k + 1) d, (λ x m. e x .0 (take-member (k + 1) xs m)), omega (arith, len, length-take (k + 1) xs)),
   )
 
+  pub counts-map : {P Q : A → Type 0} (n : ℕ) → ((x : A) → P x ↔ Q x) → Counts P n → Counts Q n
+  counts-map n f (xs, d, e, len) = (xs, d, (λ x. (λ m. f x .0 (e x .0 m), λ q. e x .1 (f x .1 q))), len)
+
+  pub outnumbers-map : {P Q : A → Type 0} (n : ℕ) → ((x : A) → P x → Q x) → Outnumbers P n → Outnumbers Q n
+  outnumbers-map n f (xs, d, all, len) = (xs, d, (λ x m. f x (all x m)), len)
+
   -- Nothing has two counts.
   pub counts-unique : (P : A → Type 0) (m n : ℕ) → Counts P m → Counts P n → m ≡ n
   counts-unique P m n (xs, dx, ex, lx) (ys, dy, ey, ly) =

@@ -6,7 +6,7 @@ use mathlib.Core.Path.{_≡_, refl}
 use mathlib.Core.List.{[], _∷_}
 use mathlib.Core.Logic.{_⊎_, inl, inr, _↔_}
 use Rattle.steps.specs.Step.{Step, call, Body}
-use Rattle.steps.proofs.Execution.{Runs, ended, does, uses, Comes, here, past, inside, after, Ends, comes-through}
+use Rattle.steps.proofs.Execution.{Runs, ended, does, uses, Comes, here, past, inside, after, Ends, comes-through, runs-map, comes-map}
 
 -- Walking a body: elementary steps are done, and a call takes an answer of the table A. What is left may be anything.
 pub data Walk {X : Type 0} (Does : Step → X → X → Type 0) (A : ℕ → X → X → Type 0) : X → Body → X → Body → Type 0 where
@@ -104,3 +104,12 @@ module _ {X : Type 0} (Does : Step → X → X → Type 0) (Has : ℕ → Body �
 
     pub justified-ends : (n a : ℕ) (D D′ : X) → R n a D D′ → Ends Does Has a D D′
     justified-ends n a D D′ h = below (suc n) n a D D′ (omega arith) h
+
+-- the same where actions have these bodies and more, from these roots and more
+module _ {X : Type 0} {Does : Step → X → X → Type 0} {Has Has′ : ℕ → Body → Type 0} (also : (a : ℕ) (body : Body) → Has a body → Has′ a body) where
+  pub ends-map : {a : ℕ} {D D′ : X} → Ends Does Has a D D′ → Ends Does Has′ a D D′
+  ends-map {a} (body, h, p) = (body, also a body h, runs-map also p)
+
+  pub reached-map : {Root Root′ : ℕ → X → Type 0} → ((a : ℕ) (D : X) → Root a D → Root′ a D) → {b : ℕ} {E : X} → Reached Does Has Root b E → Reached Does Has′ Root′ b E
+  reached-map up {b} {E} (inl r) = inl (up b E r)
+  reached-map up (inr (a, D, body, r, h, p)) = inr (a, D, body, up a D r, also a body h, comes-map also p)

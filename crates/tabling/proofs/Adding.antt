@@ -37,10 +37,10 @@ module _ {bodies : Bodies} {Root : ℕ → State → Type 0} {t : Tables} (v : V
         record {
           roots = λ b E h. held-call-up g (b, E) (v .roots b E h);
           calls-once = λ i j b E l h x y. ⊎-elim
-            (λ (k : j < t .calls .count). v .calls-once i j b E l k (call-down g (omega arith) x) (call-down g k y))
-            (λ (z : j ≡ t .calls .count). let y′ : CallAt calls′ (t .calls .count) b E = rw z at y in
+              (λ (k : j < t .calls .count). v .calls-once i j b E l k (call-down g (omega arith) x) (call-down g k y))
+              (λ (z : j ≡ t .calls .count). let y′ : CallAt calls′ (t .calls .count) b E = rw z at y in
               none i (omega arith) (call-down g (omega arith) (record { has-action = x .has-action ∙ sym (y′ .has-action) ∙ new .has-action; has-state = x .has-state ∙ sym (y′ .has-state) ∙ new .has-state })))
-            (last-one (rw (p .count) at h));
+              (last-one (rw (p .count) at h));
           answers-once = v .answers-once;
           reached = λ i h. ⊎-elim (λ (k : i < t .calls .count). rw (g .action-same k, g .state-same k) (v .reached i k)) (λ (z : i ≡ t .calls .count). rw (z, new .has-action, new .has-state) r) (last-one (rw (p .count) at h));
           justified = λ x h. justified-up g (inside-of v) h proper (v .justified x h);
@@ -55,10 +55,10 @@ module _ {bodies : Bodies} {Root : ℕ → State → Type 0} {t : Tables} (v : V
           roots = v .roots;
           calls-once = v .calls-once;
           answers-once = λ x y row′ f′ l h c d. ⊎-elim
-            (λ (k : y < t .answers .count). v .answers-once x y row′ f′ l k (answer-down g (omega arith) c) (answer-down g k d))
-            (λ (z : y ≡ t .answers .count). let d′ : AnswerAt answers′ (t .answers .count) row′ f′ = rw z at d in
+              (λ (k : y < t .answers .count). v .answers-once x y row′ f′ l k (answer-down g (omega arith) c) (answer-down g k d))
+              (λ (z : y ≡ t .answers .count). let d′ : AnswerAt answers′ (t .answers .count) row′ f′ = rw z at d in
               none x (omega arith) (answer-down g (omega arith) (record { has-call = c .has-call ∙ sym (d′ .has-call) ∙ new .has-call; has-final = c .has-final ∙ sym (d′ .has-final) ∙ new .has-final })))
-            (last-one (rw (p .count) at h));
+              (last-one (rw (p .count) at h));
           reached = v .reached;
           justified = λ x h. ⊎-elim (λ (k : x < t .answers .count). justified-up g (inside-of v) k proper (v .justified x k)) (λ (z : x ≡ t .answers .count). rw z j) (last-one (rw (p .count) at h));
         }

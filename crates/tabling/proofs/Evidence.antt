@@ -99,7 +99,7 @@ module _ (b : Tables) (known : ℕ) where
         let i : e < b .answers .count = omega (arith, o .below) in
         let j : b .answers .call e < b .calls .count = inside e i in
         let w : Follow u n (call a) s e t = subst (Follow u n (call a) s e) (g .final-same i ∙ f)
-          (names (omega (arith, o .below)) (ap (u .calls .action) (g .call-same i) ∙ g .action-same j ∙ o .action) (ap (u .calls .state) (g .call-same i) ∙ g .state-same j ∙ o .state)) in
+        (names (omega (arith, o .below)) (ap (u .calls .action) (g .call-same i) ∙ g .action-same j ∙ o .action) (ap (u .calls .state) (g .call-same i) ∙ g .state-same j ∙ o .state)) in
         rw z w
     took-follow (inr (z, d)) = rw z (steps d)
 
@@ -115,5 +115,5 @@ module _ (b : Tables) (known : ℕ) where
         go (suc k) q e =
             let l : q < length body = omega arith in
             let x : Follow u n (step-of (getD body q 0)) (W .st q) (u .answers .evidence n q) (W .st (suc q)) =
-              rw (same q (omega arith)) (took-follow (took (step-of (getD body q 0)) (W .st q) (ev q) (W .st (suc q)) (W .edges q l .1))) in
+            rw (same q (omega arith)) (took-follow (took (step-of (getD body q 0)) (W .st q) (ev q) (W .st (suc q)) (W .edges q l .1))) in
             rw (drop-cons body q 0 l) (goes x (go k (suc q) (omega arith)))

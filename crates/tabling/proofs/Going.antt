@@ -101,10 +101,11 @@ module _ (bodies : Bodies) (Root : ℕ → State → Type 0) (b : Tables) (known
         let inside : at ≤ length body = T .turning .walking .inside in
         let (call, i, nx) = R .found p e in
         let low : p < 16 = omega (arith, R .low, T .turning .chosen-long, T .turning .walking .inside, short) in
-        let len : p < length chosen = omega (arith, T .turning .chosen-long) in
-        (rw (e, c, f) (turned-take bodies Root b known rule row walk body T p R′),
-        rw (e, c) (left-back known chosen (set chosen p (w .j)) at p (λ q l. getD-set-other chosen p q (w .j) 0 (omega arith)) low (omega (arith, R .low))
-          (rw (getD-set-same chosen p (w .j) 0 len) (omega (arith, nx .low))) (rw (getD-set-same chosen p (w .j) 0 len) i)))
+        let len : p < length chosen = omega (arith, T .turning .chosen-long) in (
+          rw (e, c, f) (turned-take bodies Root b known rule row walk body T p R′),
+          rw (e, c) (left-back known chosen (set chosen p (w .j)) at p (λ q l. getD-set-other chosen p q (w .j) 0 (omega arith)) low (omega (arith, R .low))
+              (rw (getD-set-same chosen p (w .j) 0 len) (omega (arith, nx .low))) (rw (getD-set-same chosen p (w .j) 0 len) i)),
+        )
       where
         short : length body ≤ 16
         short = rw (T .turning .given .words) (T .turning .given .proper .short rule _ (T .turning .given .fits))

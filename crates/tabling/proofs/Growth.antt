@@ -35,8 +35,14 @@ pub record Grew (t u : Tables) : Type 0 where
 
 pub grew-refl : (t : Tables) → Grew t t
 grew-refl t = record {
-  calls-more = omega arith; answers-more = omega arith;
-  action-same = λ l. refl; state-same = λ l. refl; call-same = λ l. refl; final-same = λ l. refl; rule-same = λ l. refl; evidence-same = λ q l h. refl;
+  calls-more = omega arith;
+  answers-more = omega arith;
+  action-same = λ l. refl;
+  state-same = λ l. refl;
+  call-same = λ l. refl;
+  final-same = λ l. refl;
+  rule-same = λ l. refl;
+  evidence-same = λ q l h. refl;
 }
 
 pub grew-trans : {t u v : Tables} → Grew t u → Grew u v → Grew t v
@@ -53,16 +59,26 @@ grew-trans g h = record {
 
 pub grew-call : (t : Tables) {a : ℕ} {D : State} {calls′ : Calls} → CallAdded (t .calls) a D calls′ → Grew t (tables calls′ (t .answers))
 grew-call t p = record {
-  calls-more = omega (arith, p .count); answers-more = omega arith;
-  action-same = λ {i} l. p .action-kept i l; state-same = λ {i} l. p .state-kept i l;
-  call-same = λ l. refl; final-same = λ l. refl; rule-same = λ l. refl; evidence-same = λ q l h. refl;
+  calls-more = omega (arith, p .count);
+  answers-more = omega arith;
+  action-same = λ {i} l. p .action-kept i l;
+  state-same = λ {i} l. p .state-kept i l;
+  call-same = λ l. refl;
+  final-same = λ l. refl;
+  rule-same = λ l. refl;
+  evidence-same = λ q l h. refl;
 }
 
 pub grew-answer : (t : Tables) {row f rule : ℕ} {evidence : _} {answers′ : Answers} → AnswerAdded (t .answers) row f rule evidence answers′ → Grew t (tables (t .calls) answers′)
 grew-answer t p = record {
-  calls-more = omega arith; answers-more = omega (arith, p .count);
-  action-same = λ l. refl; state-same = λ l. refl;
-  call-same = λ {x} l. p .call-kept x l; final-same = λ {x} l. p .final-kept x l; rule-same = λ {x} l. p .rule-kept x l; evidence-same = λ {x} q l h. p .evidence-kept x q l h;
+  calls-more = omega arith;
+  answers-more = omega (arith, p .count);
+  action-same = λ l. refl;
+  state-same = λ l. refl;
+  call-same = λ {x} l. p .call-kept x l;
+  final-same = λ {x} l. p .final-kept x l;
+  rule-same = λ {x} l. p .rule-kept x l;
+  evidence-same = λ {x} q l h. p .evidence-kept x q l h;
 }
 
 module _ {t u : Tables} (g : Grew t u) where

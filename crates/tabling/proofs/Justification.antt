@@ -70,8 +70,8 @@ module _ (t : Tables) (n : ℕ) where
   follows-out [] q s h =
       let (e, z) = both (eqb s (t .answers .final n)) _ h in
       let unused : (i : ℕ) → q ≤ i → i < 16 → t .answers .evidence n i ≡ 0 =
-        λ i l k. (let at : q + (i - q) ≡ i = omega arith in
-          subst (λ (j : ℕ). t .answers .evidence n j ≡ 0) at (eqb-true (t .answers .evidence n (q + (i - q))) 0 (each-at (λ i. eqb (t .answers .evidence n (q + i)) 0) (16 - q) z (i - q) (omega arith)))) in
+      λ i l k. (let at : q + (i - q) ≡ i = omega arith in
+      subst (λ (j : ℕ). t .answers .evidence n j ≡ 0) at (eqb-true (t .answers .evidence n (q + (i - q))) 0 (each-at (λ i. eqb (t .answers .evidence n (q + i)) 0) (16 - q) z (i - q) (omega arith)))) in
       ends (eqb-true s _ e) unused
   follows-out (x ∷ rest) q s h = by (follow (t .calls) (t .answers) n x s (t .answers .evidence n q)) refl h (follows-out rest (suc q))
     where

@@ -15,3 +15,6 @@ pub mod Rounds
 pub mod Going
 pub mod StorageLaws
 pub mod FinalsLaws
+pub mod Numbers
+pub mod RunTables
+pub mod Filling

@@ -2,12 +2,12 @@
 -- a word of an earlier walk holds no mark, so nothing is ever cleared. Assumes nothing.
 use Prim.Native.Nat.{ℕ, _+_, _*_, _/_, _%_, _^_, _<_, _≤_}
 use native.Mathlib.Omega.{arith}
-use native.Mathlib.Decide.{ℕ-discrete}
+use native.Mathlib.Decide.{ℕ-discrete, decLt}
 use mathlib.Core.Path.{_≡_, refl, sym, ap, _∙_}
 use mathlib.Core.Bool.{Bool, true, false, cond}
 use mathlib.Core.List.{List}
 use mathlib.Core.Logic.{_⊎_, inl, inr}
-use lib.ListN.{length, getD, set, length-set}
+use lib.ListN.{length, getD, set, length-set, replicate, getD-replicate, length-replicate, List·getD-eq-default}
 use lib.Seq.{getD-set-same, getD-set-other}
 use lib.Dec.{eqb}
 use borrow.Author.Tests.{eqb-true, eq-eqb}
@@ -39,12 +39,21 @@ abbrev pub Marked : List ℕ → ℕ → ℕ → ℕ → Bool → Type 0
 Marked marks walk q r true = Mark marks walk q r
 Marked marks walk q r false = ¬ Mark marks walk q r
 
--- no mark stands under the number of a later walk
-pub no-mark : {marks : List ℕ} {walk q r : ℕ} → Stamped marks walk → ¬ Mark marks (walk + 1) q r
-no-mark {r = r} s m = omega (arith, s .early r, m .stamp)
+-- Stamped words among which the walk has no mark.
+pub record Fresh (marks : List ℕ) (walk : ℕ) : Type 0 where
+  pub stamped : Stamped marks walk
+  pub unmarked : (q r : ℕ) → ¬ Mark marks walk q r
 
-pub next-walk : {marks : List ℕ} {walk : ℕ} → Stamped marks walk → walk + 1 < 2 ^ 48 → Stamped marks (walk + 1)
-next-walk s l = record { long = s .long; early = λ r. omega (arith, s .early r); few = l }
+-- a later walk has none
+pub fresh-next : {marks : List ℕ} {walk : ℕ} → Stamped marks walk → walk + 1 < 2 ^ 48 → Fresh marks (walk + 1)
+fresh-next s l = record { stamped = record { long = s .long; early = λ r. omega (arith, s .early r); few = l }; unmarked = λ q r m. omega (arith, s .early r, m .stamp) }
+
+pub zeros-at : (n i : ℕ) → _≡_ {A = ℕ} (getD (replicate n 0) i 0) 0
+zeros-at n i = elim (decLt i n) [ yes l ↦ getD-replicate n i 0 0 l | no m ↦ List·getD-eq-default (replicate n 0) 0 (omega (arith, length-replicate {A = ℕ} n 0)) ]
+
+-- nor has a walk among words that are all 0
+pub zeros-stamped : (n walk : ℕ) → n ≡ 65536 → walk < 2 ^ 48 → Stamped (replicate n 0) walk
+zeros-stamped n walk e l = record { long = length-replicate {A = ℕ} n 0 ∙ e; early = λ r. rw (zeros-at n r) (omega arith); few = l }
 
 -- ---- the word that is written
 

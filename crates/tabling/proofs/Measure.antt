@@ -27,14 +27,14 @@ digits-less : (base : ℕ) (c c′ : ℕ → ℕ) (p n : ℕ) → p < n → ((q 
 unfolding digits
 digits-less base c c′ p zero h same less small = absurd (omega arith)
 digits-less base c c′ p (suc n) h same less small = ⊎-elim
-  (λ (l : p < n).
+    (λ (l : p < n).
     (let k : suc (digits base c′ n) * base ≤ digits base c n * base = mul-le-mul-right base (digits-less base c c′ p n l same less small) in
     omega (arith, add-mul (digits base c′ n) 1 base, small n)))
-  (λ (z : p ≡ n).
+    (λ (z : p ≡ n).
     (let e : digits base c′ n ≡ digits base c n = digits-same base c c′ n (λ q l. same q (omega arith)) in
     let k : c′ n < c n = rw z at less in
     omega (arith, ap (λ (d : ℕ). d * base) e)))
-  (last-or h)
+    (last-or h)
 
 -- what is left to try at a place: after the answer chosen there, or all where the search has not come to it
 unfoldable pub untried : ℕ → List ℕ → ℕ → ℕ → ℕ
@@ -58,14 +58,14 @@ module _ (known : ℕ) (chosen chosen′ : List ℕ) (at p : ℕ) (same : (q : �
   pub left-on : at ≡ p → left known chosen′ (p + 1) < left known chosen at
   unfolding left untried
   left-on e = digits-less (known + 2) (untried known chosen at) (untried known chosen′ (p + 1)) p 16 inside
-    (λ q l. rw (lt-ltb q (p + 1) (omega arith), lt-ltb q at (omega arith), same q l) refl)
-    (rw (lt-ltb p (p + 1) (omega arith), le-ltb p at (omega arith)) (omega arith))
-    (untried-small known chosen′ (p + 1))
+      (λ q l. rw (lt-ltb q (p + 1) (omega arith), lt-ltb q at (omega arith), same q l) refl)
+      (rw (lt-ltb p (p + 1) (omega arith), le-ltb p at (omega arith)) (omega arith))
+      (untried-small known chosen′ (p + 1))
 
   -- back to place p, with a later answer there
   pub left-back : p < at → getD chosen p 0 < getD chosen′ p 0 → getD chosen′ p 0 < known → left known chosen′ (p + 1) < left known chosen at
   unfolding left untried
   left-back h later below = digits-less (known + 2) (untried known chosen at) (untried known chosen′ (p + 1)) p 16 inside
-    (λ q l. rw (lt-ltb q (p + 1) (omega arith), lt-ltb q at (omega arith), same q l) refl)
-    (rw (lt-ltb p (p + 1) (omega arith), lt-ltb p at h) (omega arith))
-    (untried-small known chosen′ (p + 1))
+      (λ q l. rw (lt-ltb q (p + 1) (omega arith), lt-ltb q at (omega arith), same q l) refl)
+      (rw (lt-ltb p (p + 1) (omega arith), lt-ltb p at h) (omega arith))
+      (untried-small known chosen′ (p + 1))

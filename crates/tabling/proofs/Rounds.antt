@@ -22,7 +22,7 @@ use Rattle.tabling.proofs.Sweep.{Swept, swept-back}
 use Rattle.tabling.proofs.Graph.{Front, goes, calls, Leads, Known, closed-ends, closed-calls}
 use Rattle.tabling.proofs.Graph as graph
 use Rattle.tabling.proofs.Walking.{Of, final, move, move-call, move-on, EdgeT, GoodT}
-use Rattle.tabling.proofs.Turn.{Given, Over}
+use Rattle.tabling.proofs.Turn.{Over}
 
 -- ---- a call record and a rule that are closed: nothing more comes of them, with the answers below `known`
 
@@ -48,7 +48,7 @@ module _ {b u : Tables} (g : Grew b u) (known : ℕ) (enough : known ≤ b .answ
   sweep-up : {C C′ : ℕ × State → Type 0} {A A′ : State → Type 0} (D : State) → ((c : ℕ × State) → C c → C′ c) → ((s : State) → A s → A′ s)
       → Swept (EdgeT b known body) (GoodT b known body C A) 0 D → Swept (EdgeT u known body) (GoodT u known body C′ A′) 0 D
   sweep-up D upC upA k = swept-back (λ q s x t e. (e .0, leads-old (move (getD body q 0) s) x t (e .1)))
-    (λ q s w. record { ends = λ e. upA s (w .ends e); called = λ h. known-up upC (move (getD body q 0) s) (w .called h) }) k
+      (λ q s w. record { ends = λ e. upA s (w .ends e); called = λ h. known-up upC (move (getD body q 0) s) (w .called h) }) k
 
   closed-up : (row : ℕ) → row < b .calls .count → ClosedAt body b known row → ClosedAt body u known row
   closed-up row l k = rw (g .state-same l) (sweep-up (b .calls .state row) (held-call-up g) (held-up g row) k)
@@ -57,7 +57,7 @@ module _ {b u : Tables} (g : Grew b u) (known : ℕ) (enough : known ≤ b .answ
   closed-over {row = row} l o = rw (g .state-same l) (sweep-up (b .calls .state row) (λ c h. h) (λ s h. h) (o .swept))
 
 -- ---- the loops' invariants; the rules have the numbers `number 0`, `number 1`, .. below `total`
-module _ (bodies : Bodies) (Root : ℕ → State → Type 0) (proper : Proper bodies) (number : ℕ → ℕ) where
+module _ (bodies : Bodies) (Root : ℕ → State → Type 0) (number : ℕ → ℕ) where
   abbrev pub Closing : Tables → ℕ → ℕ → ℕ → Type 0
   Closing t known row i = bodies .fits i (t .calls .action row) ≡ true → ClosedAt (bodies .words i) t known row
 
@@ -78,7 +78,9 @@ module _ (bodies : Bodies) (Root : ℕ → State → Type 0) (proper : Proper bo
 
   rows-up : {first rows known row : ℕ} {b u : Tables} → Grew b u → Valid bodies Root u → row ≤ rows → Rows first rows known row b → Rows first rows known row u
   rows-up g v l R = record {
-    valid = v; rows-in = omega (arith, R .rows-in, g .calls-more); known-in = omega (arith, R .known-in, g .answers-more);
+    valid = v;
+    rows-in = omega (arith, R .rows-in, g .calls-more);
+    known-in = omega (arith, R .known-in, g .answers-more);
     closed = λ r f h i. closing-up g (R .known-in) (inside-of (R .valid)) r i (omega (arith, R .rows-in)) (R .closed r f h i);
   }
 
@@ -92,14 +94,10 @@ module _ (bodies : Bodies) (Root : ℕ → State → Type 0) (proper : Proper bo
   pub rules-skip : {first rows known row rule : ℕ} {t : Tables} → Rules first rows known row rule t → (bodies .fits (number rule) (t .calls .action row) ≡ true → ⊥) → Rules first rows known row (rule + 1) t
   rules-skip {row = row} {rule} {t} R n = record { rows-closed = R .rows-closed; rules-closed = λ k h. ⊎-elim (λ l. R .rules-closed k l) (λ (z : k ≡ rule). λ e. absurd (n (rw z at e))) (last-one h) }
 
-  pub given-of : {first rows known row rule : ℕ} {t : Tables} → Rules first rows known row rule t → row < rows → bodies .fits (number rule) (t .calls .action row) ≡ true
-      → Given bodies Root t known (number rule) row (bodies .words (number rule))
-  given-of R l e = record { proper = proper; valid = R .rows-closed .valid; enough = R .rows-closed .known-in; row-in = omega (arith, R .rows-closed .rows-in); fits = e; words = refl }
-
   -- a walk that is over
-  pub rules-next : {first rows known row rule walk : ℕ} {b u : Tables} {marks : List ℕ} → Rules first rows known row rule b → row < rows → Over bodies Root b known (number rule) row walk (bodies .words (number rule)) u marks
-      → Rules first rows known row (rule + 1) u
-  rules-next {known = known} {row} {rule} {b = b} {u} R l o =
+  pub rules-next : {first rows known row rule walk i : ℕ} {b u : Tables} {body marks : List ℕ} → Rules first rows known row rule b → row < rows → i ≡ number rule → body ≡ bodies .words i
+      → Over bodies Root b known i row walk body u marks → Rules first rows known row (rule + 1) u
+  rules-next {known = known} {row} {rule} {b = b} {u} {body} R l e w o =
       let S = R .rows-closed in
       let g = o .grew in
       let i = inside-of (S .valid) in
@@ -107,13 +105,15 @@ module _ (bodies : Bodies) (Root : ℕ → State → Type 0) (proper : Proper bo
       record {
         rows-closed = rows-up g (o .valid) (omega arith) S;
         rules-closed = λ k j. ⊎-elim (λ m. closing-up g (S .known-in) i row (number k) h (R .rules-closed k m))
-          (λ (z : k ≡ rule). λ e. rw z (closed-over g known (S .known-in) i (bodies .words (number rule)) h o)) (last-one j);
+            (λ (z : k ≡ rule). λ f. rw (z, ← e, ← w) (closed-over g known (S .known-in) i body h o)) (last-one j);
       }
 
   -- all rules have been walked
   pub rows-next : {first rows known row rule : ℕ} {t : Tables} → ((i a : ℕ) → bodies .fits i a ≡ true → (k : ℕ) × (k < rule) × (number k ≡ i)) → Rules first rows known row rule t → Rows first rows known (row + 1) t
   rows-next {known = known} {row} {rule} {t} all R = record {
-    valid = R .rows-closed .valid; rows-in = R .rows-closed .rows-in; known-in = R .rows-closed .known-in;
+    valid = R .rows-closed .valid;
+    rows-in = R .rows-closed .rows-in;
+    known-in = R .rows-closed .known-in;
     closed = λ r f l i. ⊎-elim (λ m. R .rows-closed .closed r f m i) (λ (z : r ≡ row). rw z (last i)) (last-one l);
   }
     where
@@ -186,16 +186,16 @@ module _ (t : Tables) (body : List ℕ) where
         (x, record { below = h; action = ap (t .calls .action) (an .has-call) ∙ c .has-action; state = ap (t .calls .state) (an .has-call) ∙ c .has-state }, an .has-final)
 
 module _ (bodies : Bodies) (Root : ℕ → State → Type 0) (proper : Proper bodies) (number : ℕ → ℕ) (t : Tables)
-    (R : Rows bodies Root proper number 0 (t .calls .count) (t .answers .count) (t .calls .count) t) where
+    (R : Rows bodies Root number 0 (t .calls .count) (t .answers .count) (t .calls .count) t) where
   closed-of : Closed Does (Has bodies) Root (C t) (A t)
   closed-of = record {
     roots = λ a D r. R .valid .roots a D r;
     reaches = λ a b D E body rest (row, l, c) (i, f, e) w.
-      (let (ls, q, v) = walk-words t (bodies .words i) (bodies .words i) body e (rw e (proper .low i a f)) w in
-      reach t (bodies .words i) c (R .closed row (omega arith) l i (rw (c .has-action) f)) ls q v);
+        (let (ls, q, v) = walk-words t (bodies .words i) (bodies .words i) body e (rw e (proper .low i a f)) w in
+        reach t (bodies .words i) c (R .closed row (omega arith) l i (rw (c .has-action) f)) ls q v);
     ends = λ a D D′ body (row, l, c) (i, f, e) w.
-      (let (ls, q, v) = walk-words t (bodies .words i) (bodies .words i) body e (rw e (proper .low i a f)) w in
-      end t (bodies .words i) c (R .closed row (omega arith) l i (rw (c .has-action) f)) ls q v);
+        (let (ls, q, v) = walk-words t (bodies .words i) (bodies .words i) body e (rw e (proper .low i a f)) w in
+        end t (bodies .words i) c (R .closed row (omega arith) l i (rw (c .has-action) f)) ls q v);
   }
 
   sound-of : Sound Does (Has bodies) Root (C t) (A t)

@@ -106,9 +106,9 @@ module _ {St : Type 0} (Edge : ℕ → St → ℕ → St → Type 0) where
             now = end;
             links = λ q h. ⊎-elim (λ (k : q < at). rw (old q (omega arith), same q k, old (suc q) k) (S .links q k)) (λ z. rw z last) (last-or h);
             marks = λ q u m. ⊎-elim
-              (λ m. ⊎-elim (λ (k, e). inl (omega arith, old q (omega arith) ∙ e)) inr (S .marks q u m))
-              (λ (z, e). inl (omega arith, ap st′ z ∙ old at (omega arith) ∙ S .now ∙ sym e))
-              (new q u m);
+                (λ m. ⊎-elim (λ (k, e). inl (omega arith, old q (omega arith) ∙ e)) inr (S .marks q u m))
+                (λ (z, e). inl (omega arith, ap st′ z ∙ old at (omega arith) ∙ S .now ∙ sym e))
+                (new q u m);
           }
 
       -- a marked node that the search comes to is swept
@@ -123,8 +123,13 @@ module _ {St : Type 0} (Edge : ℕ → St → ℕ → St → Type 0) where
 
       -- the node that the search came back to is swept too
       pub close : {mark : ℕ → St → Type 0} {ev : ℕ → ℕ} {at : ℕ} {s : St} → Search D mark ev (suc at) at s → Swept at s → Search D mark ev at at s
-      close {at = at} {s} S k = record { st = S .st; from = S .from; now = S .now; links = S .links;
-        marks = λ q u m. ⊎-elim (λ (h, e). ⊎-elim (λ l. inl (l, e)) (λ (z : q ≡ at). inr (rw z (subst (Swept at) (sym (S .now) ∙ ap (S .st) (sym z) ∙ e) k))) (last-or h)) inr (S .marks q u m) }
+      close {at = at} {s} S k = record {
+        st = S .st;
+        from = S .from;
+        now = S .now;
+        links = S .links;
+        marks = λ q u m. ⊎-elim (λ (h, e). ⊎-elim (λ l. inl (l, e)) (λ (z : q ≡ at). inr (rw z (subst (Swept at) (sym (S .now) ∙ ap (S .st) (sym z) ∙ e) k))) (last-or h)) inr (S .marks q u m);
+      }
 
       -- back to place `stop`, where each place on the way is swept once the next one is
       pub unwind : {mark : ℕ → St → Type 0} {ev : ℕ → ℕ} {s : St} (stop at : ℕ) → stop ≤ at → Search D mark ev at at s → Swept at s
@@ -135,8 +140,8 @@ module _ {St : Type 0} (Edge : ℕ → St → ℕ → St → Type 0) where
           let (s′, S′, l) = pop S in
           ⊎-elim
           (λ (i : stop < suc at).
-            (let k′ : Swept at s′ = back at s′ s (omega arith) (omega arith) S′ l k in
-            unwind stop at (omega arith) (close S′ k′) k′ (λ q u t a b. back q u t a (omega arith))))
+          (let k′ : Swept at s′ = back at s′ s (omega arith) (omega arith) S′ l k in
+          unwind stop at (omega arith) (close S′ k′) k′ (λ q u t a b. back q u t a (omega arith))))
           (λ z. (s, subst (λ (n : ℕ). Search D mark ev n n s) (sym z) S, subst (λ (n : ℕ). Swept n s) (sym z) k))
           (first-or h)
 

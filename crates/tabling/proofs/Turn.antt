@@ -67,9 +67,9 @@ module _ {bodies : Bodies} {Root : ℕ → State → Type 0} {b t : Tables} {kno
     low = R .low;
     spent = λ q x y e z a d o. (let (l, w) = call-there (k q y e) in R .spent q x y e z a d (row-of (call-of b (getD chosen q 0)) l w o));
     found = λ p e.
-      (let (f, i, n) = R .found p e in
-      let (l, w) = call-there (k p (omega (arith, R .low)) f) in
-      (f, omega (arith, n .low), none-old (call-of b (getD chosen p 0)) l w n, of-row (call-of b (getD chosen p 0)) i w (n .found i)));
+        (let (f, i, n) = R .found p e in
+        let (l, w) = call-there (k p (omega (arith, R .low)) f) in
+        (f, omega (arith, n .low), none-old (call-of b (getD chosen p 0)) l w n, of-row (call-of b (getD chosen p 0)) i w (n .found i)));
   }
 
 -- ---- the invariant
@@ -124,7 +124,12 @@ module _ (bodies : Bodies) (Root : ℕ → State → Type 0) (b : Tables) (known
 
   turning-up : {t u : Tables} {marks chosen : List ℕ} {at : ℕ} {s : State} → Turning t marks chosen at s → Grew t u → Valid bodies Root u → Turning u marks chosen at s
   turning-up T g v = record {
-    given = T .given; valid = v; grew = grew-trans (T .grew) g; stamped = T .stamped; chosen-long = T .chosen-long; unused = T .unused;
+    given = T .given;
+    valid = v;
+    grew = grew-trans (T .grew) g;
+    stamped = T .stamped;
+    chosen-long = T .chosen-long;
+    unused = T .unused;
     walking = walking-up body b known walk from (held-call-up g) (held-up g row) (T .walking);
   }
 
@@ -132,7 +137,12 @@ module _ (bodies : Bodies) (Root : ℕ → State → Type 0) (b : Tables) (known
   pub turn-start : {marks chosen : List ℕ} → Given bodies Root b known rule row body → Stamped marks walk → ((q r : ℕ) → ¬ Mark marks walk q r) → length chosen ≡ 16 → ((q : ℕ) → length body ≤ q → getD chosen q 0 ≡ 0)
       → Turning b marks chosen 0 from
   turn-start G s none long unused = record {
-    given = G; valid = G .valid; grew = grew-refl b; stamped = s; chosen-long = long; unused = unused;
+    given = G;
+    valid = G .valid;
+    grew = grew-refl b;
+    stamped = s;
+    chosen-long = long;
+    unused = unused;
     walking = walk-start body b known walk (HeldCall b) (Held b row) from none;
   }
 
@@ -146,7 +156,12 @@ module _ (bodies : Bodies) (Root : ℕ → State → Type 0) (b : Tables) (known
     -- ---- an elementary step
     pub turn-forward : {u : State} → at < length body → elementary (step-of (getD body at 0)) s ≡ on u → Turning t marks (set chosen at 0) (at + 1) u
     turn-forward h e = record {
-      given = T .given; valid = T .valid; grew = T .grew; stamped = T .stamped; chosen-long = simp length-set (T .chosen-long); unused = chosen-far at 0 h;
+      given = T .given;
+      valid = T .valid;
+      grew = T .grew;
+      stamped = T .stamped;
+      chosen-long = simp length-set (T .chosen-long);
+      unused = chosen-far at 0 h;
       walking = walk-forward body b known walk (HeldCall t) (Held t row) from (T .walking) h (omega (arith, T .chosen-long, place-low h)) e;
     }
 
@@ -179,13 +194,23 @@ module _ (bodies : Bodies) (Root : ℕ → State → Type 0) (b : Tables) (known
         pub turn-seen : Mark marks walk at r → Turned t marks chosen at s
         turn-seen m =
             let i : r < b .calls .count = T .walking .stood at r m in
-            record { turning = T; done = done-seen body b known walk (HeldCall t) (Held t row) from (T .walking) (r, i,
-              record { has-action = sym (T .grew .action-same i) ∙ k .has-action; has-state = sym (T .grew .state-same i) ∙ k .has-state }, m) }
+            record {
+              turning = T;
+              done = done-seen body b known walk (HeldCall t) (Held t row) from (T .walking) (
+                r,
+                i,
+                record { has-action = sym (T .grew .action-same i) ∙ k .has-action; has-state = sym (T .grew .state-same i) ∙ k .has-state },
+                m,
+              );
+            }
 
         -- the call has no answer yet
         pub turn-none : NextAnswer (t .answers) known r 0 known → Turned t marks chosen at s
-        turn-none n = record { turning = T; done = done-call body b known walk (HeldCall t) (Held t row) from (T .walking) h e (r, l, k)
-          (none-old (T .valid) (T .grew) (T .given .enough) (inside-of (T .given .valid)) (getD body at 0 % 256, s) l k n) }
+        turn-none n = record {
+          turning = T;
+          done = done-call body b known walk (HeldCall t) (Held t row) from (T .walking) h e (r, l, k)
+              (none-old (T .valid) (T .grew) (T .given .enough) (inside-of (T .given .valid)) (getD body at 0 % 256, s) l k n);
+        }
 
         -- its first answer is taken
         pub turn-take : {j : ℕ} → r < 65536 → ¬ Mark marks walk at r → j < known → NextAnswer (t .answers) known r 0 j → Turning t (with-mark marks walk at r) (set chosen at j) (at + 1) (t .answers .final j)
@@ -200,10 +225,14 @@ module _ (bodies : Bodies) (Root : ℕ → State → Type 0) (b : Tables) (known
             let at-b : CallAt (b .calls) r (c .0) (c .1) = record { has-action = ap (b .calls .action) (sym z) ∙ o .action; has-state = ap (b .calls .state) (sym z) ∙ o .state } in
             let long : r < length marks = omega (arith, T .stamped .long) in
             record {
-              given = G; valid = T .valid; grew = T .grew; stamped = mark-stamped marks walk at r (place-low h) long free (T .stamped);
-              chosen-long = simp length-set (T .chosen-long); unused = chosen-far at j h;
+              given = G;
+              valid = T .valid;
+              grew = T .grew;
+              stamped = mark-stamped marks walk at r (place-low h) long free (T .stamped);
+              chosen-long = simp length-set (T .chosen-long);
+              unused = chosen-far at j h;
               walking = rw (T .grew .final-same x) (take-first body b known walk (HeldCall t) (Held t row) from (T .walking) h e (r, l, k) (place-low h) (omega (arith, T .chosen-long, place-low h)) long old at-b free o
-                (none-old (T .valid) (T .grew) (G .enough) inside c l k n));
+                  (none-old (T .valid) (T .grew) (G .enough) inside c l k n));
             }
 
     -- ---- the body's end
@@ -224,7 +253,7 @@ module _ (bodies : Bodies) (Root : ℕ → State → Type 0) (b : Tables) (known
           let u : Tables = tables (t .calls) answers′ in
           let up : Grew b u = grew-trans (T .grew) (grew-answer t p) in
           let w = way-follows b known up (inside-of (G .valid)) (G .enough) (t .answers .count) (omega (arith, G .enough, T .grew .answers-more)) body (body-short G)
-            (p .new-evidence) (T .unused) (sym (p .new .has-final)) end-way in
+          (p .new-evidence) (T .unused) (sym (p .new .has-final)) end-way in
           record {
             exists = rw (p .new .has-call) (omega (arith, G .row-in, T .grew .calls-more));
             fits = rw (p .new-rule, p .new .has-call, T .grew .action-same (G .row-in)) (G .fits);
@@ -264,7 +293,12 @@ module _ (bodies : Bodies) (Root : ℕ → State → Type 0) (b : Tables) (known
         let inside : at ≤ length body = U .walking .inside in
         let low : p + 1 ≤ at = R .low in
         record {
-          given = G; valid = U .valid; grew = U .grew; stamped = U .stamped; chosen-long = simp length-set (U .chosen-long); unused = chosen-far U p j (omega arith);
+          given = G;
+          valid = U .valid;
+          grew = U .grew;
+          stamped = U .stamped;
+          chosen-long = simp length-set (U .chosen-long);
+          unused = chosen-far U p j (omega arith);
           walking = rw (U .grew .final-same {x = j} (omega (arith, G .enough)))
-            (back-take body b known walk (HeldCall t) (Held t row) from (U .walking) (T .done) p (omega (arith, U .chosen-long, body-short G)) (old R));
+              (back-take body b known walk (HeldCall t) (Held t row) from (U .walking) (T .done) p (omega (arith, U .chosen-long, body-short G)) (old R));
         }

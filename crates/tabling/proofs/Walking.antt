@@ -20,7 +20,7 @@ use Rattle.tabling.proofs.Growth.{Tables, HeldCall}
 use Rattle.tabling.proofs.Sweep.{Swept, Upto, Link, Search, start, push, pop, close, marked, over, unwind, passed, way-of, search-up, first-or, Way}
 use Rattle.tabling.proofs.Graph.{Front, goes, calls, Leads, Known, Edge, Good, leads, forward, stops, ended, none-left, take, backward}
 use Rattle.tabling.proofs.Graph as graph
-use Rattle.tabling.proofs.Marks.{Mark, Stamped, with-mark, mark-new, no-mark}
+use Rattle.tabling.proofs.Marks.{Mark, with-mark, mark-new}
 
 -- ---- the step in front
 
@@ -127,9 +127,13 @@ module _ (body : List ℕ) (b : Tables) (known walk : ℕ) (C : ℕ × State →
 
   module _ {marks chosen : List ℕ} {at : ℕ} {s : State} (W : Walking marks chosen at at s) where
     pub walk-forward : {t : State} → at < length body → at < length chosen → elementary (step-of (getD body at 0)) s ≡ on t → Walking marks (set chosen at 0) (at + 1) (at + 1) t
-    walk-forward {t} h l e = record { inside = omega arith; stood = W .stood; search = rw add-one (push E G (omega arith) (W .search)
-      (subst (λ (x : ℕ). Link E G at s x t) (sym (getD-set-same chosen at 0 0 l)) (forward move (Of b known) (final b) 0 body h (move-on (getD body at 0) s t e)))
-      (λ q i. getD-set-other chosen at q 0 0 (omega arith)) (λ q u m. inl m)) }
+    walk-forward {t} h l e = record {
+      inside = omega arith;
+      stood = W .stood;
+      search = rw add-one (push E G (omega arith) (W .search)
+          (subst (λ (x : ℕ). Link E G at s x t) (sym (getD-set-same chosen at 0 0 l)) (forward move (Of b known) (final b) 0 body h (move-on (getD body at 0) s t e)))
+          (λ q i. getD-set-other chosen at q 0 0 (omega arith)) (λ q u m. inl m));
+    }
 
     pub done-end : length body ≤ at → A s → Done at s
     done-end h n = ended move (Of b known) (final b) 0 body (omega (arith, W .inside)) n
@@ -161,9 +165,13 @@ module _ (body : List ℕ) (b : Tables) (known walk : ℕ) (C : ℕ × State →
         → ((q r : ℕ) → Mark marks′ walk q r → r < b .calls .count)
         → ((q : ℕ) (u : State) → Seen b body marks′ walk q u → Seen b body marks walk q u ⊎ ((q ≡ at) × (u ≡ s)))
         → Walking marks′ (set chosen at j) (at + 1) (at + 1) (final b j)
-    walk-take {marks′} {j} up h l e k u o stood new = record { inside = omega arith; stood = stood; search = rw add-one (push E G up (W .search)
-      (subst (λ (x : ℕ). Link E G at s x (final b j)) (sym (getD-set-same chosen at j 0 l)) (take move (Of b known) (final b) 0 body h (move-call (getD body at 0) s e) k o u))
-      (λ q i. getD-set-other chosen at q j 0 (omega arith)) new) }
+    walk-take {marks′} {j} up h l e k u o stood new = record {
+      inside = omega arith;
+      stood = stood;
+      search = rw add-one (push E G up (W .search)
+          (subst (λ (x : ℕ). Link E G at s x (final b j)) (sym (getD-set-same chosen at j 0 l)) (take move (Of b known) (final b) 0 body h (move-call (getD body at 0) s e) k o u))
+          (λ q i. getD-set-other chosen at q j 0 (omega arith)) new);
+    }
 
     none-from : {i : ℕ} → at < length body → 2 < getD body at 0 / 256 → C (getD body at 0 % 256, s) → Upto E G at s i → NoneIn b known (getD body at 0 % 256, s) i known → Done at s
     none-from h e k u n = none-left move (Of b known) (final b) 0 body h (move-call (getD body at 0) s e) k (walk-upto e u n) (λ x o. o .below)
@@ -180,8 +188,8 @@ module _ (body : List ℕ) (b : Tables) (known walk : ℕ) (C : ℕ × State →
     pub take-first : {r j : ℕ} → at < 16 → at < length chosen → r < length marks → r < b .calls .count → CallAt (b .calls) r (getD body at 0 % 256) s → ¬ Mark marks walk at r
         → Of b known (getD body at 0 % 256, s) j → NoneIn b known (getD body at 0 % 256, s) 0 j → Walking (with-mark marks walk at r) (set chosen at j) (at + 1) (at + 1) (final b j)
     take-first {r} {j} small l m i c free o n = walk-take W (omega arith) h l e k (walk-upto W e first n) o
-      (λ q y x. ⊎-elim (W .stood q y) (λ (z, w). omega arith) (mark-new marks walk at r small m free q y x))
-      (λ q u (y, a, d, x). ⊎-elim (λ x′. inl (y, a, d, x′)) (λ (z, w). inr (z, sym (d .has-state) ∙ ap (b .calls .state) w ∙ c .has-state)) (mark-new marks walk at r small m free q y x))
+        (λ q y x. ⊎-elim (W .stood q y) (λ (z, w). omega arith) (mark-new marks walk at r small m free q y x))
+        (λ q u (y, a, d, x). ⊎-elim (λ x′. inl (y, a, d, x′)) (λ (z, w). inr (z, sym (d .has-state) ∙ ap (b .calls .state) w ∙ c .has-state)) (mark-new marks walk at r small m free q y x))
 
   -- ---- back
   module _ {marks chosen : List ℕ} {at : ℕ} {s t : State} (W : Walking marks chosen (suc at) at s) (l : Link E G at s (getD chosen at 0) t) (k : Swept E G (suc at) t) where

@@ -3,6 +3,7 @@
 // A step that goes on is passed, a step that does not sends the walk back to the latest call step with an answer left. The call in front is
 // found or added, and its answers are taken in turn; a call step that the walk comes to again in the same state has been searched already,
 // so it is marked and never entered twice. At the body's end the state is added as an answer, with the answers on the way as its evidence.
+pub mod bodies;
 pub mod marks;
 pub mod tables;
 
@@ -47,19 +48,34 @@ pub struct Advanced {
 }
 
 // The body's end: the state is an answer.
-fn finish(job: Job, n: usize, answers: &mut [u64], m: usize, chosen: &[u64; 16], state: State) -> Advanced
+fn finish(
+    job: Job,
+    n: usize,
+    answers: &mut [u64],
+    m: usize,
+    chosen: &[u64; 16],
+    state: State,
+) -> Advanced
     requires { ⌜ Stored 19 (now answers) m ⌝ }
     ensures { λ r. ⌜ (length (now (answers .exit)) ≡ length (now (answers .entry))) × Stored 19 (now (answers .exit)) (r .answers) × (r .calls ≡ n) ⌝ }
     ensures { λ r. ⌜ ((bodies : Bodies) (roots : List (ℕ × ℕ)) (b : Tables) (body calls marks : List ℕ) (at : ℕ) → length body ≤ at
         → Turning bodies (Among roots) b (job .known) (job .rule) (job .row) (job .walk) body (in-words calls n (now (answers .entry)) m) marks (now (chosen .entry)) at (state .0)
         → Stepped (r .front) bodies (Among roots) b job body (length calls) (length (now (answers .entry))) (now (chosen .entry)) at (state .0)
-            (in-words calls n (now (answers .exit)) (r .answers)) marks (now (chosen .entry))) ⌝ }
+        (in-words calls n (now (answers .exit)) (r .answers)) marks (now (chosen .entry))) ⌝ }
 {
     let put = tables::add_answer(answers, m, job.row, state, job.rule, chosen);
     if put.full {
-        return Advanced { calls: n, answers: put.count, front: Front::Full };
+        return Advanced {
+            calls: n,
+            answers: put.count,
+            front: Front::Full,
+        };
     }
-    Advanced { calls: n, answers: put.count, front: Front::Spent }
+    Advanced {
+        calls: n,
+        answers: put.count,
+        front: Front::Spent,
+    }
 }
 
 // A call in front: it is found or added, and its first answer is taken.
@@ -80,25 +96,44 @@ fn enter(
     ensures { λ r. ⌜ ((bodies : Bodies) (roots : List (ℕ × ℕ)) (b : Tables) (body : List ℕ) → at < length body → 2 < getD body at 0 / 256 → getD body at 0 ≡ step
         → Turning bodies (Among roots) b (job .known) (job .rule) (job .row) (job .walk) body (in-words (now (calls .entry)) n (now (answers .entry)) m) (now (marks .entry)) (now (chosen .entry)) at (state .0)
         → Stepped (r .front) bodies (Among roots) b job body (length (now (calls .entry))) (length (now (answers .entry))) (now (chosen .entry)) at (state .0)
-            (in-words (now (calls .exit)) (r .calls) (now (answers .entry)) m) (now (marks .exit)) (now (chosen .exit))) ⌝ }
+        (in-words (now (calls .exit)) (r .calls) (now (answers .entry)) m) (now (marks .exit)) (now (chosen .exit))) ⌝ }
 {
-    let call = Call { action: word::index(step), state: state };
+    let call = Call {
+        action: word::index(step),
+        state: state,
+    };
     let put = tables::add_call(calls, n, call);
     let row = put.row;
     let count = put.count;
     if put.full {
-        return Advanced { calls: count, answers: m, front: Front::Full };
+        return Advanced {
+            calls: count,
+            answers: m,
+            front: Front::Full,
+        };
     }
     if marks::is_marked(marks, job.walk, at, row) {
-        return Advanced { calls: count, answers: m, front: Front::Spent };
+        return Advanced {
+            calls: count,
+            answers: m,
+            front: Front::Spent,
+        };
     }
     let first = tables::next_answer(answers, job.known, row as u64, 0);
     if first == job.known {
-        return Advanced { calls: count, answers: m, front: Front::Spent };
+        return Advanced {
+            calls: count,
+            answers: m,
+            front: Front::Spent,
+        };
     }
     marks::mark(marks, job.walk, at, row);
     chosen[at] = first as u64;
-    Advanced { calls: count, answers: m, front: Front::On(tables::final_of(answers, first)) }
+    Advanced {
+        calls: count,
+        answers: m,
+        front: Front::On(tables::final_of(answers, first)),
+    }
 }
 
 // The step in front, or the body's end, with the record that it adds.
@@ -119,7 +154,7 @@ fn advance(
     ensures { λ r. ⌜ ((bodies : Bodies) (roots : List (ℕ × ℕ)) (b : Tables) (body : List ℕ) → now (rest .entry) ≡ drop at body
         → Turning bodies (Among roots) b (job .known) (job .rule) (job .row) (job .walk) body (in-words (now (calls .entry)) n (now (answers .entry)) m) (now (marks .entry)) (now (chosen .entry)) at (state .0)
         → Stepped (r .front) bodies (Among roots) b job body (length (now (calls .entry))) (length (now (answers .entry))) (now (chosen .entry)) at (state .0)
-            (in-words (now (calls .exit)) (r .calls) (now (answers .exit)) (r .answers)) (now (marks .exit)) (now (chosen .exit))) ⌝ }
+        (in-words (now (calls .exit)) (r .calls) (now (answers .exit)) (r .answers)) (now (marks .exit)) (now (chosen .exit))) ⌝ }
 {
     if rest.len() == 0 {
         return finish(job, n, answers, m, chosen, state);
@@ -132,9 +167,17 @@ fn advance(
     match next {
         word::Next::On(after) => {
             chosen[at] = 0;
-            Advanced { calls: n, answers: m, front: Front::On(after) }
+            Advanced {
+                calls: n,
+                answers: m,
+                front: Front::On(after),
+            }
         }
-        word::Next::Stuck => Advanced { calls: n, answers: m, front: Front::Spent },
+        word::Next::Stuck => Advanced {
+            calls: n,
+            answers: m,
+            front: Front::Spent,
+        },
     }
 }
 
@@ -157,7 +200,10 @@ fn retreat(body: &[u16], answers: &[u64], known: usize, chosen: &[u64; 16], at: 
             let row = tables::call_of(answers, last);
             let later = tables::next_answer(answers, known, row, last + 1);
             if later < known {
-                return Later { at: place + 1, answer: later };
+                return Later {
+                    at: place + 1,
+                    answer: later,
+                };
             }
         }
     }
@@ -179,10 +225,16 @@ fn go_back(body: &[u16], answers: &[u64], known: usize, chosen: &mut [u64; 16], 
     let after = back.at;
     let answer = back.answer;
     if after == 0 {
-        return Went { at: 0, state: State::NOTHING };
+        return Went {
+            at: 0,
+            state: State::NOTHING,
+        };
     }
     chosen[after - 1] = answer as u64;
-    Went { at: after, state: tables::final_of(answers, answer) }
+    Went {
+        at: after,
+        state: tables::final_of(answers, answer),
+    }
 }
 
 // How a turn comes out: on after the step in front, back at a place of the body, done, or a table is full.
@@ -220,22 +272,38 @@ pub fn turn(
     ensures { λ r. ⌜ ((bodies : Bodies) (roots : List (ℕ × ℕ)) (b : Tables)
         → Going bodies (Among roots) b (job .known) (job .rule) (job .row) (job .walk) (now (body .entry)) (in-words (now (calls .entry)) n (now (answers .entry)) m) (now (marks .entry)) (now (chosen .entry)) (now (rest .entry)) (state .0)
         → Outcome (r .next) bodies (Among roots) b job (now (body .entry)) (length (now (calls .entry))) (length (now (answers .entry))) (now (chosen .entry)) (length (now (body .entry)) - length (now (rest .entry)))
-            (in-words (now (calls .exit)) (r .calls) (now (answers .exit)) (r .answers)) (now (marks .exit)) (now (chosen .exit))) ⌝ }
+        (in-words (now (calls .exit)) (r .calls) (now (answers .exit)) (r .answers)) (now (marks .exit)) (now (chosen .exit))) ⌝ }
 {
     let at = body.len() - rest.len();
     let a = advance(rest, at, job, calls, n, answers, m, marks, chosen, state);
     let front = a.front;
     match front {
-        Front::On(after) => Moved { calls: a.calls, answers: a.answers, next: Next::On(after) },
-        Front::Full => Moved { calls: a.calls, answers: a.answers, next: Next::Full },
+        Front::On(after) => Moved {
+            calls: a.calls,
+            answers: a.answers,
+            next: Next::On(after),
+        },
+        Front::Full => Moved {
+            calls: a.calls,
+            answers: a.answers,
+            next: Next::Full,
+        },
         Front::Spent => {
             let back = go_back(body, answers, job.known, chosen, at);
             let place = back.at;
             let there = back.state;
             if place == 0 {
-                return Moved { calls: a.calls, answers: a.answers, next: Next::Done };
+                return Moved {
+                    calls: a.calls,
+                    answers: a.answers,
+                    next: Next::Done,
+                };
             }
-            Moved { calls: a.calls, answers: a.answers, next: Next::Back(place, there) }
+            Moved {
+                calls: a.calls,
+                answers: a.answers,
+                next: Next::Back(place, there),
+            }
         }
     }
 }

@@ -1,11 +1,12 @@
 // The marks of a walk: for each call record one word, the number of the walk that wrote it above a bit for each of 16 places.
 // A word of an earlier walk holds no mark, so a walk clears nothing.
+use crate::tables;
 use steps::state::State;
 ghost use mathlib.Core.Path.{_≡_};
 ghost use mathlib.Core.Bool.{true, false};
 ghost use Prim.Native.Nat.{_<_};
 ghost use lib.ListN.{length};
-ghost use Rattle.tabling.proofs.Marks.{Mark, Stamped, word-in, with-mark, Marked};
+ghost use Rattle.tabling.proofs.Marks.{Mark, Stamped, word-in, with-mark, Marked, Fresh};
 
 // The word of a call record, without the marks of earlier walks.
 fn word_in(marks: &[u64], walk: u64, row: usize) -> u64
@@ -34,4 +35,16 @@ pub fn mark(marks: &mut [u64], walk: u64, place: usize, row: usize)
 {
     let word = word_in(marks, walk, row);
     marks[row] = State::of(word).insert(place as u64).0;
+}
+
+// The number of the next walk, which has no mark yet. Numbers have 48 bits: after the last one all words are cleared and counted anew.
+pub fn next_walk(marks: &mut [u64], walk: u64) -> u64
+    requires { ⌜ Stamped (now marks) walk ⌝ }
+    ensures { λ r. ⌜ Fresh (now (marks .exit)) r ⌝ }
+{
+    if walk < 281474976710655 {
+        return walk + 1;
+    }
+    tables::clear(marks);
+    1
 }

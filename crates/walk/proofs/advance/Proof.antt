@@ -27,9 +27,10 @@ returns c =
     let f = c .before .before .finish .ensures in
     let t = c .before .before .before .before .before in
     let i = t .before .before .before .before .before in
-    let a = i .args in
-    (record { calls-long = refl; answers-long = f .0 .0; kept = record { calls-stored = rw (f .0 .2) (i .pre .0 .calls-stored); answers-stored = f .0 .1 } },
-    λ bodies roots b body q T. rw (f .0 .2) (f .1 bodies roots b body (a .calls .now) (a .marks .now) (a .at) (tail-none (a .rest .now) body (a .at) q (omega (arith, t .if1 .taken))) T))
+    let a = i .args in (
+      record { calls-long = refl; answers-long = f .0 .0; kept = record { calls-stored = rw (f .0 .2) (i .pre .0 .calls-stored); answers-stored = f .0 .1 } },
+      λ bodies roots b body q T. rw (f .0 .2) (f .1 bodies roots b body (a .calls .now) (a .marks .now) (a .at) (tail-none (a .rest .now) body (a .at) q (omega (arith, t .if1 .taken))) T),
+    )
 
 shared-slice-read-step : tie.Need-shared-slice-read-step
 shared-slice-read-step c = search needs
@@ -57,11 +58,12 @@ returns-2 c =
     let d = t .before .before .before in
     let i = d .before .before .before .before .before in
     let a = i .args in
-    let yes : 2 < getD (a .rest .now) 0 0 / 256 = ltb-true 2 _ (sym (t .before .is-call .ensures) ∙ t .if2 .taken) in
-    (record { calls-long = f .0 .0; answers-long = refl; kept = record { calls-stored = f .0 .1; answers-stored = rw (f .0 .2) (i .pre .0 .answers-stored) } },
-    λ bodies roots b body q T.
-      (let w = tail-word (a .rest .now) body (a .at) q in
-      rw (f .0 .2) (f .1 bodies roots b body (tail-some (a .rest .now) body (a .at) q (omega (arith, d .if1 .left))) (rw w at yes) (sym w) T)))
+    let yes : 2 < getD (a .rest .now) 0 0 / 256 = ltb-true 2 _ (sym (t .before .is-call .ensures) ∙ t .if2 .taken) in (
+      record { calls-long = f .0 .0; answers-long = refl; kept = record { calls-stored = f .0 .1; answers-stored = rw (f .0 .2) (i .pre .0 .answers-stored) } },
+      λ bodies roots b body q T.
+          (let w = tail-word (a .rest .now) body (a .at) q in
+          rw (f .0 .2) (f .1 bodies roots b body (tail-some (a .rest .now) body (a .at) q (omega (arith, d .if1 .left))) (rw w at yes) (sym w) T)),
+    )
 
 elementary-requires : tie.Need-elementary-requires
 elementary-requires c κs = search needs
@@ -86,12 +88,14 @@ returns-3 c =
     let i = d .before .before .before .before .before in
     let a = i .args in
     let j = a .job in
-    let went = sym (e .elementary .ensures) ∙ ap onward (c .before .next .given .1) in
-    (record { calls-long = refl; answers-long = refl; kept = i .pre .0 },
-    λ bodies roots b body q T.
-      (let h = tail-some (a .rest .now) body (a .at) q (omega (arith, d .if1 .left)) in
-      (turn-forward bodies (Among roots) b (j .known) (j .rule) (j .row) (j .walk) body T h (rw (tail-word (a .rest .now) body (a .at) q) at went),
-      left-on (j .known) (a .chosen .now) (set (a .chosen .now) (a .at) 0) (a .at) (a .at) (λ q l. getD-set-other (a .chosen .now) (a .at) q 0 0 (omega arith)) (omega (arith, i .pre .2, d .if1 .left)) refl)))
+    let went = sym (e .elementary .ensures) ∙ ap onward (c .before .next .given .1) in (
+      record { calls-long = refl; answers-long = refl; kept = i .pre .0 },
+      λ bodies roots b body q T.
+          (let h = tail-some (a .rest .now) body (a .at) q (omega (arith, d .if1 .left)) in (
+            turn-forward bodies (Among roots) b (j .known) (j .rule) (j .row) (j .walk) body T h (rw (tail-word (a .rest .now) body (a .at) q) at went),
+            left-on (j .known) (a .chosen .now) (set (a .chosen .now) (a .at) 0) (a .at) (a .at) (λ q l. getD-set-other (a .chosen .now) (a .at) q 0 0 (omega arith)) (omega (arith, i .pre .2, d .if1 .left)) refl,
+          )),
+    )
 
 returns-4 : tie.Need-returns-4
 unfolding onward
@@ -103,11 +107,12 @@ returns-4 c =
     let a = i .args in
     let j = a .job in
     let went = sym (e .elementary .ensures) ∙ ap onward (c .enum-told .given .1) in
-    let no : getD (a .rest .now) 0 0 / 256 ≤ 2 = ltb-false 2 _ (sym (l .before .is-call .ensures) ∙ l .if2 .left) in
-    (record { calls-long = refl; answers-long = refl; kept = i .pre .0 },
-    λ bodies roots b body q T.
-      (let w = tail-word (a .rest .now) body (a .at) q in
-      (turn-stuck bodies (Among roots) b (j .known) (j .rule) (j .row) (j .walk) body T (tail-some (a .rest .now) body (a .at) q (omega (arith, d .if1 .left))) (rw w at no) (rw w at went), refl)))
+    let no : getD (a .rest .now) 0 0 / 256 ≤ 2 = ltb-false 2 _ (sym (l .before .is-call .ensures) ∙ l .if2 .left) in (
+      record { calls-long = refl; answers-long = refl; kept = i .pre .0 },
+      λ bodies roots b body q T.
+          (let w = tail-word (a .rest .now) body (a .at) q in
+          (turn-stuck bodies (Among roots) b (j .known) (j .rule) (j .row) (j .walk) body T (tail-some (a .rest .now) body (a .at) q (omega (arith, d .if1 .left))) (rw w at no) (rw w at went), refl)),
+    )
 
 pub advance-spec : {M : Type 1} → statement M
 advance-spec =

@@ -25,7 +25,7 @@ add-call-requires c κs = search needs
 -- the call put is that of the step in front
 put-at : (c : tie.After-add-call) {a : ℕ} → a ≡ c .before .before .before .before .before .before .args .step
     → CallPut (room 2 (length (c .before .before .before .before .before .before .args .calls .now))) (calls-in 2 (c .before .before .before .before .before .before .args .calls .now) (c .before .before .before .before .before .before .args .n)) (a % 256)
-      (c .before .before .before .before .before .before .args .state .0) (calls-in 2 (c .add-call .last .0) (c .add-call .result .count)) (c .add-call .result .row) (c .add-call .result .full)
+    (c .before .before .before .before .before .before .args .state .0) (calls-in 2 (c .add-call .last .0) (c .add-call .result .count)) (c .add-call .result .row) (c .add-call .result .full)
 put-at c z = rw (z, ← c .before .before .index .ensures) (c .add-call .ensures .put)
 
 row-small : (c : tie.After-add-call) → c .add-call .result .full ≡ false → c .add-call .result .row < 65536
@@ -39,9 +39,10 @@ returns c =
     let p = c .before .before .before in
     let s = p .add-call .ensures in
     let i = p .before .before .before .before .before .before in
-    let j = i .args .job in
-    ((s .long, s .stored, refl),
-    λ bodies roots b body h e z T. turn-calls-full bodies (Among roots) b (j .known) (j .rule) (j .row) (j .walk) body T h e (room 19 (length (i .args .answers .now))) (put-at p z) (c .if1 .taken))
+    let j = i .args .job in (
+      (s .long, s .stored, refl),
+      λ bodies roots b body h e z T. turn-calls-full bodies (Among roots) b (j .known) (j .rule) (j .row) (j .walk) body T h e (room 19 (length (i .args .answers .now))) (put-at p z) (c .if1 .taken),
+    )
 
 is-marked-requires : tie.Need-is-marked-requires
 is-marked-requires c κs =
@@ -61,11 +62,12 @@ returns-2 c =
     let p = d .before .before .before in
     let s = p .add-call .ensures in
     let i = p .before .before .before .before .before .before in
-    let j = i .args .job in
-    ((s .long, s .stored, refl),
-    λ bodies roots b body h e z T.
-      (let (U, l, k) = turn-called bodies (Among roots) b (j .known) (j .rule) (j .row) (j .walk) body T h e (put-at p z) (d .if1 .left) in
-      (turn-seen bodies (Among roots) b (j .known) (j .rule) (j .row) (j .walk) body U h e l k (rw (c .if2 .taken) at (c .before .is-marked .ensures)), refl)))
+    let j = i .args .job in (
+      (s .long, s .stored, refl),
+      λ bodies roots b body h e z T.
+          (let (U, l, k) = turn-called bodies (Among roots) b (j .known) (j .rule) (j .row) (j .walk) body T h e (put-at p z) (d .if1 .left) in
+          (turn-seen bodies (Among roots) b (j .known) (j .rule) (j .row) (j .walk) body U h e l k (rw (c .if2 .taken) at (c .before .is-marked .ensures)), refl)),
+    )
 
 next-answer-requires : tie.Need-next-answer-requires
 next-answer-requires c κs = search needs
@@ -83,11 +85,12 @@ returns-3 c =
     let p = d .before .before .before in
     let s = p .add-call .ensures in
     let i = p .before .before .before .before .before .before in
-    let j = i .args .job in
-    ((s .long, s .stored, refl),
-    λ bodies roots b body h e z T.
-      (let (U, l, k) = turn-called bodies (Among roots) b (j .known) (j .rule) (j .row) (j .walk) body T h e (put-at p z) (d .if1 .left) in
-      (turn-none bodies (Among roots) b (j .known) (j .rule) (j .row) (j .walk) body U h e l k (next-among (i .args .answers .now) (i .args .m) (rw (c .if3 .taken) at (n .next-answer .ensures))), refl)))
+    let j = i .args .job in (
+      (s .long, s .stored, refl),
+      λ bodies roots b body h e z T.
+          (let (U, l, k) = turn-called bodies (Among roots) b (j .known) (j .rule) (j .row) (j .walk) body T h e (put-at p z) (d .if1 .left) in
+          (turn-none bodies (Among roots) b (j .known) (j .rule) (j .row) (j .walk) body U h e l k (next-among (i .args .answers .now) (i .args .m) (rw (c .if3 .taken) at (n .next-answer .ensures))), refl)),
+    )
 
 mark-requires : tie.Need-mark-requires
 mark-requires c κs =
@@ -125,13 +128,15 @@ returns-4 c =
     let j = i .args .job in
     let at = i .args .at in
     let first = n .next-answer .result in
-    let below : first < j .known = omega (arith, n .next-answer .ensures .high, o .if3 .left) in
-    ((s .long, s .stored, refl),
-    λ bodies roots b body h e z T.
-      (let (U, l, r) = turn-called bodies (Among roots) b (j .known) (j .rule) (j .row) (j .walk) body T h e (put-at p z) (d .if1 .left) in
-      (rw (c .final-of .ensures, m .mark .ensures) (turn-take bodies (Among roots) b (j .known) (j .rule) (j .row) (j .walk) body U h e l r (row-small p (d .if1 .left)) (rw (k .if2 .left) at (k .before .is-marked .ensures)) below
-        (next-among (i .args .answers .now) (i .args .m) (n .next-answer .ensures))),
-      left-on (j .known) (i .args .chosen .now) (set (i .args .chosen .now) at first) at at (λ q l. getD-set-other (i .args .chosen .now) at q first 0 (omega arith)) (i .pre .2) refl)))
+    let below : first < j .known = omega (arith, n .next-answer .ensures .high, o .if3 .left) in (
+      (s .long, s .stored, refl),
+      λ bodies roots b body h e z T.
+          (let (U, l, r) = turn-called bodies (Among roots) b (j .known) (j .rule) (j .row) (j .walk) body T h e (put-at p z) (d .if1 .left) in (
+            rw (c .final-of .ensures, m .mark .ensures) (turn-take bodies (Among roots) b (j .known) (j .rule) (j .row) (j .walk) body U h e l r (row-small p (d .if1 .left)) (rw (k .if2 .left) at (k .before .is-marked .ensures)) below
+                (next-among (i .args .answers .now) (i .args .m) (n .next-answer .ensures))),
+            left-on (j .known) (i .args .chosen .now) (set (i .args .chosen .now) at first) at at (λ q l. getD-set-other (i .args .chosen .now) at q first 0 (omega arith)) (i .pre .2) refl,
+          )),
+    )
 
 pub enter-spec : {M : Type 1} → statement M
 enter-spec =

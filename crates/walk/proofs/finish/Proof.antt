@@ -17,9 +17,10 @@ same-length c = search needs
 returns : tie.Need-returns
 returns c =
     let x = c .before .before .before .add-answer .ensures in
-    let j = c .before .before .before .before .before .before .args .job in
-    ((x .long, x .stored, refl),
-    λ bodies roots b body calls marks at h T. turn-answers-full bodies (Among roots) b (j .known) (j .rule) (j .row) (j .walk) body T h (room 2 (length calls)) (x .put) (c .if1 .taken))
+    let j = c .before .before .before .before .before .before .args .job in (
+      (x .long, x .stored, refl),
+      λ bodies roots b body calls marks at h T. turn-answers-full bodies (Among roots) b (j .known) (j .rule) (j .row) (j .walk) body T h (room 2 (length calls)) (x .put) (c .if1 .taken),
+    )
 
 same-length-2 : tie.Need-same-length-2
 same-length-2 c = search needs
@@ -27,9 +28,10 @@ same-length-2 c = search needs
 returns-2 : tie.Need-returns-2
 returns-2 c =
     let x = c .before .before .before .add-answer .ensures in
-    let j = c .before .before .before .before .before .before .args .job in
-    ((x .long, x .stored, refl),
-    λ bodies roots b body calls marks at h T. (turn-ended bodies (Among roots) b (j .known) (j .rule) (j .row) (j .walk) body T h (x .put) (c .if1 .left), refl))
+    let j = c .before .before .before .before .before .before .args .job in (
+      (x .long, x .stored, refl),
+      λ bodies roots b body calls marks at h T. (turn-ended bodies (Among roots) b (j .known) (j .rule) (j .row) (j .walk) body T h (x .put) (c .if1 .left), refl),
+    )
 
 pub finish-spec : {M : Type 1} → statement M
 finish-spec = tie.close (tie.spec add-answer-requires same-length returns same-length-2 returns-2)

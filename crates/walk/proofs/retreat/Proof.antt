@@ -67,7 +67,7 @@ returns c =
       low = omega arith;
       spent = λ q a b. l .loop .inv .1 q (omega arith) b;
       found = λ p e. (let z : l .loop .place - 1 ≡ p = omega arith in
-        rw (← z) (a-call (c .before .before .before .before), c .if2 .taken, rw (c .before .before .call-of .ensures) at n));
+          rw (← z) (a-call (c .before .before .before .before), c .if2 .taken, rw (c .before .before .call-of .ensures) at n));
     }
 
 loop-less : tie.Need-loop-less Inv-loop μ-loop

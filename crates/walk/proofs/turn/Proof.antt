@@ -61,12 +61,12 @@ module _ (v : tie.After-advance) (e : v .advance .result .front ≡ front.Spent)
 
   spent : Going bodies (Among roots) b (j .known) (j .rule) (j .row) (j .walk) (i .args .body .now) (in-words (i .args .calls .now) (i .args .n) (i .args .answers .now) (i .args .m)) (i .args .marks .now) (i .args .chosen .now) (i .args .rest .now) (i .args .state .0)
       → Turned bodies (Among roots) b (j .known) (j .rule) (j .row) (j .walk) (i .args .body .now) (in-words (v .advance .last .1 .1 .1 .0) (v .advance .result .calls) (v .advance .last .1 .1 .1 .1 .1 .0) (v .advance .result .answers))
-          (v .advance .last .1 .1 .1 .1 .1 .1 .1 .0) (v .advance .last .1 .1 .1 .1 .1 .1 .1 .1 .0) at (i .args .state .0)
-        × (v .advance .last .1 .1 .1 .1 .1 .1 .1 .1 .0 ≡ i .args .chosen .now)
+      (v .advance .last .1 .1 .1 .1 .1 .1 .1 .0) (v .advance .last .1 .1 .1 .1 .1 .1 .1 .1 .0) at (i .args .state .0)
+      × (v .advance .last .1 .1 .1 .1 .1 .1 .1 .1 .0 ≡ i .args .chosen .now)
   spent G = subst
-    (λ (f : Front). Stepped f bodies (Among roots) b j (i .args .body .now) (length (i .args .calls .now)) (length (i .args .answers .now)) (i .args .chosen .now) at (i .args .state .0)
+      (λ (f : Front). Stepped f bodies (Among roots) b j (i .args .body .now) (length (i .args .calls .now)) (length (i .args .answers .now)) (i .args .chosen .now) at (i .args .state .0)
       (in-words (v .advance .last .1 .1 .1 .0) (v .advance .result .calls) (v .advance .last .1 .1 .1 .1 .1 .0) (v .advance .result .answers)) (v .advance .last .1 .1 .1 .1 .1 .1 .1 .0) (v .advance .last .1 .1 .1 .1 .1 .1 .1 .1 .0))
-    e (v .advance .ensures .1 bodies roots b (i .args .body .now) (G .tail) (G .turning))
+      e (v .advance .ensures .1 bodies roots b (i .args .body .now) (G .tail) (G .turning))
 
 go-back-requires : tie.Need-go-back-requires
 go-back-requires c κs =
@@ -89,10 +89,12 @@ returns : tie.Need-returns
 returns c =
     let g = c .before .before in
     let v = g .before .before .before .before .before .before .before .before .before .before .before in
-    let j = v .before .before .before .before .before .before .before .before .before .before .args .job in
-    (v .advance .ensures .0, λ bodies roots b G.
-      went-over bodies (Among roots) b (j .known) (j .rule) (j .row) (j .walk) _ (v .advance .last .1 .1 .1 .0) (v .advance .result .calls) (v .advance .last .1 .1 .1 .1 .1 .0) (v .advance .result .answers)
-      (spent v (g .before .before .before .enum-told2 .given .1) bodies roots b G .0) (g .go-back .ensures) (c .if1 .taken))
+    let j = v .before .before .before .before .before .before .before .before .before .before .args .job in (
+      v .advance .ensures .0,
+      λ bodies roots b G.
+          went-over bodies (Among roots) b (j .known) (j .rule) (j .row) (j .walk) _ (v .advance .last .1 .1 .1 .0) (v .advance .result .calls) (v .advance .last .1 .1 .1 .1 .1 .0) (v .advance .result .answers)
+          (spent v (g .before .before .before .enum-told2 .given .1) bodies roots b G .0) (g .go-back .ensures) (c .if1 .taken),
+    )
 
 same-length-4 : tie.Need-same-length-4
 same-length-4 c = search needs
@@ -139,11 +141,13 @@ returns-4 c =
     let a = v .before .before .before .before .before .before .before .before .before .before .args in
     let j = a .job in
     let r = g .go-back .result .at in
-    let e : r ≡ (r - 1) + 1 = omega (arith, c .if1 .left) in
-    (v .advance .ensures .0, λ bodies roots b G.
-      (let S = spent v (g .before .before .before .enum-told2 .given .1) bodies roots b G in
-      let W = went-on bodies (Among roots) b (j .known) (j .rule) (j .row) (j .walk) _ (v .advance .last .1 .1 .1 .0) (v .advance .result .calls) (v .advance .last .1 .1 .1 .1 .1 .0) (v .advance .result .answers) (S .0) (g .go-back .ensures) (r - 1) e in
-      (W .0, omega (arith, W .1, ap (λ (l : List ℕ). left (j .known) l (length (a .body .now) - length (a .rest .now))) (S .1)))))
+    let e : r ≡ (r - 1) + 1 = omega (arith, c .if1 .left) in (
+      v .advance .ensures .0,
+      λ bodies roots b G.
+          (let S = spent v (g .before .before .before .enum-told2 .given .1) bodies roots b G in
+          let W = went-on bodies (Among roots) b (j .known) (j .rule) (j .row) (j .walk) _ (v .advance .last .1 .1 .1 .0) (v .advance .result .calls) (v .advance .last .1 .1 .1 .1 .1 .0) (v .advance .result .answers) (S .0) (g .go-back .ensures) (r - 1) e in
+          (W .0, omega (arith, W .1, ap (λ (l : List ℕ). left (j .known) l (length (a .body .now) - length (a .rest .now))) (S .1)))),
+    )
 
 pub turn-spec : {M : Type 1} → statement M
 turn-spec =

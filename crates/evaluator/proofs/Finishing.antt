@@ -1,0 +1,81 @@
+-- Closed tables are a finished run's, and the goal's answers are its ends. Assumes nothing.
+use Prim.Native.Nat.{ℕ, _*_, _/_, _<_, _≤_, min}
+use native.Mathlib.Omega.{arith}
+use mathlib.Core.Path.{_≡_, refl, sym, ap, _∙_}
+use mathlib.Core.List.{List}
+use mathlib.Core.Logic.{_↔_, _⊎_, ⊎-elim}
+use lib.ListN.{length}
+use Rattle.steps.specs.State.{State}
+use Rattle.steps.specs.Run.{Run, Goal, Call, Answer, End}
+use Rattle.steps.specs.Words.{run-of}
+use Rattle.steps.specs.Counting.{Counts}
+use Rattle.steps.proofs.AcceptanceLaws.{Accepted}
+use Rattle.steps.proofs.Counting.{counts-map, counts-outnumbers}
+use Rattle.steps.proofs.Rows.{table-counts}
+use Rattle.steps.proofs.Exactness.{Exact}
+use Rattle.tabling.specs.Records.{calls-in, answers-in, bodies-of, room}
+use Rattle.tabling.proofs.Storage.{CallAt, AnswerAt, HeldAnswer}
+use Rattle.tabling.proofs.Growth.{Tables, row-once}
+use Rattle.tabling.proofs.Justification.{justified-in}
+use Rattle.tabling.proofs.Evidence.{Among, Valid, inside-of}
+use Rattle.tabling.proofs.Walking.{Of}
+use Rattle.tabling.proofs.Adding.{calls-apart, answers-apart}
+use Rattle.tabling.proofs.Numbers.{number-at, proper-of}
+use Rattle.tabling.proofs.Rounds.{Rows, C, A, exact-of}
+use Rattle.tabling.proofs.Going.{Kept, in-words}
+use Rattle.tabling.proofs.RunTables.{the-root, exact-run}
+use Rattle.tabling.proofs.Finals.{finals-below}
+use Rattle.tabling.proofs.FinalsLaws.{finals-counted}
+use Rattle.evaluator.specs.Full.{Calls, Answers, Full}
+use Rattle.evaluator.specs.Finished.{Finished}
+
+module _ {fluents actions : ℕ} (rules goal : List ℕ) (start : State) (acc : Accepted fluents actions rules goal) (calls : List ℕ) (n : ℕ) (answers : List ℕ) (m : ℕ)
+    (kept : Kept calls n answers m)
+    (R : Rows (bodies-of rules goal) (Among (the-root rules goal start acc)) (number-at (length rules / 18)) 0 n m n (in-words calls n answers m)) where
+  abbrev t : Tables
+  t = in-words calls n answers m
+
+  abbrev run : Run
+  run = run-of rules goal start
+
+  exact : Exact run (C t) (A t)
+  exact = exact-run rules goal start acc (exact-of (bodies-of rules goal) (Among (the-root rules goal start acc)) (proper-of rules goal acc) (number-at (length rules / 18)) t R)
+
+  -- answer record x of call record i, which holds (a, D)
+  held-answer : {a : ℕ} {D D′ : State} (x : ℕ) → x < m → t .calls .action (t .answers .call x) ≡ a → t .calls .state (t .answers .call x) ≡ D → t .answers .final x ≡ D′ → A t a D D′
+  held-answer x l e f g = (x, record { below = l; action = e; state = f }, g)
+
+  pub finished : Finished rules goal start calls answers n m
+  finished = record {
+    calls-counted = table-counts (λ i. (t .calls .action i, t .calls .state i)) (Calls run) n (calls-apart (R .valid)) (λ i l. exact .calls _ _ .0 (i, l, record { has-action = refl; has-state = refl }))
+        (λ (a, D) c. let (i, l, h) = exact .calls a D .1 c in (i, l, λ k. (sym (h .has-action) k, sym (h .has-state) k)));
+    answers-counted = table-counts (λ x. (t .calls .action (t .answers .call x), t .calls .state (t .answers .call x), t .answers .final x)) (Answers run) m (answers-apart (R .valid))
+        (λ x l. exact .answers _ _ _ .0 (held-answer x l refl refl refl))
+        (λ (a, D, D′) c. let (x, o, f) = exact .answers a D D′ .1 c in (x, o .below, λ k. (sym (o .action) k, sym (o .state) k, sym f k)));
+    calls-held = λ a D. (λ c. let (i, l, h) = exact .calls a D .1 c in (i, l, h .has-action, h .has-state), λ (i, l, e, f). exact .calls a D .0 (i, l, record { has-action = e; has-state = f }));
+    calls-once = λ i j l h e f. R .valid .calls-once i j _ _ l h (record { has-action = e; has-state = f }) (record { has-action = refl; has-state = refl });
+    answers-held = λ a D D′. (λ c. let (x, o, f) = exact .answers a D D′ .1 c in (x, o .below, o .action, o .state, f), λ (x, l, e, f, g). exact .answers a D D′ .0 (held-answer x l e f g));
+    answers-once = λ x y l h e f. R .valid .answers-once x y _ _ l h (record { has-call = e; has-final = f }) (record { has-call = refl; has-final = refl });
+    justified = λ x l. justified-in (proper-of rules goal acc) (R .valid .justified x l);
+    calls-past = kept .calls-stored .past;
+    answers-past = kept .answers-stored .past;
+  }
+
+  -- they fit
+  pub not-full : ¬ Full run (length calls) (length answers)
+  not-full f = ⊎-elim
+      (λ o. omega (arith, counts-outnumbers (Calls run) n (room 2 (length calls)) (finished .calls-counted) .0 o, kept .calls-stored .fits, kept .calls-stored .most))
+      (λ o. omega (arith, counts-outnumbers (Answers run) m (room 19 (length answers)) (finished .answers-counted) .0 o, kept .answers-stored .fits, kept .answers-stored .most))
+      f
+
+  -- the answers of the goal's call record are the ends
+  module _ (row : ℕ) (l : row < n) (k : CallAt (t .calls) row Goal start) where
+    pub goal-ends : (D : State) → HeldAnswer (t .answers) row D ↔ End run D
+    goal-ends D = (
+      λ (x, h, a). exact .ends D .0 (held-answer x h (ap (t .calls .action) (a .has-call) ∙ k .has-action) (ap (t .calls .state) (a .has-call) ∙ k .has-state) (a .has-final)),
+      λ d. let (x, o, f) = exact .ends D .1 d in
+          (x, o .below, record { has-call = row-once (t .calls) (R .valid .calls-once) _ row Goal start (inside-of (R .valid) x (o .below)) l (record { has-action = o .action; has-state = o .state }) k; has-final = f }),
+    )
+
+    pub ends-counted : Counts (End run) (length (finals-below (t .answers) row m))
+    ends-counted = counts-map (length (finals-below (t .answers) row m)) goal-ends (finals-counted (t .answers) row (R .valid .answers-once))

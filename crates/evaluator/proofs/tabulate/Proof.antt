@@ -1,0 +1,90 @@
+-- `tabulate` meets its contract: the goal's call stands first, or there is no room for it. Assumes nothing.
+use Prim.Native.Nat.{ℕ, _≤_}
+use native.Mathlib.Omega.{arith}
+use mathlib.Core.Path.{_≡_, refl, sym, ap, subst, _∙_}
+use mathlib.Core.Bool.{false, true}
+use mathlib.Core.List.{List, [], _∷_}
+use lib.ListN.{length}
+use borrow.Author.Needs.{needs}
+use Rattle.steps.proofs.EachBelow.{true-not-false}
+use Rattle.tabling.specs.Records.{bodies-of, room, calls-in, answers-in}
+use Rattle.tabling.proofs.Storage.{CallPut}
+use Rattle.tabling.proofs.Evidence.{Among, Valid}
+use Rattle.tabling.proofs.Marks.{zeros-stamped}
+use Rattle.tabling.proofs.Going.{in-words}
+use Rattle.tabling.proofs.Filling.{Filled, first-valid, first-full}
+use Rattle.evaluator.proofs.Outcomes.{zeros-stored}
+use Rattle.evaluator.proofs.tabulate.Statement.{statement}
+use Rattle.evaluator.proofs.tabulate.Tie as tie
+
+of-requires : tie.Need-of-requires
+of-requires c κs = search needs
+
+add-call-requires : tie.Need-add-call-requires
+add-call-requires c κs = zeros-stored 2 _ (c .before .before .before .before .before .before .pre .1 .0)
+
+-- the goal's call
+put-at : (c : tie.After-add-call) → CallPut (room 2 (length (c .before .before .before .before .before .before .before .args .calls .now))) (calls-in 2 (c .before .before .before .before .before .before .before .args .calls .now) 0) 64 (c .before .before .before .before .before .before .before .args .start) (calls-in 2 (c .add-call .last .0) (c .add-call .result .count)) (c .add-call .result .row) (c .add-call .result .full)
+put-at c = rw (← c .before .of .ensures .0, ← c .before .of .ensures .1) (c .add-call .ensures .put)
+
+same-length : tie.Need-same-length
+same-length c = search needs
+
+returns : tie.Need-returns
+returns c =
+    let p = c .before .before .before in
+    let i = p .before .before .before .before .before .before .before in
+    let s = p .add-call .ensures in
+    record {
+      calls-long = s .long;
+      answers-long = refl;
+      kept = record { calls-stored = s .stored; answers-stored = zeros-stored 19 _ (i .pre .1 .1) };
+      closed = λ e. absurd (true-not-false e);
+      outgrown = λ e. first-full (bodies-of (i .args .rules .now) (i .args .goal .now)) 64 (i .args .start) _ (calls-in 2 (i .args .calls .now) 0) (calls-in 2 (p .add-call .last .0) (p .add-call .result .count)) _ _ _ (put-at p) (c .if1 .taken) refl;
+    }
+
+-- the first table is valid
+first : (c : tie.Else1) → Valid (bodies-of (c .before .before .before .before .before .before .before .before .before .before .args .rules .now) (c .before .before .before .before .before .before .before .before .before .before .args .goal .now)) (Among ((64, c .before .before .before .before .before .before .before .before .before .before .args .start) ∷ []))
+    (in-words (c .before .before .before .add-call .last .0) (c .before .before .before .add-call .result .count) (c .before .before .before .before .before .before .before .before .before .before .args .answers .now) 0)
+first c =
+    let p = c .before .before .before in
+    let i = p .before .before .before .before .before .before .before in
+    first-valid (bodies-of (i .args .rules .now) (i .args .goal .now)) 64 (i .args .start) _ (calls-in 2 (i .args .calls .now) 0) (calls-in 2 (p .add-call .last .0) (p .add-call .result .count)) (answers-in 19 (i .args .answers .now) 0) _ _ (put-at p) (c .if1 .left) refl refl
+
+slice-aggregate-fill : tie.Need-slice-aggregate-fill
+slice-aggregate-fill c = search needs
+
+fill-requires : tie.Need-fill-requires
+fill-requires c κs =
+    let e = c .before .before .before in
+    let i = e .before .before .before .before .before .before .before .before .before .before in
+    ((record { calls-stored = e .before .before .before .add-call .ensures .stored; answers-stored = zeros-stored 19 _ (i .pre .1 .1) }, zeros-stamped 65536 0 refl (omega arith), omega arith), (i .pre .0, ((64, i .args .start) ∷ [], first e)))
+
+same-length-2 : tie.Need-same-length-2
+same-length-2 c = search needs
+
+same-length-3 : tie.Need-same-length-3
+same-length-3 c = search needs
+
+returns-2 : tie.Need-returns-2
+returns-2 c =
+    let f = c .before .before .before .before .before in
+    let e = f .before .before .before .before in
+    let i = e .before .before .before .before .before .before .before .before .before .before in
+    let F = f .fill .ensures ((64, i .args .start) ∷ []) (first e) in
+    let long = e .before .before .before .add-call .ensures .long in
+    record { calls-long = F .calls-long ∙ long; answers-long = F .answers-long; kept = F .kept; closed = F .closed; outgrown = λ z. rw long at (F .outgrown z) }
+
+pub tabulate-spec : {M : Type 1} → statement M
+tabulate-spec =
+    tie.close
+    (tie.spec
+    of-requires
+    add-call-requires
+    same-length
+    returns
+    slice-aggregate-fill
+    fill-requires
+    same-length-2
+    same-length-3
+    returns-2)

@@ -1,0 +1,99 @@
+-- The invariants of the nest of loops that fills the tables, and what it leaves. Each loop's invariant starts from the tables (marked ₀)
+-- that stood where that loop began. Assumes nothing.
+use Prim.Native.Nat.{ℕ, _+_, _/_, _≤_}
+use native.Mathlib.Omega.{arith}
+use mathlib.Core.Path.{_≡_, refl, sym, ap, _∙_}
+use mathlib.Core.Bool.{Bool, true, false}
+use mathlib.Core.List.{List, [], _∷_, List·Memᴰ·head, List·Memᴰ·eq-of-singleton}
+use mathlib.Core.Logic.{inl}
+use lib.ListN.{length}
+use Rattle.steps.specs.State.{State}
+use Rattle.steps.proofs.EachBelow.{true-not-false}
+use Rattle.steps.proofs.Deductions.{Does}
+use Rattle.steps.proofs.Tables.{Reached}
+use Rattle.steps.proofs.Rows.{table-full}
+use Rattle.tabling.specs.Records.{Calls, Answers, Bodies, room, bodies-of}
+use Rattle.tabling.proofs.Storage.{CallAt, CallPut, call-stood, call-added, call-no-room}
+use Rattle.tabling.proofs.Growth.{tables}
+use Rattle.tabling.proofs.Justification.{Has}
+use Rattle.tabling.proofs.Evidence.{Among, Valid}
+use Rattle.tabling.proofs.Marks.{Stamped}
+use Rattle.tabling.proofs.Numbers.{number-at}
+use Rattle.tabling.proofs.Turn.{Outgrown, Given}
+use Rattle.tabling.proofs.Rounds.{Rows, Rules}
+use Rattle.tabling.proofs.Going.{Kept, Going, in-words}
+
+-- The words of both tables keep their lengths and their order.
+pub record Words (calls₀ answers₀ calls : List ℕ) (n : ℕ) (answers : List ℕ) (m : ℕ) : Type 0 where
+  pub calls-long : length calls ≡ length calls₀
+  pub answers-long : length answers ≡ length answers₀
+  pub kept : Kept calls n answers m
+
+module _ (rules goal : List ℕ) (first : ℕ) (calls₀ : List ℕ) (n₀ : ℕ) (answers₀ : List ℕ) (m₀ : ℕ) where
+  -- the rounds
+  pub record Rounding (calls : List ℕ) (n : ℕ) (answers : List ℕ) (m : ℕ) (marks : List ℕ) (walk : ℕ) : Type 0 where
+    pub words : Words calls₀ answers₀ calls n answers m
+    pub stamped : Stamped marks walk
+    pub first-in : first ≤ n
+    pub valid : (roots : List (ℕ × State)) → Valid (bodies-of rules goal) (Among roots) (in-words calls₀ n₀ answers₀ m₀) → Valid (bodies-of rules goal) (Among roots) (in-words calls n answers m)
+
+  -- the call records of a round
+  pub record RowsDone (rows known row : ℕ) (calls : List ℕ) (n : ℕ) (answers : List ℕ) (m : ℕ) (marks : List ℕ) (walk : ℕ) : Type 0 where
+    pub words : Words calls₀ answers₀ calls n answers m
+    pub stamped : Stamped marks walk
+    pub row-low : first ≤ row
+    pub row-in : row ≤ rows
+    pub rows-in : rows ≤ n
+    pub known-in : known ≤ m
+    pub closed : (roots : List (ℕ × State)) → Valid (bodies-of rules goal) (Among roots) (in-words calls₀ n₀ answers₀ m₀)
+        → Rows (bodies-of rules goal) (Among roots) (number-at (length rules / 18)) first rows known row (in-words calls n answers m)
+
+  -- the rules of a call record
+  pub record RulesDone (rows known row rule : ℕ) (calls : List ℕ) (n : ℕ) (answers : List ℕ) (m : ℕ) (marks : List ℕ) (walk : ℕ) : Type 0 where
+    pub words : Words calls₀ answers₀ calls n answers m
+    pub stamped : Stamped marks walk
+    pub rule-in : rule ≤ length rules / 18 + 1
+    pub rows-in : rows ≤ n
+    pub known-in : known ≤ m
+    pub closed : (roots : List (ℕ × State)) → Rows (bodies-of rules goal) (Among roots) (number-at (length rules / 18)) first rows known row (in-words calls₀ n₀ answers₀ m₀)
+        → Rules (bodies-of rules goal) (Among roots) (number-at (length rules / 18)) first rows known row rule (in-words calls n answers m)
+
+  -- the walk of a body
+  pub record Walked (known number row walk : ℕ) (body : List ℕ) (calls : List ℕ) (n : ℕ) (answers : List ℕ) (m : ℕ) (marks chosen rest : List ℕ) (s : State) : Type 0 where
+    pub words : Words calls₀ answers₀ calls n answers m
+    pub going : (roots : List (ℕ × State)) → Given (bodies-of rules goal) (Among roots) (in-words calls₀ n₀ answers₀ m₀) known number row body
+        → Going (bodies-of rules goal) (Among roots) (in-words calls₀ n₀ answers₀ m₀) known number row walk body (in-words calls n answers m) marks chosen rest s
+
+-- Every record from `first` on is closed under all answers, or there are more calls or answers than places.
+pub record Filled (rules goal : List ℕ) (roots : List (ℕ × State)) (first : ℕ) (calls answers calls′ answers′ : List ℕ) (full : Bool) (n m : ℕ) : Type 0 where
+  pub calls-long : length calls′ ≡ length calls
+  pub answers-long : length answers′ ≡ length answers
+  pub kept : Kept calls′ n answers′ m
+  pub closed : full ≡ false → Rows (bodies-of rules goal) (Among roots) (number-at (length rules / 18)) first n m n (in-words calls′ n answers′ m)
+  pub outgrown : full ≡ true → Outgrown (bodies-of rules goal) (Among roots) (room 2 (length calls)) (room 19 (length answers))
+
+-- ---- the first table: the root's call alone
+
+module _ (bodies : Bodies) (a : ℕ) (D : State) where
+  pub first-valid : (places : ℕ) (calls calls′ : Calls) (answers : Answers) (row : ℕ) (full : Bool) → CallPut places calls a D calls′ row full → full ≡ false → calls .count ≡ 0 → answers .count ≡ 0
+      → Valid bodies (Among ((a, D) ∷ [])) (tables calls′ answers)
+  first-valid places calls calls′ answers row full (call-stood f l k z) e n m = absurd (omega arith)
+  first-valid places calls calls′ answers row full (call-no-room f i none z) e n m = absurd (true-not-false (sym f ∙ e))
+  first-valid places calls calls′ answers row full (call-added f i l none p) e n m =
+      let at : CallAt calls′ 0 a D = rw n at (p .new) in
+      record {
+        roots = λ b E r. (let z = List·Memᴰ·eq-of-singleton r in
+            (0, omega (arith, p .count), record { has-action = at .has-action ∙ sym (ap (λ (c : ℕ × State). c .0) z); has-state = at .has-state ∙ sym (ap (λ (c : ℕ × State). c .1) z) }));
+        calls-once = λ i j b E h k x y. omega (arith, p .count);
+        answers-once = λ x y row f h k u v. omega arith;
+        reached = λ i h. (let z : i ≡ 0 = omega (arith, p .count) in rw (z, at .has-action, at .has-state) (inl (List·Memᴰ·head refl)));
+        justified = λ x h. absurd (omega arith);
+      }
+
+  -- no room for it
+  pub first-full : (places : ℕ) (calls calls′ : Calls) (row : ℕ) (full : Bool) (answer-places : ℕ) → CallPut places calls a D calls′ row full → full ≡ true → calls .count ≡ 0 → Outgrown bodies (Among ((a, D) ∷ [])) places answer-places
+  first-full places calls calls′ row full m (call-stood f l k z) e n = absurd (omega arith)
+  first-full places calls calls′ row full m (call-added f i l none p) e n = absurd (true-not-false (sym e ∙ f))
+  first-full places calls calls′ row full m (call-no-room f i none z) e n =
+      let z : places ≡ 0 = omega arith in
+      inl (rw z (table-full (λ (i : ℕ). (a, D)) (λ (c : ℕ × State). Reached Does (Has bodies) (Among ((a, D) ∷ [])) (c .0) (c .1)) 0 (λ i j l k. absurd (omega arith)) (λ i l. absurd (omega arith)) (a, D) (inl (List·Memᴰ·head refl)) (λ i l. absurd (omega arith))))
