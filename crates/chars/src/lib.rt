@@ -1,0 +1,119 @@
+// Bytes of a sheet: kinds, names, lines and fields.
+ghost use mathlib.Core.Path.{_≡_};
+ghost use Prim.Native.Nat.{_≤_, _<_};
+ghost use lib.ListN.{length};
+ghost use lib.Seq.{slice};
+ghost use Rattle.chars.specs.Bytes.{all, sheetByte, isName};
+ghost use Rattle.chars.specs.Places.{same};
+ghost use Rattle.chars.specs.Inner.{byteKind, KindTable, LineEnd, FieldEnd};
+
+// The kind of each byte: `a` lowercase letter, `0` digit or underscore, `!` any other byte of a sheet, `.` no byte of a sheet.
+const KINDS: [u8; 256] =
+    *b".........!!......................!!!!!!!!!!!!!!!0000000000!!!!!!!!!!!!!!!!!!!!!!!!!!!!!!!!!!!!!0!aaaaaaaaaaaaaaaaaaaaaaaaaa!!!!.................................................................................................................................";
+
+const LETTER: u8 = b'a';
+
+const DIGIT: u8 = b'0';
+
+const NONE: u8 = b'.';
+
+// The kind of a byte in the table of kinds.
+fn kind(table: &[u8; 256], b: u8) -> u8
+    requires { ⌜ KindTable (now table) ⌝ }
+    ensures { λ r. ⌜ r ≡ byteKind b ⌝ }
+{
+    table[b as usize]
+}
+
+// Whether all bytes may stand in a sheet.
+pub fn is_clean(s: &[u8]) -> bool
+    ensures { λ r. ⌜ r ≡ all sheetByte (now (s .entry)) ⌝ }
+{
+    let table = KINDS;
+    let mut i = 0;
+    while i < s.len() {
+        if kind(&table, s[i]) == NONE {
+            return false;
+        }
+        i += 1;
+    }
+    true
+}
+
+// Whether the bytes from `from` up to, not including, `to` are a name.
+pub fn is_name(s: &[u8], from: usize, to: usize) -> bool
+    requires { ⌜ (from ≤ to) × (to ≤ length (now s)) ⌝ }
+    ensures { λ r. ⌜ r ≡ isName (slice from to (now (s .entry))) ⌝ }
+{
+    if from == to {
+        return false;
+    }
+    if 16 < to - from {
+        return false;
+    }
+    let table = KINDS;
+    if kind(&table, s[from]) != LETTER {
+        return false;
+    }
+    let mut i = from + 1;
+    while i < to {
+        let k = kind(&table, s[i]);
+        if k != LETTER {
+            if k != DIGIT {
+                return false;
+            }
+        }
+        i += 1;
+    }
+    true
+}
+
+// Where the line from `at` ends: at its LF, or at the sheet's end.
+pub fn line_end(s: &[u8], at: usize) -> usize
+    requires { ⌜ at < length (now s) ⌝ }
+    ensures { λ r. ⌜ LineEnd (now (s .entry)) at r ⌝ }
+{
+    bytes::scan::find(s, at, s.len(), b'\n')
+}
+
+// Where the field from `at` ends, in a line that ends at `to`: at its tab, or at `to`.
+pub fn field_end(s: &[u8], at: usize, to: usize) -> usize
+    requires { ⌜ (at ≤ to) × (to ≤ length (now s)) ⌝ }
+    ensures { λ r. ⌜ FieldEnd (now (s .entry)) at to r ⌝ }
+{
+    bytes::scan::find(s, at, to, b'\t')
+}
+
+// Whether two lists are the same bytes.
+fn same_bytes<'a>(x: &'a [u8], y: &'a [u8]) -> bool
+    ensures { λ r. ⌜ r ≡ same (now (x .entry)) (now (y .entry)) ⌝ }
+{
+    if x.len() != y.len() {
+        return false;
+    }
+    let mut i = 0;
+    while i < x.len() {
+        if x[i] != y[i] {
+            return false;
+        }
+        i += 1;
+    }
+    true
+}
+
+// Whether the part from a up to e is the word w.
+pub fn is_word<'a>(s: &'a [u8], a: usize, e: usize, w: &'a [u8]) -> bool
+    requires { ⌜ (a ≤ e) × (e ≤ length (now s)) ⌝ }
+    ensures { λ r. ⌜ r ≡ same (slice a e (now (s .entry))) (now (w .entry)) ⌝ }
+{
+    same_bytes(&s[a..e], w)
+}
+
+// Whether the parts from a up to e and from f up to t are the same bytes.
+pub fn same_part(s: &[u8], a: usize, e: usize, f: usize, t: usize) -> bool
+    requires { ⌜ (a ≤ e) × (e ≤ length (now s)) ⌝ }
+    requires { ⌜ (f ≤ t) × (t ≤ length (now s)) ⌝ }
+    ensures { λ r. ⌜ r ≡ same (slice a e (now (s .entry))) (slice f t (now (s .entry))) ⌝ }
+{
+    same_bytes(&s[a..e], &s[f..t])
+}

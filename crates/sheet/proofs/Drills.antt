@@ -1,0 +1,90 @@
+-- The drills about sheets, and each refusal from 10 to 19, computed from the definition. Assumes nothing.
+use mathlib.Core.Path.{_≡_, refl}
+use mathlib.Core.List.{List, [], _∷_, _++_, map}
+use Prim.Native.Nat.{ℕ, _<_}
+use native.Mathlib.Omega.{arith}
+use lib.ListN.{length, replicate, length-replicate}
+use borrow.Author.Tests.{lt-leb}
+use Rattle.chars.specs.Bytes.{text, LF}
+use Rattle.sheet.specs.declared.Sheet.{Sheet}
+use Rattle.sheet.specs.Book.{padded, ruleWords}
+use Rattle.sheet.specs.Reader.{readSheet, wholeSheet, refused}
+use Rattle.sheet.specs.Result.{refusal, resultOf, rulesAfter}
+use Rattle.sheet.specs.FluentName.{nowhere, nameSpan}
+use Rattle.sheet.proofs.Results.{sheet-fault}
+
+-- A sheet, the count of rule words lent, and the reader's result.
+pub record Drill : Type 0 where
+  pub sheet : List ℕ
+  pub room : ℕ
+  pub result : Sheet
+
+-- a sheet that is refused, whatever is lent
+abbrev refuses : List ℕ → ℕ → ℕ → Drill
+refuses sheet number line = record { sheet = sheet; room = 0; result = refusal number line }
+
+-- a sheet of fluents and a goal, with no action and no rule
+abbrev reads : List ℕ → ℕ → ℕ → List ℕ → Drill
+reads sheet fluents start goal = record { sheet = sheet; room = 0; result = record { refusal = 0; line = 0; fluents = fluents; actions = 0; rules = 0; start = start; «goal_len» = length goal; goal = padded goal } }
+
+-- the sheet that document 01 prints
+abbrev example : List ℕ
+example = text "fluent\topen\nfluent\tlit\naction\tpurge\naction\tlight\nrule\tpurge\t+open\nrule\tlight\t!purge\t?open\t+lit\t-open\nstart\ngoal\t!light\n"
+
+-- a name of 16 bytes
+abbrev sixteen : List ℕ
+sixteen = text "fluent\tabcdefghijklmnop\nstart\ngoal\n"
+
+pub drills : List Drill
+drills =
+    record { sheet = example; room = 36; result = record { refusal = 0; line = 0; fluents = 2; actions = 2; rules = 2; start = 0; «goal_len» = 1; goal = padded (769 ∷ []) } }
+    -- 10 has a law of its own below
+    ∷ refuses (text "fluent a\n") 11 0
+    ∷ refuses (text "goal") 12 0
+    -- a blank line (D12); a second `start`; a `start` below the goal
+    ∷ refuses (text "\n") 13 1
+    ∷ refuses (text "start\nstart\n") 13 2
+    ∷ refuses (text "start\ngoal\nstart\n") 13 3
+    -- 17 steps (D13), and before their fields are judged
+    ∷ refuses (text "fluent\ta\nstart\ngoal\t+a\t+a\t+a\t+a\t+a\t+a\t+a\t+a\t+a\t+a\t+a\t+a\t+a\t+a\t+a\t+a\t+a\n") 17 3
+    ∷ refuses (text "goal\t\t\t\t\t\t\t\t\t\t\t\t\t\t\t\t\t\n") 17 1
+    -- `goal` and a tab with nothing after (D12); a name of 17 bytes (D13)
+    ∷ refuses (text "goal\t\n") 14 1
+    ∷ refuses (text "fluent\tabcdefghijklmnopq\nstart\ngoal\n") 14 1
+    -- a name defined before; twice in `start`
+    ∷ refuses (text "fluent\ta\naction\ta\n") 15 2
+    ∷ refuses (text "fluent\ta\nstart\ta\ta\ngoal\n") 15 2
+    -- undefined, though twice in `start`; of the wrong kind
+    ∷ refuses (text "fluent\ta\nstart\tb\tb\ngoal\n") 16 2
+    ∷ refuses (text "fluent\ta\nstart\ngoal\t!a\n") 16 3
+    -- the empty sheet (D12); a goal with no `start` above it
+    ∷ refuses [] 18 0
+    ∷ refuses (text "goal\n") 18 0
+    ∷ record { sheet = example; room = 35; result = refusal 19 0 }
+    -- a body of 16 steps and a name of 16 bytes are read (D13)
+    ∷ reads (text "fluent\ta\nstart\ta\ngoal\t+a\t+a\t+a\t+a\t+a\t+a\t+a\t+a\t+a\t+a\t+a\t+a\t+a\t+a\t+a\t+a\n") 1 1 (replicate 16 256)
+    ∷ reads sixteen 1 0 []
+    ∷ []
+
+pub drills-hold : map (λ (d : Drill). resultOf (d .room) (readSheet (d .sheet))) drills ≡ map (λ (d : Drill). d .result) drills
+unfolding drills readSheet resultOf
+drills-hold = refl
+
+-- the example's rule words, with one word lent past them
+pub example-rules : rulesAfter (replicate 37 7) (readSheet example) ≡ ruleWords 0 (256 ∷ []) ++ ruleWords 1 (768 ∷ 0 ∷ 257 ∷ 512 ∷ []) ++ (7 ∷ [])
+unfolding readSheet rulesAfter
+example-rules = refl
+
+-- names: of the example's two fluents, of a number too high, of 16 bytes, of a refused sheet
+pub names-hold : nameSpan example 0 ∷ nameSpan example 1 ∷ nameSpan example 2 ∷ nameSpan sixteen 0 ∷ nameSpan (text "fluent\ta\n") 0 ∷ []
+    ≡ record { at = 7; len = 4 } ∷ record { at = 19; len = 3 } ∷ nowhere ∷ record { at = 7; len = 16 } ∷ nowhere ∷ []
+unfolding nameSpan
+names-hold = refl
+
+-- 10: any sheet of more than 65,536 bytes, as one of 65,537 line ends
+pub whole-too-long : (s : List ℕ) → 65536 < length s → readSheet s ≡ refused 10 0
+unfolding wholeSheet
+whole-too-long s h = sheet-fault s 10 (rw (lt-leb (length s) 65536 h))
+
+pub too-long : readSheet (replicate 65537 LF) ≡ refused 10 0
+too-long = whole-too-long (replicate 65537 LF) (rw (length-replicate {A = ℕ} 65537 LF) (omega arith))

@@ -1,0 +1,69 @@
+-- The fluents through accepted lines: a `fluent` line adds one, and each keeps its number and its name. Assumes nothing.
+use mathlib.Core.Path.{_≡_, refl, ap, sym, _∙_}
+use mathlib.Core.Bool.{Bool, true, false, cond}
+use mathlib.Core.List.{List, [], _∷_, _++_}
+use Prim.Native.Nat.{ℕ, _+_, _<_}
+use native.Mathlib.Omega.{arith}
+use lib.ListN.{length, getD, drop, length-append, List·getD-append}
+use Rattle.chars.specs.Bytes.{text}
+use Rattle.chars.specs.Pieces.{fields}
+use Rattle.chars.specs.Places.{same}
+use Rattle.sheet.specs.declared.lines.Word.{Word}
+use Rattle.sheet.specs.declared.lines.Word.the-variants.{Fluent, Action, Rule, Start, Goal, Other}
+use Rattle.sheet.specs.Book.{Book}
+use Rattle.sheet.specs.Line.{wordOf}
+use Rattle.sheet.specs.Reader.{readLines, written}
+use Rattle.sheet.proofs.AcceptedLines.{Accepted, fluent, action, rule, start, goal, accepted-text, first-accepted, lines-end}
+
+-- the fluents after an accepted line
+abbrev pub after : List (List ℕ) → Word → List (List ℕ) → List (List ℕ)
+after names Fluent fs = names ++ (getD fs 0 [] ∷ [])
+after names Action fs = names
+after names Rule fs = names
+after names Start fs = names
+after names Goal fs = names
+after names Other fs = names
+
+pub fluents-after : (b next : Book) (w : Word) (fs : List (List ℕ)) → Accepted b next fs w → next .names .fluents ≡ after (b .names .fluents) w fs
+fluents-after b next w fs (fluent l n e) = ap (λ (x : Book). x .names .fluents) e
+fluents-after b next w fs (action l e) = ap (λ (x : Book). x .names .fluents) e
+fluents-after b next w fs (rule h s l n u t e) = ap (λ (x : Book). x .names .fluents) e
+fluents-after b next w fs (start s t e) = ap (λ (x : Book). x .names .fluents) e
+fluents-after b next w fs (goal s n t e) = ap (λ (x : Book). x .names .fluents) e
+
+-- a fluent keeps its number and its name
+after-kept : (names : List (List ℕ)) (w : Word) (fs : List (List ℕ)) (i : ℕ) → i < length names → (i < length (after names w fs)) × (getD (after names w fs) i [] ≡ getD names i [])
+after-kept names Fluent fs i l =
+    let n = length-append names (getD fs 0 [] ∷ []) in
+    (omega arith, List·getD-append names (getD fs 0 [] ∷ []) [] i l)
+after-kept names Action fs i l = (l, refl)
+after-kept names Rule fs i l = (l, refl)
+after-kept names Start fs i l = (l, refl)
+after-kept names Goal fs i l = (l, refl)
+after-kept names Other fs i l = (l, refl)
+
+pub fluent-kept : (n : ℕ) (b last : Book) (ls : List (List ℕ)) → readLines n b ls ≡ written last → (i : ℕ) → i < length (b .names .fluents) → getD (last .names .fluents) i [] ≡ getD (b .names .fluents) i []
+fluent-kept n b last [] e i l = ap (λ (x : Book). getD (x .names .fluents) i []) (sym (lines-end n b last e))
+fluent-kept n b last (t ∷ ls) e i l =
+    let (next, h, r) = first-accepted n b last t ls e in
+    let w = wordOf (getD (fields t) 0 []) in
+    let fs = drop 1 (fields t) in
+    let f = fluents-after b next w fs (accepted-text b next t h) in
+    let (m, k) = after-kept (b .names .fluents) w fs i l in
+    fluent-kept (n + 1) next last ls r i (rw f m) ∙ ap (λ (x : List (List ℕ)). getD x i []) f ∙ k
+
+-- the word of a line, by whether its first field is `fluent`
+pub word-fluent : (f : List ℕ) → same f (text "fluent") ≡ true → wordOf f ≡ Fluent
+unfolding wordOf
+word-fluent f e = rw e
+
+pub after-other : (names : List (List ℕ)) (f : List ℕ) (fs : List (List ℕ)) → same f (text "fluent") ≡ false → after names (wordOf f) fs ≡ names
+unfolding wordOf
+after-other names f fs e = rw e (by (same f (text "action")) (same f (text "rule")) (same f (text "start")) (same f (text "goal")))
+  where
+    by : (t u v w : Bool) → after names (cond t Action (cond u Rule (cond v Start (cond w Goal Other)))) fs ≡ names
+    by true u v w = refl
+    by false true v w = refl
+    by false false true w = refl
+    by false false false true = refl
+    by false false false false = refl

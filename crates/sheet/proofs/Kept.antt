@@ -1,0 +1,65 @@
+-- What the code keeps true from line to line. Assumes nothing.
+use mathlib.Core.Path.{_≡_, refl, ap, sym, _∙_}
+use mathlib.Core.Bool.{true}
+use mathlib.Core.List.{List}
+use Prim.Native.Nat.{ℕ}
+use native.Mathlib.Omega.{arith}
+use lib.ListN.{length, take}
+use borrow.Author.Tests.{eq-eqb, ne-eqb}
+use Rattle.sheet.specs.declared.lines.Parse.{Parse}
+use Rattle.sheet.specs.Verdict.{Verdict, refuse, accept}
+use Rattle.sheet.specs.Book.{Symbols, Book, empty, withStart}
+use Rattle.sheet.specs.Reader.{refused, written}
+use Rattle.sheet.specs.Held.{bookOf, symbolsOf, rulesIn, Kept, Answers, begun, outcomeOf}
+use Rattle.sheet.proofs.Verdicts.{answer-no}
+use Rattle.sheet.proofs.NamePlaces.{names-length}
+use Rattle.sheet.proofs.Bodies.{rules-length}
+
+pub refused-answers : (s w : List ℕ) (r : Parse) (k : ℕ) (v : Verdict Book) → r .refusal ≡ k → (k ≡ 0 → ⊥) → v ≡ refuse k → Answers s w r v
+refused-answers s w r k v e h q =
+    let z : r .refusal ≡ 0 → ⊥ = λ y. h (sym e ∙ y) in
+    record {
+      says = answer-no (r .refusal) (bookOf s w r) z ∙ ap (λ (n : ℕ). refuse n) e ∙ sym q;
+      keeps = λ y. absurd (z y);
+    }
+
+pub fluents-length : (s w : List ℕ) (b : Parse) → length (bookOf s w b .names .fluents) ≡ b .names .fluents
+unfolding bookOf symbolsOf
+fluents-length s w b = names-length s (b .names .from) (b .names .to) 0 (b .names .fluents)
+
+pub actions-length : (s w : List ℕ) (b : Parse) → length (bookOf s w b .names .actions) ≡ b .names .actions
+unfolding bookOf symbolsOf
+actions-length s w b = names-length s (b .names .from) (b .names .to) (b .names .fluents) (b .names .actions)
+
+-- the book of b's rest with this stage and these names
+abbrev pub reading : List ℕ → Parse → ℕ → Symbols → Book
+reading w b k y = record { stage = k; names = y; rules = rulesIn w (b .rules); started = b .started; start = b .start .0; goal = take (b .«goal_len») (b .goal) }
+
+pub said : (w : List ℕ) (b : Parse) {k j : ℕ} {y z : Symbols} → k ≡ j → y ≡ z → accept (reading w b k y) ≡ accept (reading w b j z)
+said w b {j = j} {y = y} e f = ap (λ (i : ℕ). accept (reading w b i y)) e ∙ ap (λ (x : Symbols). accept (reading w b j x)) f
+
+-- the book with its start read
+pub said-start : (b : Book) (state : ℕ) {k : ℕ} → k ≡ 4 → accept (record { stage = k; names = b .names; rules = b .rules; started = true; start = state; goal = b .goal }) ≡ accept (withStart b state)
+said-start b state e = ap (λ (k : ℕ). accept (record { stage = k; names = b .names; rules = b .rules; started = true; start = state; goal = b .goal })) e
+
+pub begun-kept : (s : List ℕ) → Kept s begun
+begun-kept s = record {
+  names = record { few-fluents = omega arith; few-actions = omega arith; size-from = refl; size-to = refl; ordered = λ k h. absurd (omega arith); inside = λ k h. absurd (omega arith) };
+  few-rules = omega arith;
+  filled = record { few = omega arith; size = refl; zeros = refl };
+  early = λ e. refl;
+}
+
+pub begun-book : (s w : List ℕ) → bookOf s w begun ≡ empty
+unfolding bookOf
+begun-book s w = refl
+
+pub outcome-ok : (s w : List ℕ) (n : ℕ) (b : Parse) → b .refusal ≡ 0 → outcomeOf s w n b ≡ written (bookOf s w b)
+outcome-ok s w n b e = rw (eq-eqb (b .refusal) 0 e)
+
+pub outcome-no : (s w : List ℕ) (n : ℕ) (b : Parse) → (b .refusal ≡ 0 → ⊥) → outcomeOf s w n b ≡ refused (b .refusal) n
+outcome-no s w n b e = rw (ne-eqb (b .refusal) 0 e)
+
+pub rules-count : (s w : List ℕ) (b : Parse) → length (bookOf s w b .rules) ≡ b .rules
+unfolding bookOf
+rules-count s w b = rules-length w (b .rules)

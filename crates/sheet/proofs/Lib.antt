@@ -1,0 +1,20 @@
+-- Laws of the definitions, for this crate's proofs and those of the crates above.
+pub mod Verdicts
+pub mod FieldVerdicts
+pub mod LineHeads
+pub mod LineVerdicts
+pub mod NamePlaces
+pub mod NamesHeld
+pub mod Bodies
+pub mod Kept
+pub mod Results
+pub mod AcceptedLines
+pub mod Valid
+pub mod ValidSheets
+pub mod Acceptance
+pub mod RefusalNumbers
+pub mod ResultAccepted
+pub mod Spans
+pub mod FluentsKept
+pub mod FluentNames
+pub mod Drills

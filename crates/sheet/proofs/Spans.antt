@@ -1,0 +1,63 @@
+-- The span of a fluent's name, line by line. Assumes nothing.
+use mathlib.Core.Path.{_≡_, refl, ap}
+use mathlib.Core.Bool.{true, false}
+use mathlib.Core.List.{List, [], _∷_}
+use Prim.Native.Nat.{ℕ, _+_, _-_, _≤_, _<_}
+use native.Mathlib.Omega.{arith}
+use lib.ListN.{length, getD}
+use lib.Seq.{slice, length-slice}
+use borrow.Author.Tests.{eq-eqb, ne-eqb, le-ltb, lt-ltb}
+use Rattle.chars.specs.Bytes.{text}
+use Rattle.chars.specs.Pieces.{lines}
+use Rattle.chars.specs.Places.{same}
+use Rattle.chars.specs.Inner.{fieldsFrom, FieldEnd}
+use Rattle.chars.proofs.Fields.{fields-first}
+use Rattle.chars.proofs.Names.{same-length}
+use Rattle.sheet.specs.declared.Span.{Span}
+use Rattle.sheet.specs.Book.{Book}
+use Rattle.sheet.specs.Reader.{readSheet, refused, written}
+use Rattle.sheet.specs.FluentName.{nowhere, nameIn, nameSpan}
+use Rattle.sheet.specs.Held.{fieldSpan}
+
+abbrev span : ℕ → ℕ → Span
+span i n = record { at = i; len = n }
+
+module _ (s : List ℕ) (at e q k : ℕ) (ls : List (List ℕ)) (f : FieldEnd s at e q) (h : at ≤ e) (w : e ≤ length s) where
+  next : at + length (slice at e s) + 1 ≡ e + 1
+  next = let l = length-slice at e s w in omega arith
+
+  pub name-passed : same (slice at q s) (text "fluent") ≡ false → nameIn at k (slice at e s ∷ ls) ≡ nameIn (e + 1) k ls
+  unfolding nameIn
+  name-passed x = rw (← next, fields-first s at e q h f, x, nameIn)
+
+  module _ (x : same (slice at q s) (text "fluent") ≡ true) where
+    pub name-later : (k ≡ 0 → ⊥) → nameIn at k (slice at e s ∷ ls) ≡ nameIn (e + 1) (k - 1) ls
+    unfolding nameIn
+    name-later z = rw (← next, fields-first s at e q h f, x, ne-eqb k 0 z, nameIn)
+
+    pub name-here : k ≡ 0 → nameIn at k (slice at e s ∷ ls) ≡ fieldSpan s q e
+    unfolding nameIn
+    name-here z =
+        let l = same-length (slice at q s) (text "fluent") x in
+        let i = f .within in
+        let m = length-slice at q s (omega arith) in
+        let j : at + 7 ≡ q + 1 = omega (arith, l, m, f .from) in
+        rw (fields-first s at e q h f, x, eq-eqb k 0 z, nameIn, fields-first s at e q h f) (ap (λ (i : ℕ). span i (length (getD (fieldsFrom (q + 1) e s) 0 []))) j)
+
+pub name-nowhere : (at k : ℕ) → nameIn at k [] ≡ nowhere
+unfolding nameIn
+name-nowhere at k = refl
+
+module _ (s : List ℕ) (k : ℕ) where
+  pub span-refused : (n l : ℕ) → readSheet s ≡ refused n l → nameSpan s k ≡ nowhere
+  unfolding nameSpan
+  span-refused n l e = rw (e, nameSpan)
+
+  module _ (b : Book) (e : readSheet s ≡ written b) where
+    pub span-high : length (b .names .fluents) ≤ k → nameSpan s k ≡ nowhere
+    unfolding nameSpan
+    span-high h = rw (e, le-ltb k (length (b .names .fluents)) h, nameSpan)
+
+    pub span-fluent : k < length (b .names .fluents) → nameSpan s k ≡ nameIn 0 k (lines s)
+    unfolding nameSpan
+    span-fluent h = rw (e, lt-ltb k (length (b .names .fluents)) h, nameSpan)

@@ -1,0 +1,92 @@
+-- The book of every accepted sheet is valid: each accepted line keeps it so. Assumes nothing.
+use mathlib.Core.Path.{_≡_, refl, sym, subst⁻¹}
+use mathlib.Core.List.{List, [], _∷_, _++_}
+use Prim.Native.Nat.{ℕ, _+_, _≤_, _<_}
+use native.Mathlib.Omega.{arith}
+use native.Mathlib.Decide.{decLt}
+use lib.Pow.{pow-pos, pow-mono}
+use lib.ListN.{length, getD, drop, length-append, length-drop, List·getD-append}
+use lib.Seq.{getD-append-seam}
+use Rattle.chars.specs.Pieces.{lines, fields}
+use Rattle.sheet.specs.declared.lines.Word.{Word}
+use Rattle.sheet.specs.Book.{Book, Symbols, empty, ruleWords, withFluent, withAction, withRule}
+use Rattle.sheet.specs.Line.{wordOf}
+use Rattle.sheet.specs.Reader.{readLines, readSheet, written}
+use Rattle.sheet.proofs.AcceptedLines.{Accepted, fluent, action, rule, start, goal, accepted-text, first-accepted, sheet-accepted, lines-end}
+use Rattle.sheet.proofs.Valid.{Valid, GoodSteps, GoodRule, steps-more, rule-more, used-below, body-good, start-below}
+
+one-more : {A : Type 0} (xs : List A) (x : A) → length (xs ++ (x ∷ [])) ≡ length xs + 1
+one-more xs x = length-append xs (x ∷ [])
+
+-- one rule more
+rules-more : (f a : ℕ) (rs : List (List ℕ)) (r : List ℕ) → ((i : ℕ) → i < length rs → GoodRule f a (getD rs i [])) → GoodRule f a r → (i : ℕ) → i < length (rs ++ (r ∷ [])) → GoodRule f a (getD (rs ++ (r ∷ [])) i [])
+rules-more f a rs r g h i l = by (decLt i (length rs))
+  where
+    by : Dec (i < length rs) → GoodRule f a (getD (rs ++ (r ∷ [])) i [])
+    by (yes k) = rw (List·getD-append rs (r ∷ []) [] i k) (g i k)
+    by (no k) =
+        let n = one-more rs r in
+        let e : i ≡ length rs = omega arith in
+        rw (e, getD-append-seam rs r [] []) h
+
+module _ (b : Book) (v : Valid b) where
+  -- more names keep rules, goal and start good
+  module _ (y : Symbols) (p : length (b .names .fluents) ≤ length (y .fluents)) (q : length (b .names .actions) ≤ length (y .actions)) where
+    named : (stage : ℕ) → length (y .fluents) ≤ 64 → length (y .actions) ≤ 64 → Valid (record { stage = stage; names = y; rules = b .rules; started = b .started; start = b .start; goal = b .goal })
+    named stage i j = record {
+      few-fluents = i;
+      few-actions = j;
+      few-rules = v .few-rules;
+      rules = λ r l. rule-more _ _ _ _ p q (getD (b .rules) r []) (v .rules r l);
+      goal = steps-more _ _ _ _ p q (b .goal) (v .goal);
+      start = omega (arith, v .start, pow-mono p);
+    }
+
+  valid-fluent : (name : List ℕ) → length (b .names .fluents) < 64 → Valid (withFluent b name)
+  valid-fluent name l =
+      let n = one-more (b .names .fluents) name in
+      named (withFluent b name .names) (omega arith) (omega arith) 0 (omega arith) (v .few-actions)
+
+  valid-action : (name : List ℕ) → length (b .names .actions) < 64 → Valid (withAction b name)
+  valid-action name l =
+      let n = one-more (b .names .actions) name in
+      named (withAction b name .names) (omega arith) (omega arith) 1 (v .few-fluents) (omega arith)
+
+  valid-rule : (head : ℕ) (steps : List ℕ) → length (b .rules) < 256 → head < length (b .names .actions) → GoodSteps (length (b .names .fluents)) (length (b .names .actions)) steps → Valid (withRule b head steps)
+  valid-rule head steps l h g =
+      let n = one-more (b .rules) (ruleWords head steps) in
+      record {
+        few-fluents = v .few-fluents;
+        few-actions = v .few-actions;
+        few-rules = omega arith;
+        rules = rules-more _ _ (b .rules) (ruleWords head steps) (v .rules) (record { head = head; steps = steps; is = refl; action = h; good = g });
+        goal = v .goal;
+        start = v .start;
+      }
+
+  valid-line : (next : Book) (w : Word) (fs : List (List ℕ)) → Accepted b next fs w → Valid next
+  valid-line next w fs (fluent l one e) = subst⁻¹ Valid e (valid-fluent (getD fs 0 []) l)
+  valid-line next w fs (action l e) = subst⁻¹ Valid e (valid-action (getD fs 0 []) l)
+  valid-line next w fs (rule head steps l n u s e) =
+      let d = length-drop 1 fs in
+      let g = body-good (b .names) (v .few-fluents) (v .few-actions) (drop 1 fs) steps (omega arith) s in
+      subst⁻¹ Valid e (valid-rule head steps l (used-below (b .names .actions) (getD fs 0 []) head u) g)
+  valid-line next w fs (start state s e) =
+      let l = start-below (b .names) fs 0 state (pow-pos (length (b .names .fluents))) s in
+      subst⁻¹ Valid e (record { few-fluents = v .few-fluents; few-actions = v .few-actions; few-rules = v .few-rules; rules = v .rules; goal = v .goal; start = l })
+  valid-line next w fs (goal steps n s e) =
+      let g = body-good (b .names) (v .few-fluents) (v .few-actions) fs steps n s in
+      subst⁻¹ Valid e (record { few-fluents = v .few-fluents; few-actions = v .few-actions; few-rules = v .few-rules; rules = v .rules; goal = g; start = v .start })
+
+valid-lines : (n : ℕ) (b last : Book) (ls : List (List ℕ)) → Valid b → readLines n b ls ≡ written last → Valid last
+valid-lines n b last [] v e = subst⁻¹ Valid (sym (lines-end n b last e)) v
+valid-lines n b last (l ∷ ls) v e =
+    let (next, h, r) = first-accepted n b last l ls e in
+    valid-lines (n + 1) next last ls (valid-line b v next (wordOf (getD (fields l) 0 [])) (drop 1 (fields l)) (accepted-text b next l h)) r
+
+empty-valid : Valid empty
+empty-valid = record { few-fluents = omega arith; few-actions = omega arith; few-rules = omega arith; rules = λ r l. absurd (omega arith); goal = record { few = omega arith; each = λ i l. absurd (omega arith) }; start = omega arith }
+
+-- the book of an accepted sheet is valid
+pub sheet-valid : (s : List ℕ) (b : Book) → readSheet s ≡ written b → Valid b
+sheet-valid s b e = valid-lines 1 empty b (lines s) empty-valid (sheet-accepted s b e)

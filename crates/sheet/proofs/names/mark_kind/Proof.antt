@@ -1,0 +1,38 @@
+-- `names::mark_kind` meets its contract, mark by mark. Assumes nothing.
+use mathlib.Core.Path.{sym, ap}
+use borrow.Author.Tests.{ne-eqb}
+use Prim.Native.Nat.{ℕ}
+use Rattle.chars.specs.Places.{byteAt}
+use Rattle.sheet.specs.Field.{marks}
+use Rattle.sheet.proofs.names.mark_kind.Statement.{statement}
+use Rattle.sheet.proofs.names.mark_kind.Tie as tie
+
+returns : tie.Need-returns
+unfolding byteAt
+returns c =
+    ap (λ (m : ℕ). byteAt m marks) (sym (c .match .keys1))
+
+returns-2 : tie.Need-returns-2
+unfolding byteAt
+returns-2 c =
+    ap (λ (m : ℕ). byteAt m marks) (sym (c .match .keys2))
+
+returns-3 : tie.Need-returns-3
+unfolding byteAt
+returns-3 c =
+    ap (λ (m : ℕ). byteAt m marks) (sym (c .match .keys3))
+
+returns-4 : tie.Need-returns-4
+unfolding byteAt
+returns-4 c =
+    ap (λ (m : ℕ). byteAt m marks) (sym (c .match .keys4))
+
+returns-5 : tie.Need-returns-5
+unfolding byteAt
+returns-5 c =
+    let m = c .before .args .mark in
+    let r = c .match .rest in
+    rw (ne-eqb 63 m (λ e. r .0 .0 .0 .1 (sym e)), ne-eqb 43 m (λ e. r .0 .0 .1 (sym e)), ne-eqb 45 m (λ e. r .0 .1 (sym e)), ne-eqb 33 m (λ e. r .1 (sym e)))
+
+pub mark-kind-spec : {M : Type 1} → statement M
+mark-kind-spec = tie.close (tie.spec returns returns-2 returns-3 returns-4 returns-5)

@@ -1,0 +1,41 @@
+-- Where a fluent's name stands in the sheet. Assumes nothing.
+use Prim.Native.Nat.{ℕ, _+_, _-_}
+use mathlib.Core.Bool.{true, false}
+use mathlib.Core.List.{List, [], _∷_}
+use lib.ListN.{length, getD, take, drop}
+use lib.Dec.{ltb, eqb}
+use Rattle.chars.specs.Bytes.{text}
+use Rattle.chars.specs.Pieces.{lines, fields}
+use Rattle.chars.specs.Places.{same}
+use Rattle.sheet.specs.declared.Span.{Span}
+use Rattle.sheet.specs.Reader.{readSheet, refused, written}
+
+-- The part of a sheet that a span names.
+abbrev pub partOf : List ℕ → Span → List ℕ
+partOf s p = take (p .len) (drop (p .at) s)
+
+abbrev pub nowhere : Span
+nowhere = record { at = 0; len = 0 }
+
+-- The name on `fluent` line k of these lines, counted from 0; the first of the lines begins at `at`.
+-- The name is the field after the word and its tab.
+unfoldable pub nameIn : ℕ → ℕ → List (List ℕ) → Span
+unfolding fields same
+nameIn at k [] = nowhere
+nameIn at k (l ∷ ls) =
+    elim (same (getD (fields l) 0 []) (text "fluent")) [
+      | false ↦ nameIn (at + length l + 1) k ls
+      | true ↦ elim (eqb k 0) [
+        | false ↦ nameIn (at + length l + 1) (k - 1) ls
+        | true ↦ record { at = at + 7; len = length (getD (fields l) 1 []) }
+      ]
+    ]
+
+-- For a number below the count in an accepted sheet, the very part of the sheet that defines the fluent.
+-- For any other sheet or a number too high that part is empty.
+unfoldable pub nameSpan : List ℕ → ℕ → Span
+unfolding readSheet nameIn lines
+nameSpan s k = elim (readSheet s) [
+  | refused number line ↦ nowhere
+  | written b ↦ elim (ltb k (length (b .names .fluents))) [ false ↦ nowhere | true ↦ nameIn 0 k (lines s) ]
+]

@@ -1,0 +1,122 @@
+// The fields of a line after its word: those from p up to e, none where p is past e.
+ghost use mathlib.Core.Path.{_≡_};
+ghost use Prim.Native.Nat.{_+_, _≤_, _<_};
+ghost use lib.ListN.{length};
+ghost use lib.Seq.{slice};
+ghost use Rattle.chars.specs.Inner.{fieldsFrom};
+ghost use Rattle.sheet.specs.Field.{stepWords, startName, startNames};
+ghost use Rattle.sheet.specs.Held.{Held, symbolsOf, answer, stepsOf, Filled};
+use crate::names;
+use crate::names::Names;
+use crate::refusals;
+use steps::state::State;
+
+// How many fields there are.
+pub fn count_fields(s: &[u8], p: usize, e: usize) -> usize
+    requires { ⌜ (p ≤ e + 1) × (e ≤ length (now s)) ⌝ }
+    ensures { λ r. ⌜ r ≡ length (fieldsFrom p e (now (s .entry))) ⌝ }
+{
+    let mut n = 0;
+    let mut at = p;
+    while at <= e {
+        at = chars::field_end(s, at, e) + 1;
+        n += 1;
+    }
+    n
+}
+
+// The words of a body, unused ones zero, or a refusal.
+pub struct Body {
+    pub refusal: u64,
+    pub len: usize,
+    pub words: [u16; 16],
+}
+
+// The words of the steps, at most 16.
+pub fn steps(s: &[u8], p: usize, e: usize, n: Names) -> Body
+    requires { ⌜ Held (now s) n ⌝ }
+    requires { ⌜ (p ≤ e + 1) × (e ≤ length (now s)) ⌝ }
+    requires { ⌜ length (fieldsFrom p e (now s)) ≤ 16 ⌝ }
+    ensures { λ r. ⌜ answer (r .refusal) (stepsOf r) ≡ stepWords (symbolsOf (now (s .entry)) n) (fieldsFrom p e (now (s .entry))) ⌝ }
+    ensures { λ r. ⌜ Filled (r .len) (r .words) ⌝ }
+{
+    let mut words = [0u16; 16];
+    let mut len = 0;
+    let mut at = p;
+    while at <= e {
+        let q = chars::field_end(s, at, e);
+        let w = names::step(s, at, q, n);
+        let r = w.refusal;
+        let v = w.value;
+        if r != 0 {
+            return Body {
+                refusal: r,
+                len: 0,
+                words: [0u16; 16],
+            };
+        }
+        words[len] = v as u16;
+        len += 1;
+        at = q + 1;
+    }
+    Body {
+        refusal: 0,
+        len,
+        words,
+    }
+}
+
+// A state, or a refusal.
+pub struct Started {
+    pub refusal: u64,
+    pub state: State,
+}
+
+// The state with the name of `start` from a up to e, beside that of the names before it.
+fn start_name(s: &[u8], a: usize, e: usize, n: Names, state: State) -> Started
+    requires { ⌜ Held (now s) n ⌝ }
+    requires { ⌜ (a ≤ e) × (e ≤ length (now s)) ⌝ }
+    ensures { λ r. ⌜ answer (r .refusal) (r .state .0) ≡ startName (symbolsOf (now (s .entry)) n) (state .0) (slice a e (now (s .entry))) ⌝ }
+{
+    let fluents = n.fluents;
+    let name = names::used_name(s, a, e, n, 0, fluents);
+    let r = name.refusal;
+    let k = name.value as u64;
+    if r != 0 {
+        return Started {
+            refusal: r,
+            state: State::NOTHING,
+        };
+    }
+    if state.holds(k) {
+        return Started {
+            refusal: refusals::REPEATED,
+            state: State::NOTHING,
+        };
+    }
+    Started {
+        refusal: 0,
+        state: state.insert(k),
+    }
+}
+
+// The state in which the names of `start` hold.
+pub fn start_names(s: &[u8], p: usize, e: usize, n: Names) -> Started
+    requires { ⌜ Held (now s) n ⌝ }
+    requires { ⌜ (p ≤ e + 1) × (e ≤ length (now s)) ⌝ }
+    ensures { λ r. ⌜ answer (r .refusal) (r .state .0) ≡ startNames (symbolsOf (now (s .entry)) n) 0 (fieldsFrom p e (now (s .entry))) ⌝ }
+{
+    let mut state = State::NOTHING;
+    let mut at = p;
+    while at <= e {
+        let q = chars::field_end(s, at, e);
+        let got = start_name(s, at, q, n, state);
+        let r = got.refusal;
+        if r != 0 {
+            return got;
+        }
+        state = got.state;
+        at = q + 1;
+    }
+    Started { refusal: 0, state }
+}
