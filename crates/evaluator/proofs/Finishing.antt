@@ -9,7 +9,7 @@ use Rattle.steps.specs.State.{State}
 use Rattle.steps.specs.Run.{Run, Goal, Call, Answer, End}
 use Rattle.steps.specs.Words.{run-of}
 use Rattle.steps.specs.Counting.{Counts}
-use Rattle.steps.proofs.AcceptanceLaws.{Accepted}
+use Rattle.steps.proofs.AcceptanceLaws.{AcceptedWords}
 use Rattle.steps.proofs.Counting.{counts-map, counts-outnumbers}
 use Rattle.steps.proofs.Rows.{table-counts}
 use Rattle.steps.proofs.Exactness.{Exact}
@@ -29,7 +29,7 @@ use Rattle.tabling.proofs.FinalsLaws.{finals-counted}
 use Rattle.evaluator.specs.Full.{Calls, Answers, Full}
 use Rattle.evaluator.specs.Finished.{Finished}
 
-module _ {fluents actions : ℕ} (rules goal : List ℕ) (start : State) (acc : Accepted fluents actions rules goal) (calls : List ℕ) (n : ℕ) (answers : List ℕ) (m : ℕ)
+module _ {fluents actions : ℕ} (rules goal : List ℕ) (start : State) (acc : AcceptedWords fluents actions rules goal) (calls : List ℕ) (n : ℕ) (answers : List ℕ) (m : ℕ)
     (kept : Kept calls n answers m)
     (R : Rows (bodies-of rules goal) (Among (the-root rules goal start acc)) (number-at (length rules / 18)) 0 n m n (in-words calls n answers m)) where
   abbrev t : Tables

@@ -11,7 +11,7 @@ use lib.ListN.{length, getD, drop, replicate, length-replicate}
 use Rattle.steps.specs.State.{State}
 use Rattle.steps.specs.Run.{Goal, End}
 use Rattle.steps.specs.Counting.{Counts}
-use Rattle.steps.proofs.AcceptanceLaws.{Accepted, start-accepted}
+use Rattle.steps.proofs.AcceptanceLaws.{AcceptedWords, start-accepted}
 use Rattle.steps.proofs.Counting.{counts-unique}
 use Rattle.tabling.specs.Records.{calls-in, answers-in, bodies-of, room}
 use Rattle.tabling.proofs.Storage.{Stored, CallAt, FindCall, HeldAnswer}
@@ -41,7 +41,7 @@ zero-long n e = ap length e ∙ length-replicate {A = ℕ} n 0
 
 module _ (q : Asked) (before : Lent) (ok : refused-with q ≡ 0) {calls₀ answers₀ : List ℕ} (cl : length calls₀ ≡ length (before .calls)) (al : length answers₀ ≡ length (before .answers))
     {calls answers : List ℕ} {full : Bool} {n m : ℕ} (F : Filled (q .rules) (q .goal) ((Goal, q .start) ∷ []) 0 calls₀ answers₀ calls answers full n m) where
-  acc : Accepted (q .fluents) (q .actions) (q .rules) (q .goal)
+  acc : AcceptedWords (q .fluents) (q .actions) (q .rules) (q .goal)
   acc = start-accepted (q .fluents) (q .actions) (q .rules) (q .goal) (q .start) ok .0
 
   -- 30

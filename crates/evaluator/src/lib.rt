@@ -16,13 +16,17 @@ ghost use mathlib.Core.Path.{_≡_};
 ghost use mathlib.Core.List.{List, [], _∷_};
 ghost use Prim.Native.Nat.{ℕ, _+_, _<_, _≤_};
 ghost use lib.ListN.{length, replicate};
-ghost use Rattle.steps.proofs.AcceptanceLaws.{Accepted};
+ghost use Rattle.steps.proofs.AcceptanceLaws.{AcceptedWords};
 ghost use Rattle.tabling.specs.Records.{bodies-of};
 ghost use Rattle.tabling.proofs.Evidence.{Among, Valid};
 ghost use Rattle.tabling.proofs.Marks.{Stamped};
 ghost use Rattle.tabling.proofs.Going.{Kept, in-words};
 ghost use Rattle.tabling.proofs.Filling.{Filled};
 ghost use Rattle.evaluator.specs.Evaluated.{Evaluated, asked, lent, told};
+
+// The refusals of a run that is accepted.
+pub const TABLE_FULL: u64 = 30;
+pub const LIST_SHORT: u64 = 31;
 
 // The refusal, 0 for none, and the counts of ends, calls and answers.
 pub struct Run {
@@ -51,7 +55,7 @@ fn fill<'a>(
     marks: &mut [u64],
 ) -> Counted
     requires { ⌜ Kept (now calls) n0 (now answers) m0 × Stamped (now marks) 0 × (first ≤ n0) ⌝ }
-    requires { ⌜ ((fluents : ℕ) × (actions : ℕ) × Accepted fluents actions (now rules) (now goal)) ⌝ }
+    requires { ⌜ ((fluents : ℕ) × (actions : ℕ) × AcceptedWords fluents actions (now rules) (now goal)) ⌝ }
     requires { ⌜ ((roots : List (ℕ × ℕ)) × Valid (bodies-of (now rules) (now goal)) (Among roots) (in-words (now calls) n0 (now answers) m0)) ⌝ }
     ensures { λ r. ⌜ ((roots : List (ℕ × ℕ)) → Valid (bodies-of (now (rules .entry)) (now (goal .entry))) (Among roots) (in-words (now (calls .entry)) n0 (now (answers .entry)) m0)
         → Filled (now (rules .entry)) (now (goal .entry)) roots first (now (calls .entry)) (now (answers .entry)) (now (calls .exit)) (now (answers .exit)) (r .full) (r .calls) (r .answers)) ⌝ }
@@ -138,11 +142,11 @@ fn tabulate<'a>(
     calls: &mut [u64],
     answers: &mut [u64],
 ) -> Counted
-    requires { ⌜ ((fluents : ℕ) × (actions : ℕ) × Accepted fluents actions (now rules) (now goal)) ⌝ }
+    requires { ⌜ ((fluents : ℕ) × (actions : ℕ) × AcceptedWords fluents actions (now rules) (now goal)) ⌝ }
     requires { ⌜ (now calls ≡ replicate (length (now calls)) 0) × (now answers ≡ replicate (length (now answers)) 0) ⌝ }
     ensures { λ r. ⌜ Filled (now (rules .entry)) (now (goal .entry)) ((64, start) ∷ []) 0 (now (calls .entry)) (now (answers .entry)) (now (calls .exit)) (now (answers .exit)) (r .full) (r .calls) (r .answers) ⌝ }
 {
-    let put = tables::add_call(calls, 0, Call::of(Call::GOAL, start));
+    let put = tables::add_call(calls, 0, Call::goal(start));
     let count = put.count;
     if put.full {
         return Counted {
@@ -188,17 +192,17 @@ pub fn evaluate<'a>(
         tables::clear(calls);
         tables::clear(answers);
         return Run {
-            refusal: 30,
+            refusal: TABLE_FULL,
             ends: 0,
             calls: 0,
             answers: 0,
         };
     }
-    let row = tables::find_call(calls, n, Call::of(Call::GOAL, start)) as u64;
+    let row = tables::find_call(calls, n, Call::goal(start)) as u64;
     let found = ends::count(answers, m, row);
     if (ends.len() as u64) < found {
         return Run {
-            refusal: 31,
+            refusal: LIST_SHORT,
             ends: found,
             calls: n as u64,
             answers: m as u64,

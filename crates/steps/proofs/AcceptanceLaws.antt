@@ -34,7 +34,7 @@ Indexed fluents actions (delete p) = p < fluents
 Indexed fluents actions (call a) = a < actions
 
 -- rule words and goal that meet none of 20 to 23
-pub record Accepted (fluents actions : ℕ) (rules goal : List ℕ) : Type 0 where
+pub record AcceptedWords (fluents actions : ℕ) (rules goal : List ℕ) : Type 0 where
   pub few-fluents : fluents ≤ 64
   pub few-actions : actions ≤ 64
   pub whole : length rules % 18 ≡ 0
@@ -65,7 +65,7 @@ rule-good fluents actions rules r e =
       λ i l. rw (lt-ltb i (count-of rules r) l) at (each-at (λ i. good-word fluents actions (count-of rules r) i (getD rules (18 * r + 2 + i) 0)) 16 ws i (omega arith)),
     )
 
-pub accepted : (fluents actions : ℕ) (rules goal : List ℕ) → words-refusal fluents actions rules goal ≡ 0 → Accepted fluents actions rules goal
+pub accepted : (fluents actions : ℕ) (rules goal : List ℕ) → words-refusal fluents actions rules goal ≡ 0 → AcceptedWords fluents actions rules goal
 unfolding words-refusal bad-counts bad-length bad-rules bad-goal
 accepted fluents actions rules goal e =
     let (c, e₁) = next-test (bad-counts fluents actions) 20 _ (λ z. omega arith) e in
@@ -90,12 +90,12 @@ accepted fluents actions rules goal e =
 
 -- none of 20 to 24: none of 20 to 23, and the start has no bit at or above the fluent count
 pub start-accepted : (fluents actions : ℕ) (rules goal : List ℕ) (start : ℕ) → refusal-of fluents actions rules goal start ≡ 0
-    → Accepted fluents actions rules goal × (start < 2 ^ fluents)
+    → AcceptedWords fluents actions rules goal × (start < 2 ^ fluents)
 unfolding refusal-of bad-start
 start-accepted fluents actions rules goal start e = by (eqb (words-refusal fluents actions rules goal) 0) refl e
   where
     by : (b : Bool) → eqb (words-refusal fluents actions rules goal) 0 ≡ b → cond b (cond (bad-start fluents start) 24 0) (words-refusal fluents actions rules goal) ≡ 0
-        → Accepted fluents actions rules goal × (start < 2 ^ fluents)
+        → AcceptedWords fluents actions rules goal × (start < 2 ^ fluents)
     by true f h =
         let z = eqb-true (words-refusal fluents actions rules goal) 0 f in
         let (s, _) = next-test (bad-start fluents start) 24 0 (λ z. omega arith) h in
@@ -133,7 +133,7 @@ words-indexed fluents actions ws good x m =
     let (i, l, f) = member-at 0 n in
     subst (Indexed fluents actions) (ap step-of f ∙ e) (good-indexed fluents actions (getD ws i 0) (good i l))
 
-module _ {fluents actions : ℕ} {rules goal : List ℕ} (acc : Accepted fluents actions rules goal) where
+module _ {fluents actions : ℕ} {rules goal : List ℕ} (acc : AcceptedWords fluents actions rules goal) where
   pub rule-step : (r i : ℕ) → r < length rules / 18 → i < length (words-of rules r) → good-step fluents actions (getD (words-of rules r) i 0) ≡ true
   rule-step r i h l =
       let b : i < count-of rules r = omega (arith, words-short rules r) in

@@ -55,10 +55,16 @@ module _ {book : Book} where
   deduce-join done q = q
   deduce-join (move m p) q = move m (deduce-join p q)
 
-  does-move : {s : Step} {D D₁ : State} {rest : Body} → Does s D D₁ → Move book (D ⊢ s ∷ rest) (D₁ ⊢ rest)
+  pub does-move : {s : Step} {D D₁ : State} {rest : Body} → Does s D D₁ → Move book (D ⊢ s ∷ rest) (D₁ ⊢ rest)
   does-move (asks h) = queries h
   does-move adds = inserts
   does-move drops = deletes
+
+  pub move-does : {s : Step} {D D₁ : State} {rest ys : Body} → ((a : ℕ) → s ≡ call a → ⊥) → Move book (D ⊢ s ∷ rest) (D₁ ⊢ ys) → Does s D D₁
+  move-does no-call (queries h) = asks h
+  move-does no-call inserts = adds
+  move-does no-call deletes = drops
+  move-does no-call (calls {a = a} r m e) = absurd (no-call a refl)
 
   -- a deduction of a rule's body, then of the rest, is one of the call and the rest
   through-call : {a : ℕ} {D D₁ : State} {body rest : Body} {S : Sequent} → RuleOf book a body → Final book D body D₁ → Deduction book (D₁ ⊢ rest) S

@@ -10,7 +10,7 @@ use borrow.Author.Tests.{eqb-true, eqb-false, eq-eqb}
 use Rattle.steps.specs.State.{State}
 use Rattle.steps.specs.Step.{Step, call, Body, Rule}
 use Rattle.steps.specs.Deduction.{Final}
-use Rattle.steps.specs.Run.{Run, Goal, Call, asked, Answer, End}
+use Rattle.steps.specs.Run.{Run, Goal, Call, body-of-call, Answer, End}
 use Rattle.steps.proofs.Execution.{Runs, ended, does, uses, Comes, here, past, inside, after, Ends, runs-map, comes-map}
 use Rattle.steps.proofs.Deductions.{Does, RuleOf, rule, to-runs, of-runs, to-comes, of-comes}
 use Rattle.steps.proofs.Tables as tables
@@ -87,14 +87,14 @@ module _ {run : Run} (separate : Separate run) where
   call-reached (inr (rest, d)) = inr (Goal, run .start, run .goal, (refl, refl), of-goal refl, comes-map rule-body (to-comes d))
 
   -- the final states of a call's bodies are the call's
-  pub ends-final : {a : ℕ} {D D′ : State} → Ends Does (BodyOf run) a D D′ → Final (run .book) D (asked run a) D′
+  pub ends-final : {a : ℕ} {D D′ : State} → Ends Does (BodyOf run) a D D′ → Final (run .book) D (body-of-call run a) D′
   ends-final {a} {D} {D′} (body, h, p) = by (eqb a Goal) refl
     where
       by : (b : Bool) → eqb a Goal ≡ b → Final (run .book) D (cond b (run .goal) (call a ∷ [])) D′
       by true e = of-runs (rule-runs (separate .goal) (goal-body (λ (body : Body). Runs Does (BodyOf run) D body D′) (eqb-true a Goal e) h p))
       by false e = let (r, apart) = body-rule (eqb-false a Goal e) h in of-runs (uses r (rule-runs apart p) ended)
 
-  pub final-ends : {a : ℕ} {D D′ : State} → Final (run .book) D (asked run a) D′ → Ends Does (BodyOf run) a D D′
+  pub final-ends : {a : ℕ} {D D′ : State} → Final (run .book) D (body-of-call run a) D′ → Ends Does (BodyOf run) a D D′
   final-ends {a} {D} {D′} d = by (eqb a Goal) refl d
     where
       one : {E : State} → Runs Does (RuleOf (run .book)) D (call a ∷ []) E → Ends Does (BodyOf run) a D E

@@ -11,6 +11,3 @@ pub mod Rows
 pub mod Lists
 pub mod WordLaws
 pub mod AcceptanceLaws
-pub mod ListTests
-pub mod Certified
-pub mod Drills

@@ -1,15 +1,15 @@
 -- Laws of a state's bits. Assumes nothing.
 use Prim.Native.Nat.{ℕ, zero, suc, _+_, _-_, _*_, _/_, _%_, _^_, _<_, _≤_}
-use mathlib.Core.Bool.{Bool, true, false}
+use mathlib.Core.Bool.{Bool, true, false, cond, not, _||_, _&&_}
 use mathlib.Core.Path.{_≡_, refl, sym, ap, subst, _∙_}
 use native.Mathlib.Nat.{div-eq-of-lt, div-lt-iff-lt-mul, lt-div-mul-add, mul-le-mul-right, add-mul, add-div-right, add-mul-div-right, le-div-iff-mul-le, mod-lt, pow-suc, one-mul}
 use native.Mathlib.Omega.{arith}
-use native.Mathlib.Decide.{decLt}
+use native.Mathlib.Decide.{decLt, ℕ-discrete}
 use lib.Pow.{pow-pos, pow-mono, pow-add, split, field, shl-exact}
 use lib.Arith.{digits-div, mod-mul, lt-of-le-ne}
-use lib.Dec.{ltb, lit<}
-use borrow.Author.Tests.{ltb-true, ltb-false, eqb-true, eqb-false}
-use Rattle.steps.specs.State.{bit, holds}
+use lib.Dec.{eqb, ltb, lit<}
+use borrow.Author.Tests.{ltb-true, ltb-false, eqb-true, eqb-false, eq-eqb, ne-eqb}
+use Rattle.steps.specs.State.{bit, holds, added, removed}
 
 room-at : (s p x : ℕ) → 0 < p → s < x * 2 * p → s / p % 2 ≡ 0 → s + p < x * 2 * p
 room-at s p x pos h e =
@@ -60,7 +60,7 @@ set-by s k j ne e false q = set-above s k j (lt-of-le-ne (ltb-false j k q) (λ z
 pub set-other : (s k j : ℕ) → (j ≡ k → ⊥) → bit s k ≡ 0 → bit (s + 2 ^ k) j ≡ bit s j
 set-other s k j ne e = set-by s k j ne e (ltb j k) refl
 
--- a state with bit k is at least 2 ^ k, and without it has bit k clear
+-- a state with bit k is at least 2 ^ k
 pub has : (s k : ℕ) → bit s k ≡ 1 → 2 ^ k ≤ s
 has s k e =
     let q : 1 ≤ s / 2 ^ k = omega arith in
@@ -95,3 +95,23 @@ not-held s k e =
 -- the machine's `1 << k`
 pub one-shl : (k : ℕ) → k < 64 → 1 * 2 ^ k % 2 ^ 64 ≡ 2 ^ k
 one-shl k h = shl-exact {a = 1} 1 k 64 (lit< tt) (omega arith) ∙ one-mul (2 ^ k)
+
+-- ---- updates as sets: fluent k is added to, or removed from, what holds
+
+pub holds-added : (s k j : ℕ) → holds (added s k) j ≡ (eqb j k || holds s j)
+holds-added s k j = by (holds s k) refl (ℕ-discrete j k)
+  where
+    by : (b : Bool) → holds s k ≡ b → Dec (j ≡ k) → holds (cond b s (s + 2 ^ k)) j ≡ (eqb j k || holds s j)
+    by true e (yes z) = rw (eq-eqb j k z, z) e
+    by true e (no n) = rw (ne-eqb j k n) refl
+    by false e (yes z) = rw (eq-eqb j k z, z) (ap (λ (b : ℕ). eqb b 1) (set-same s k (not-held s k e)))
+    by false e (no n) = rw (ne-eqb j k n) (ap (λ (b : ℕ). eqb b 1) (set-other s k j n (not-held s k e)))
+
+pub holds-removed : (s k j : ℕ) → holds (removed s k) j ≡ (not (eqb j k) && holds s j)
+holds-removed s k j = by (holds s k) refl (ℕ-discrete j k)
+  where
+    by : (b : Bool) → holds s k ≡ b → Dec (j ≡ k) → holds (cond b (s - 2 ^ k) s) j ≡ (not (eqb j k) && holds s j)
+    by true e (yes z) = rw (eq-eqb j k z, z) (ap (λ (b : ℕ). eqb b 1) (clear-same s k (held s k e)))
+    by true e (no n) = rw (ne-eqb j k n) (ap (λ (b : ℕ). eqb b 1) (clear-other s k j n (held s k e)))
+    by false e (yes z) = rw (eq-eqb j k z, z) e
+    by false e (no n) = rw (ne-eqb j k n) refl

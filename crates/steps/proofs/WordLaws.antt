@@ -4,15 +4,17 @@ use native.Mathlib.Omega.{arith}
 use native.Mathlib.Nat.{le-of-suc-le-suc}
 use mathlib.Core.Path.{_≡_, refl, ap, subst, _∙_}
 use mathlib.Core.Bool.{Bool, true, false, cond}
+use mathlib.Core.Logic.{_↔_}
 use mathlib.Core.List.{List, [], _∷_, List·Memᴰ, List·Memᴰ·head, List·Memᴰ·tail, List·Memᴰ·not-nil}
 use lib.ListN.{getD, take, drop, length, length-take}
 use lib.Dec.{ltb}
 use borrow.Author.Tests.{lt-ltb}
 use Rattle.steps.specs.State.{State, holds, added, removed}
-use Rattle.steps.specs.Step.{Step, query, insert, delete, call, Rule}
+use Rattle.steps.specs.Step.{Step, query, insert, delete, call, Body, Rule, Book}
+use Rattle.steps.specs.Deduction.{_⊢_, Move}
 use Rattle.steps.specs.Words.{step-by, step-of, count-of, words-of, rule-of, rules-from}
 use Rattle.steps.specs.Elementary.{Onward, on, stuck, elementary}
-use Rattle.steps.proofs.Deductions.{Does, asks, adds, drops}
+use Rattle.steps.proofs.Deductions.{Does, asks, adds, drops, does-move, move-does}
 
 -- ---- calls
 
@@ -23,7 +25,7 @@ call-by (suc zero) i l = absurd (omega arith)
 call-by (suc (suc zero)) i l = absurd (omega arith)
 call-by (suc (suc (suc k))) i l = refl
 
--- a word of kind 3 is a call of its index
+-- a word from kind 3 on is a call of its index
 pub call-word : (w : ℕ) → 2 < w / 256 → step-of w ≡ call (w % 256)
 call-word w l = call-by (w / 256) (w % 256) l
 
@@ -73,6 +75,10 @@ unfolding elementary
 does-elementary (query p) s t l (asks h) = rw h refl
 does-elementary (insert p) s t l adds = rw (lt-ltb p 64 l) refl
 does-elementary (delete p) s t l drops = refl
+
+-- An elementary step is the move of its step in front.
+pub elementary-move : (book : Book) (x : Step) (s t : State) (rest : Body) → Low x → ((a : ℕ) → x ≡ call a → ⊥) → (elementary x s ≡ on t) ↔ Move book (s ⊢ x ∷ rest) (t ⊢ rest)
+elementary-move book x s t rest low no-call = (λ e. does-move (elementary-does x s t e), λ m. does-elementary x s t low (move-does no-call m))
 
 -- ---- the book
 

@@ -1,5 +1,6 @@
--- Which rules, goal and start are accepted: the refusals 20 to 24, computed in the order of document 01's table. Assumes nothing.
+-- Which rules, goal and start are accepted: the refusals 20 to 24, computed in the order of the table "Refusals by place". Assumes nothing.
 use Prim.Native.Nat.{ℕ, zero, suc, _+_, _*_, _/_, _%_, _^_}
+use mathlib.Core.Path.{_≡_}
 use mathlib.Core.Bool.{Bool, true, false, cond, not, _&&_, _||_}
 use mathlib.Core.List.{List}
 use lib.ListN.{getD, length}
@@ -53,9 +54,13 @@ words-refusal fluents actions rules goal =
     (cond (bad-goal fluents actions goal) 23
     0)))
 
--- The first of 20 to 24 that is met, down the table, or 0: then rules, goal and start are accepted.
+-- The first of 20 to 24 that is met, down the table, or 0.
 unfoldable pub refusal-of : ℕ → ℕ → List ℕ → List ℕ → ℕ → ℕ
 refusal-of fluents actions rules goal start =
     cond (eqb (words-refusal fluents actions rules goal) 0)
     (cond (bad-start fluents start) 24 0)
     (words-refusal fluents actions rules goal)
+
+-- "Rules, goal and start are accepted if they meet none of 20 to 24."
+abbrev pub Accepted : ℕ → ℕ → List ℕ → List ℕ → ℕ → Type 0
+Accepted fluents actions rules goal start = refusal-of fluents actions rules goal start ≡ 0

@@ -11,15 +11,15 @@ module _ {A : Type 0} where
     none : Distinct []
     more : {x : A} {xs : List A} → ((y : A) → List·Memᴰ y xs → y ≢ x) → Distinct xs → Distinct (x ∷ xs)
 
-  -- Exactly n things satisfy P: a list without repeats holds just these and has length n.
+  -- A count (of ends, call records, answer records): exactly n things satisfy P, as a list without repeats holds just these and has length n.
   abbrev pub Counts : (A → Type 0) → ℕ → Type 0
   Counts P n = (xs : List A) × Distinct xs × ((x : A) → List·Memᴰ x xs ↔ P x) × (length xs ≡ n)
 
-  -- The things that satisfy P outnumber n: a list without repeats holds n + 1 of them.
+  -- "Outnumber" (refusal 30): a list without repeats holds n + 1 things that satisfy P.
   abbrev pub Outnumbers : (A → Type 0) → ℕ → Type 0
   Outnumbers P n = (xs : List A) × Distinct xs × ((x : A) → List·Memᴰ x xs → P x) × (length xs ≡ n + 1)
 
--- Rising order, without repeats: each number is less than all behind it.
+-- "The list rises and has no repeats": each number is less than all behind it.
 pub data Rising : List ℕ → Type 0 where
   rising-nil : Rising []
   rising-cons : {x : ℕ} {xs : List ℕ} → ((y : ℕ) → List·Memᴰ y xs → x < y) → Rising xs → Rising (x ∷ xs)

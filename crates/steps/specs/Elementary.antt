@@ -1,4 +1,4 @@
--- One elementary step as the code gives it. Assumes nothing.
+-- One elementary step, computed: the moves of a query, an insert and a delete. The law `elementary-move` ties it to the moves. Assumes nothing.
 use Prim.Native.Nat.{ℕ}
 use mathlib.Core.Bool.{cond}
 use lib.Dec.{ltb}
@@ -10,7 +10,7 @@ pub data Onward : Type 0 where
   on : State → Onward
   stuck : Onward
 
--- The moves of a query, an insert and a delete. A call is no elementary step, and a state has no fluent 64 to insert: these have no continuation here.
+-- A call is no elementary step, and a 64-bit state has no fluent from 64 on to insert (an accepted step names none): these have no continuation here.
 unfoldable pub elementary : Step → State → Onward
 elementary (query p) s = cond (holds s p) (on s) stuck
 elementary (insert p) s = cond (ltb p 64) (on (added s p)) stuck

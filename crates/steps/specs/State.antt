@@ -1,9 +1,9 @@
--- States, and what an update makes of one. Assumes nothing.
+-- States, and what an update makes of one (document 01, "What the logic says"). Assumes nothing.
 use Prim.Native.Nat.{ℕ, _+_, _-_, _/_, _%_, _^_}
 use mathlib.Core.Bool.{Bool, cond}
-use lib.Dec.{eqb}
+use lib.Dec.{eqb, ltb}
 
--- A state is a set of fluents, held as a number.
+-- "A state is a set of at most 64 fluents, held as an unsigned 64-bit number": that it has 64 is what acceptance gives.
 abbrev pub State : Type 0
 State = ℕ
 
@@ -11,14 +11,18 @@ State = ℕ
 abbrev pub bit : State → ℕ → ℕ
 bit s k = s / 2 ^ k % 2
 
--- Fluent k holds exactly if bit k is set.
+-- "Fluent k holds exactly if bit k is set."
 abbrev pub holds : State → ℕ → Bool
 holds s k = eqb (bit s k) 1
 
--- The state with fluent k added; the same state where k held already.
+-- "The state with p added", also where p held already.
 abbrev pub added : State → ℕ → State
 added s k = cond (holds s k) s (s + 2 ^ k)
 
--- The state with fluent k removed; the same state where k did not hold.
+-- "The state with p removed", also where p did not hold.
 abbrev pub removed : State → ℕ → State
 removed s k = cond (holds s k) (s - 2 ^ k) s
+
+-- What the code makes of an insert of any number: a 64-bit state has no fluent from 64 on, and is handed back as it is.
+abbrev pub inserted : State → ℕ → State
+inserted s k = cond (ltb k 64) (added s k) s

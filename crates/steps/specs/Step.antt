@@ -1,20 +1,20 @@
--- Steps, bodies, rules and books of rules. Assumes nothing.
+-- Steps, bodies, rules and books of rules (document 01, "What the logic says"). Assumes nothing.
 use Prim.Native.Nat.{ℕ}
 use mathlib.Core.List.{List}
 
--- A step is a query, an insert or a delete of a fluent, or a call of an action.
+-- "A step is a query, an insert, a delete or a call": the first three of a fluent, the last of an action.
 pub data Step : Type 0 where
   query insert delete call : ℕ → Step
 
--- A body is a list of steps.
+-- "A body is 0 to 16 steps": that it has at most 16 is what acceptance gives.
 abbrev pub Body : Type 0
 Body = List Step
 
--- A rule gives its head, an action, one body.
+-- A rule: its head, an action, and its body.
 pub record Rule : Type 0 where
   pub head : ℕ
   pub body : Body
 
--- A book is the list of rules.
+-- The rules, in order.
 abbrev pub Book : Type 0
 Book = List Rule

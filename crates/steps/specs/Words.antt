@@ -1,43 +1,61 @@
--- The words lent to the evaluator, as steps, bodies and rules. Assumes nothing.
+-- The words lent to the evaluator, as steps, bodies and rules (document 01, "Words lent to the evaluator"). Assumes nothing.
 use Prim.Native.Nat.{ℕ, zero, suc, _+_, _*_, _/_, _%_}
+use mathlib.Core.Bool.{Bool}
 use mathlib.Core.List.{List, [], _∷_, map}
 use lib.ListN.{getD, take, drop, length}
+use lib.Dec.{ltb}
 use Rattle.steps.specs.State.{State}
 use Rattle.steps.specs.Step.{Step, query, insert, delete, call, Body, Rule, Book}
 use Rattle.steps.specs.Run.{Run}
 
--- Kinds: 0 query, 1 insert, 2 delete, 3 call. (A word of another kind is refused, so what it would mean is of no account.)
+-- "Step: a 16-bit word, 256 times kind plus index."
+abbrev pub kind-of : ℕ → ℕ
+kind-of w = w / 256
+
+abbrev pub index-of : ℕ → ℕ
+index-of w = w % 256
+
+-- A word from kind 3 on is a call: an accepted word has no kind above 3.
+abbrev pub is-call : ℕ → Bool
+is-call w = ltb 2 (kind-of w)
+
+-- "Kinds: 0 query, 1 insert, 2 delete, 3 call." (A word of another kind is refused, so what it would mean is of no account.)
 unfoldable pub step-by : ℕ → ℕ → Step
 step-by zero i = query i
 step-by (suc zero) i = insert i
 step-by (suc (suc zero)) i = delete i
 step-by (suc (suc (suc k))) i = call i
 
--- A step word is 256 times its kind plus its index.
+-- The step of a word.
 abbrev pub step-of : ℕ → Step
-step-of w = step-by (w / 256) (w % 256)
+step-of w = step-by (kind-of w) (index-of w)
 
+-- The steps of a list of step words; "goal: 0 to 16 step words".
 abbrev pub body-of : List ℕ → Body
 body-of words = map step-of words
 
--- Rule r is 18 words: head, step count, 16 step words of which the count says how many are used.
+-- "Rule: 18 words: head, step count, 16 step words, unused ones zero." Of rule r, its head,
 abbrev pub head-of : List ℕ → ℕ → ℕ
 head-of rules r = getD rules (18 * r) 0
 
+-- its step count,
 abbrev pub count-of : List ℕ → ℕ → ℕ
 count-of rules r = getD rules (18 * r + 1) 0
 
+-- the step words that are used,
 abbrev pub words-of : List ℕ → ℕ → List ℕ
 words-of rules r = take (count-of rules r) (drop (18 * r + 2) rules)
 
+-- and the rule itself.
 abbrev pub rule-of : List ℕ → ℕ → Rule
 rule-of rules r = record { head = head-of rules r; body = body-of (words-of rules r) }
 
--- Rules are numbered from 0: n rules from number r on.
+-- "Rules are numbered from 0." The n rules from number r on,
 unfoldable pub rules-from : List ℕ → ℕ → ℕ → Book
 rules-from rules r zero = []
 rules-from rules r (suc n) = rule-of rules r ∷ rules-from rules (suc r) n
 
+-- and all rules of the lent words.
 abbrev pub book-of : List ℕ → Book
 book-of rules = rules-from rules 0 (length rules / 18)
 

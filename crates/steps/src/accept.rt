@@ -5,6 +5,13 @@ ghost use Prim.Native.Nat.{ℕ, _+_, _*_, _/_, _≤_};
 ghost use lib.ListN.{length, getD};
 ghost use Rattle.steps.specs.Acceptance.{each-below, good-step, good-word, good-rule, bad-counts, bad-length, bad-rules, bad-goal, bad-start, words-refusal, refusal-of};
 
+// The refusals, by the part that is bad.
+pub const BAD_COUNTS: u64 = 20;
+pub const BAD_LENGTH: u64 = 21;
+pub const BAD_RULES: u64 = 22;
+pub const BAD_GOAL: u64 = 23;
+pub const BAD_START: u64 = 24;
+
 // Whether a step word is a step of these fluents and actions.
 pub fn good_step(fluents: u64, actions: u64, step: u16) -> bool
     ensures { λ r. ⌜ r ≡ good-step fluents actions step ⌝ }
@@ -127,16 +134,16 @@ pub fn words_refusal(fluents: u64, actions: u64, rules: &[u16], goal: &[u16]) ->
     ensures { λ r. ⌜ r ≡ words-refusal fluents actions (now (rules .entry)) (now (goal .entry)) ⌝ }
 {
     if bad_counts(fluents, actions) {
-        return 20;
+        return BAD_COUNTS;
     }
     if bad_length(rules) {
-        return 21;
+        return BAD_LENGTH;
     }
     if bad_rules(fluents, actions, rules) {
-        return 22;
+        return BAD_RULES;
     }
     if bad_goal(fluents, actions, goal) {
-        return 23;
+        return BAD_GOAL;
     }
     0
 }
@@ -150,7 +157,7 @@ pub fn refusal(fluents: u64, actions: u64, rules: &[u16], goal: &[u16], start: u
         return words;
     }
     if bad_start(fluents, start) {
-        return 24;
+        return BAD_START;
     }
     0
 }

@@ -1,8 +1,7 @@
 // States by value, and calls.
 ghost use mathlib.Core.Path.{_≡_};
-ghost use mathlib.Core.Bool.{cond};
-ghost use lib.Dec.{ltb};
-ghost use Rattle.steps.specs.State.{holds, added, removed};
+ghost use Rattle.steps.specs.Run.{Goal};
+ghost use Rattle.steps.specs.State.{holds, inserted, removed};
 
 // A set of at most 64 fluents: fluent k holds exactly if bit k is set.
 pub struct State(pub u64);
@@ -10,6 +9,13 @@ pub struct State(pub u64);
 impl State {
     // The state in which nothing holds.
     pub const NOTHING: State = State(0);
+
+    // The same by a function, whose contract says what the constant is.
+    pub fn nothing() -> State
+        ensures { λ r. ⌜ r .0 ≡ 0 ⌝ }
+    {
+        State::NOTHING
+    }
 
     // The state that a 64-bit word stands for.
     pub fn of(word: u64) -> State
@@ -28,9 +34,9 @@ impl State {
         false
     }
 
-    // The state with fluent k added; a state has no fluent from 64 on.
+    // The state with fluent k added; from 64 on there is no fluent to add, and the state is handed back as it is.
     pub fn insert(self, k: u64) -> State
-        ensures { λ r. ⌜ r .0 ≡ cond (ltb k 64) (added (self .0) k) (self .0) ⌝ }
+        ensures { λ r. ⌜ r .0 ≡ inserted (self .0) k ⌝ }
     {
         if k < 64 {
             if self.holds(k) {
@@ -70,5 +76,12 @@ impl Call {
             action: action,
             state: State::of(word),
         }
+    }
+
+    // The goal's call in the state that a 64-bit word stands for.
+    pub fn goal(word: u64) -> Call
+        ensures { λ r. ⌜ (r .action ≡ Goal) × (r .state .0 ≡ word) ⌝ }
+    {
+        Call::of(Call::GOAL, word)
     }
 }

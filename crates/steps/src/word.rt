@@ -1,29 +1,27 @@
 // Step words: their kinds and indices, and the one elementary step.
 use crate::state::State;
 ghost use mathlib.Core.Path.{_≡_};
-ghost use Prim.Native.Nat.{_/_, _%_};
-ghost use lib.Dec.{ltb};
-ghost use Rattle.steps.specs.Words.{step-of};
+ghost use Rattle.steps.specs.Words.{kind-of, index-of, is-call, step-of};
 ghost use Rattle.steps.specs.Elementary.{elementary};
-ghost use Rattle.steps.specs.Number.{onward};
+ghost use Rattle.steps.specs.Next.{onward};
 
 // The kind of a step word: 0 query, 1 insert, 2 delete, 3 call.
 pub fn kind(word: u16) -> u64
-    ensures { λ r. ⌜ r ≡ word / 256 ⌝ }
+    ensures { λ r. ⌜ r ≡ kind-of word ⌝ }
 {
     (word / 256) as u64
 }
 
 // The index of a step word: of a fluent, for a call of an action.
 pub fn index(word: u16) -> u64
-    ensures { λ r. ⌜ r ≡ word % 256 ⌝ }
+    ensures { λ r. ⌜ r ≡ index-of word ⌝ }
 {
     (word % 256) as u64
 }
 
 // Whether a step word is a call. (An accepted word has no kind above 3.)
 pub fn is_call(word: u16) -> bool
-    ensures { λ r. ⌜ r ≡ ltb 2 (word / 256) ⌝ }
+    ensures { λ r. ⌜ r ≡ is-call word ⌝ }
 {
     2 < word / 256
 }
@@ -34,7 +32,7 @@ pub enum Next {
     Stuck,
 }
 
-// One elementary step on a state. All that is said of queries, inserts and deletes by their kinds is said here.
+// One elementary step on a state: what a query, an insert and a delete do is said here alone.
 pub fn elementary(word: u16, state: State) -> Next
     ensures { λ r. ⌜ onward r ≡ elementary (step-of word) (state .0) ⌝ }
 {

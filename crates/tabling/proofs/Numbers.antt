@@ -12,7 +12,7 @@ use Rattle.steps.specs.Run.{Goal}
 use Rattle.steps.specs.Words.{body-of, head-of, words-of}
 use Rattle.steps.proofs.EachBelow.{both}
 use Rattle.steps.proofs.WordLaws.{Low, words-short}
-use Rattle.steps.proofs.AcceptanceLaws.{Accepted, Indexed, goal-indexed, words-indexed-of}
+use Rattle.steps.proofs.AcceptanceLaws.{AcceptedWords, Indexed, goal-indexed, words-indexed-of}
 use Rattle.tabling.specs.Records.{bodies-of}
 use Rattle.tabling.proofs.Justification.{Proper}
 
@@ -43,7 +43,7 @@ module _ (rules goal : List ℕ) where
   pub words-rule : (i : ℕ) → (i ≡ 256 → ⊥) → bodies-of rules goal .words i ≡ words-of rules i
   words-rule i n = rw (ne-eqb i 256 n) refl
 
-  module _ {fluents actions : ℕ} (acc : Accepted fluents actions rules goal) where
+  module _ {fluents actions : ℕ} (acc : AcceptedWords fluents actions rules goal) where
     indexed-low : (x : Step) → Indexed fluents actions x → Low x
     indexed-low (query p) h = omega (arith, acc .few-fluents)
     indexed-low (insert p) h = omega (arith, acc .few-fluents)

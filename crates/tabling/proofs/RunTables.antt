@@ -14,7 +14,7 @@ use Rattle.steps.specs.Counting.{Outnumbers}
 use Rattle.steps.specs.Words.{body-of, head-of, words-of, rule-of, book-of, run-of}
 use Rattle.steps.proofs.Lists.{at-member}
 use Rattle.steps.proofs.WordLaws.{book-length, book-at, book-member}
-use Rattle.steps.proofs.AcceptanceLaws.{Accepted, separate}
+use Rattle.steps.proofs.AcceptanceLaws.{AcceptedWords, separate}
 use Rattle.steps.proofs.Counting.{outnumbers-map}
 use Rattle.steps.proofs.Deductions.{Does}
 use Rattle.steps.proofs.Execution.{Ends}
@@ -27,7 +27,7 @@ use Rattle.tabling.proofs.Evidence.{Among}
 use Rattle.tabling.proofs.Numbers.{fits-cases, words-goal, words-rule}
 use Rattle.tabling.proofs.Turn.{Outgrown}
 
-module _ {fluents actions : ℕ} (rules goal : List ℕ) (start : State) (acc : Accepted fluents actions rules goal) where
+module _ {fluents actions : ℕ} (rules goal : List ℕ) (start : State) (acc : AcceptedWords fluents actions rules goal) where
   abbrev run : Run
   run = run-of rules goal start
 

@@ -4,7 +4,7 @@ ghost use mathlib.Core.Path.{_≡_};
 ghost use mathlib.Core.Bool.{true};
 ghost use Prim.Native.Nat.{ℕ, _+_, _*_, _/_, _<_, _≤_};
 ghost use lib.ListN.{length};
-ghost use Rattle.steps.proofs.AcceptanceLaws.{Accepted};
+ghost use Rattle.steps.proofs.AcceptanceLaws.{AcceptedWords};
 ghost use Rattle.tabling.specs.Records.{bodies-of};
 ghost use Rattle.tabling.proofs.Numbers.{number-at};
 
@@ -37,7 +37,7 @@ pub fn is_of<'a>(rules: &'a [u16], goal: &'a [u16], number: u64, action: u64) ->
 
 // The step words of the rule of this number, which is one of some action.
 pub fn steps_of<'a>(rules: &'a [u16], goal: &'a [u16], number: u64) -> &'a [u16]
-    requires { ⌜ ((fluents : ℕ) × (actions : ℕ) × (action : ℕ) × Accepted fluents actions (now rules) (now goal) × (bodies-of (now rules) (now goal) .fits number action ≡ true)) ⌝ }
+    requires { ⌜ ((fluents : ℕ) × (actions : ℕ) × (action : ℕ) × AcceptedWords fluents actions (now rules) (now goal) × (bodies-of (now rules) (now goal) .fits number action ≡ true)) ⌝ }
     ensures { λ r. ⌜ now r ≡ bodies-of (now (rules .entry)) (now (goal .entry)) .words number ⌝ }
 {
     if number == GOAL {

@@ -75,8 +75,8 @@ returns-2 c =
     let answers : c .before .before .clear4 .last .0 ≡ replicate (length (i t .args .answers .now)) 0 = c .before .before .clear4 .ensures ∙ ap (λ (n : ℕ). replicate n 0) (F .answers-long ∙ answers-long t) in
     no-room (ok t) (is-full (question (i t)) (buffers (i t)) (ok t) (calls-long t) (answers-long t) F (c .before .before .before .before .before .before .before .before .if2 .taken)) refl (λ k. lent (calls k) (answers k) (i t .args .ends .now))
 
-of-requires : tie.Need-of-requires
-of-requires c κs = search needs
+goal-requires : tie.Need-goal-requires
+goal-requires c κs = search needs
 
 find-call-requires : tie.Need-find-call-requires
 find-call-requires c κs = let k = c .before .before .before .before .before .before .before .tabulate .ensures .kept .calls-stored in (k .fits, k .most)
@@ -86,7 +86,7 @@ count-requires c κs = let k = c .before .before .before .before .before .before
 
 -- the record of the goal's call
 goal-found : (c : tie.After-count) → FindCall (calls-in 2 (c .before .before .before .before .before .before .before .before .before .before .tabulate .last .1 .1 .1 .0) (c .before .before .before .before .before .before .before .before .before .before .tabulate .result .calls)) 64 (c .before .before .before .before .before .before .before .before .before .before .before .before .before .before .before .before .before .before .before .before .before .before .before .before .before .before .before .before .args .start) (c .before .before .find-call .result)
-goal-found c = rw (← c .before .before .before .of .ensures .0, ← c .before .before .before .of .ensures .1) (c .before .before .find-call .ensures .1)
+goal-found c = rw (← c .before .before .before .goal .ensures .0, ← c .before .before .before .goal .ensures .1) (c .before .before .find-call .ensures .1)
 
 same-length-3 : tie.Need-same-length-3
 same-length-3 c = search needs
@@ -134,7 +134,7 @@ evaluate-spec =
     same-length
     same-length-2
     returns-2
-    of-requires
+    goal-requires
     find-call-requires
     count-requires
     same-length-3

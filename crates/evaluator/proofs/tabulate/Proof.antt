@@ -17,15 +17,15 @@ use Rattle.evaluator.proofs.Outcomes.{zeros-stored}
 use Rattle.evaluator.proofs.tabulate.Statement.{statement}
 use Rattle.evaluator.proofs.tabulate.Tie as tie
 
-of-requires : tie.Need-of-requires
-of-requires c κs = search needs
+goal-requires : tie.Need-goal-requires
+goal-requires c κs = search needs
 
 add-call-requires : tie.Need-add-call-requires
 add-call-requires c κs = zeros-stored 2 _ (c .before .before .before .before .before .before .pre .1 .0)
 
 -- the goal's call
 put-at : (c : tie.After-add-call) → CallPut (room 2 (length (c .before .before .before .before .before .before .before .args .calls .now))) (calls-in 2 (c .before .before .before .before .before .before .before .args .calls .now) 0) 64 (c .before .before .before .before .before .before .before .args .start) (calls-in 2 (c .add-call .last .0) (c .add-call .result .count)) (c .add-call .result .row) (c .add-call .result .full)
-put-at c = rw (← c .before .of .ensures .0, ← c .before .of .ensures .1) (c .add-call .ensures .put)
+put-at c = rw (← c .before .goal .ensures .0, ← c .before .goal .ensures .1) (c .add-call .ensures .put)
 
 same-length : tie.Need-same-length
 same-length c = search needs
@@ -36,9 +36,7 @@ returns c =
     let i = p .before .before .before .before .before .before .before in
     let s = p .add-call .ensures in
     record {
-      calls-long = s .long;
-      answers-long = refl;
-      kept = record { calls-stored = s .stored; answers-stored = zeros-stored 19 _ (i .pre .1 .1) };
+      calls-long = s .long; answers-long = refl; kept = record { calls-stored = s .stored; answers-stored = zeros-stored 19 _ (i .pre .1 .1) };
       closed = λ e. absurd (true-not-false e);
       outgrown = λ e. first-full (bodies-of (i .args .rules .now) (i .args .goal .now)) 64 (i .args .start) _ (calls-in 2 (i .args .calls .now) 0) (calls-in 2 (p .add-call .last .0) (p .add-call .result .count)) _ _ _ (put-at p) (c .if1 .taken) refl;
     }
@@ -79,7 +77,7 @@ pub tabulate-spec : {M : Type 1} → statement M
 tabulate-spec =
     tie.close
     (tie.spec
-    of-requires
+    goal-requires
     add-call-requires
     same-length
     returns

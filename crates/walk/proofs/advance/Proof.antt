@@ -8,7 +8,7 @@ use borrow.Author.Needs.{needs}
 use borrow.Author.Tests.{ltb-true, ltb-false}
 use Rattle.steps.specs.Words.{step-of}
 use Rattle.steps.specs.Elementary.{on, stuck, elementary}
-use Rattle.steps.specs.Number.{onward}
+use Rattle.steps.specs.Next.{onward}
 use Rattle.tabling.proofs.Evidence.{Among}
 use Rattle.tabling.proofs.Measure.{left-on}
 use Rattle.tabling.proofs.Turn.{turn-forward, turn-stuck}

@@ -1,9 +1,10 @@
 -- `elementary` meets its contract, by the word's kind. Assumes nothing.
-use Prim.Native.Nat.{_/_, _%_}
+use Prim.Native.Nat.{_<_}
+use native.Mathlib.Omega.{arith}
 use mathlib.Core.Path.{_≡_, refl, sym, _∙_}
 use borrow.Author.Needs.{needs}
 use borrow.Author.Tests.{lt-ltb, le-ltb}
-use Rattle.steps.specs.Number.{onward}
+use Rattle.steps.specs.Next.{onward}
 use Rattle.steps.proofs.ElementaryLaws.{query-word, insert-word, delete-word, other-word}
 use Rattle.steps.proofs.word.elementary.Statement.{statement}
 use Rattle.steps.proofs.word.elementary.Tie as tie
@@ -39,7 +40,7 @@ unfolding onward
 returns-3 c =
     let i = c .before .before .before .before in
     let a = i .before .before .args in
-    let low = c .before .if4 .taken in
+    let low : i .index .result < 64 = omega (arith, c .before .if4 .taken) in
     rw (insert-word (a .word) (a .state .0) (sym (i .before .kind .ensures) ∙ c .before .before .if3 .taken), c .insert .ensures, ← i .index .ensures, lt-ltb _ 64 low) refl
 
 returns-4 : tie.Need-returns-4

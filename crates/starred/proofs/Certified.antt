@@ -5,14 +5,14 @@ use mathlib.Core.Bool.{Bool, true, false, cond, not, _&&_, _||_}
 use mathlib.Core.List.{List, [], _∷_, _++_, List·Memᴰ, List·Memᴰ·head, List·Memᴰ·tail, List·Memᴰ·not-nil, List·Memᴰ·append-cases, Memᴰ·append-right, Memᴰ·cast, List·Memᴰ·eq-of-singleton}
 use mathlib.Core.Logic.{inl, inr, ⊎-elim}
 use lib.Dec.{T, eqb, eqb→eq, eqb-refl, T-not}
 use Rattle.steps.specs.State.{State, holds, added, removed}
 use Rattle.steps.specs.Step.{Step, query, insert, delete, call, Body, Rule}
 use Rattle.steps.specs.Run.{Run, Goal}
-use Rattle.steps.proofs.ListTests.{both, both-l, both-r, both-in, either, true-holds, every, any, every-at, any-at, select, select-in, select-out, flat, flat-in, flat-out}
+use Rattle.starred.proofs.ListTests.{both, both-l, both-r, both-in, either, true-holds, every, any, every-at, any-at, select, select-in, select-out, flat, flat-in, flat-out}
 use Rattle.steps.proofs.Execution.{Ends}
 use Rattle.steps.proofs.Deductions.{Does, asks, adds, drops}
 use Rattle.steps.proofs.Tables.{Walk, stands, walks, takes, walk-runs, walk-reached}
 use Rattle.steps.proofs.Exactness.{BodyOf, of-goal, of-rule, Root, Reached, Closed, Sound, Exact, exact, Apart, Separate}
 
 -- ---- the walks through a list of answers, enumerated
 

@@ -7,13 +7,15 @@ use mathlib.Core.Logic.{⊎-elim}
 use lib.Dec.{T, eqb, ltb, eqb→eq, eqb-refl, T-not}
 use borrow.Author.Tests.{ltb-true}
 use lib.ListN.{length}
 use Rattle.steps.specs.State.{State, holds, added, removed}
 use Rattle.steps.specs.Step.{query, insert, delete, call, Body}
 use Rattle.steps.specs.Run.{Run, Goal}
 use Rattle.steps.specs.Counting.{Rising, rising-nil, rising-cons}
-use Rattle.steps.specs.Drills.{Drill, Holds, drills, drill, _⟵_}
-use Rattle.steps.proofs.ListTests.{both, both-l, both-r, both-in, either, holds-true, every, any, every-at, any-at, distinct, distinct-of}
-use Rattle.steps.proofs.Certified.{CallRow, AnswerRow, Place, places, bodies, next, certified, certified-exact, separate, closed, justified, reached, owned, kept, apart, some-place, every-place, ends-at, comes-at, call-row, answer-row, has-answer}
+use Rattle.starred.specs.Drills.{Drill, run, Holds, AllHold, word, drills, drill, _⟵_}
+use Rattle.steps.specs.Words.{step-by, rules-from}
+use Rattle.steps.specs.Acceptance.{each-below, good-step, good-word, good-rule, bad-counts, bad-length, bad-rules, bad-goal, bad-start, words-refusal, refusal-of}
+use Rattle.starred.proofs.ListTests.{both, both-l, both-r, both-in, either, holds-true, every, any, every-at, any-at, distinct, distinct-of}
+use Rattle.starred.proofs.Certified.{CallRow, AnswerRow, Place, places, bodies, next, certified, certified-exact, separate, closed, justified, reached, owned, kept, apart, some-place, every-place, ends-at, comes-at, call-row, answer-row, has-answer}
 
 -- ---- tables by rounds, newest row first
 
@@ -69,54 +71,56 @@ rising-of (x ∷ xs) t =
 
 -- the answer is not the goal's at the start, or its final state is listed
 listed : Drill → AnswerRow → Bool
-listed d t = not (call-row (t .0, t .1) (Goal, d .run .start)) || any (eqb (t .2)) (d .ends)
+listed d t = not (call-row (t .0, t .1) (Goal, d .start)) || any (eqb (t .2)) (d .ends)
 
 -- the state is an answer of the goal at the start
 answered : Drill → List AnswerRow → State → Bool
-answered d A D = any (answer-row (Goal, d .run .start, D)) A
+answered d A D = any (answer-row (Goal, d .start, D)) A
 
 -- the tables C and A prove the row
 proves : Drill → List CallRow → List AnswerRow → Bool
 proves d C A =
-    certified (d .run) C A && distinct call-row C && distinct answer-row A && eqb (length C) (d .calls) && eqb (length A) (d .answers)
+    eqb (refusal-of (d .fluents) (d .actions) (d .rules) (d .goal) (d .start)) 0 && certified (run d) C A && distinct call-row C && distinct answer-row A && eqb (length C) (d .calls) && eqb (length A) (d .answers)
     && rising (d .ends) && every (answered d A) (d .ends) && every (listed d) A
 
 proved : (d : Drill) (C : List CallRow) (A : List AnswerRow) → T (proves d C A) → Holds d
 unfolding proves answered listed
 proved d C A t =
-    let c : T (certified (d .run) C A) = search (both-l, both-r) depth 9 in
-    let dC : T (distinct call-row C) = search (both-l, both-r) depth 9 in
-    let dA : T (distinct answer-row A) = search (both-l, both-r) depth 9 in
-    let nC : T (eqb (length C) (d .calls)) = search (both-l, both-r) depth 9 in
-    let nA : T (eqb (length A) (d .answers)) = search (both-l, both-r) depth 9 in
-    let up : T (rising (d .ends)) = search (both-l, both-r) depth 9 in
-    let all : T (every (answered d A) (d .ends)) = search (both-l, both-r) depth 9 in
-    let only : T (every (listed d) A) = search (both-l, both-r) depth 9 in
-    let x = certified-exact (d .run) C A c in
+    let ok : T (eqb (refusal-of (d .fluents) (d .actions) (d .rules) (d .goal) (d .start)) 0) = search (both-l, both-r) depth 10 in
+    let c : T (certified (run d) C A) = search (both-l, both-r) depth 10 in
+    let dC : T (distinct call-row C) = search (both-l, both-r) depth 10 in
+    let dA : T (distinct answer-row A) = search (both-l, both-r) depth 10 in
+    let nC : T (eqb (length C) (d .calls)) = search (both-l, both-r) depth 10 in
+    let nA : T (eqb (length A) (d .answers)) = search (both-l, both-r) depth 10 in
+    let up : T (rising (d .ends)) = search (both-l, both-r) depth 10 in
+    let all : T (every (answered d A) (d .ends)) = search (both-l, both-r) depth 10 in
+    let only : T (every (listed d) A) = search (both-l, both-r) depth 10 in
+    let x = certified-exact (run d) C A c in
     record {
+      accepted = eqb→eq (refusal-of (d .fluents) (d .actions) (d .rules) (d .goal) (d .start)) 0 ok;
       rising = rising-of (d .ends) up;
       ends = λ D. (λ m. x .ends D .0 (from-list D (every-at (answered d A) all m)), λ f. in-list D (x .ends D .1 f) only);
       calls = (C, distinct-of call-row call-row-refl C dC, (λ k. x .calls (k .0) (k .1)), eqb→eq (length C) (d .calls) nC);
       answers = (A, distinct-of answer-row answer-row-refl A dA, (λ k. x .answers (k .0) (k .1) (k .2)), eqb→eq (length A) (d .answers) nA);
     }
   where
-    from-list : (D : State) → T (answered d A D) → List·Memᴰ {A = AnswerRow} (Goal, d .run .start, D) A
-    from-list D h = has-answer (Goal, d .run .start, D) A h
+    from-list : (D : State) → T (answered d A D) → List·Memᴰ {A = AnswerRow} (Goal, d .start, D) A
+    from-list D h = has-answer (Goal, d .start, D) A h
 
-    in-list : (D : State) → List·Memᴰ {A = AnswerRow} (Goal, d .run .start, D) A → T (every (listed d) A) → List·Memᴰ D (d .ends)
+    in-list : (D : State) → List·Memᴰ {A = AnswerRow} (Goal, d .start, D) A → T (every (listed d) A) → List·Memᴰ D (d .ends)
     in-list D m only =
-        ⊎-elim (λ n. absurd (T-not (call-row (Goal, d .run .start) (Goal, d .run .start)) n (call-row-refl (Goal, d .run .start))))
+        ⊎-elim (λ n. absurd (T-not (call-row (Goal, d .start) (Goal, d .start)) n (call-row-refl (Goal, d .start))))
         (λ s. let (E, k, q) = any-at (eqb D) (d .ends) s in Memᴰ·cast (eqb→eq D E q) k)
-        (either (not (call-row (Goal, d .run .start) (Goal, d .run .start))) (any (eqb D) (d .ends)) (every-at (listed d) only m))
+        (either (not (call-row (Goal, d .start) (Goal, d .start))) (any (eqb D) (d .ends)) (every-at (listed d) only m))
 
 passes : Drill → Bool
-passes d = let t = tables (d .run) in proves d (t .0) (t .1)
+passes d = let t = tables (run d) in proves d (t .0) (t .1)
 
 pass : T (every passes drills)
-unfolding passes proves listed answered tables certified drills drill _⟵_ separate apart closed every-place kept justified some-place ends-at reached comes-at owned call-row answer-row
+unfolding passes proves listed answered tables certified drills drill _⟵_ separate apart closed every-place kept justified some-place ends-at reached comes-at owned call-row answer-row word step-by rules-from refusal-of words-refusal bad-counts bad-length bad-rules bad-goal bad-start each-below good-step good-word good-rule
 pass = tt
 
 -- Every row holds.
-pub drills-hold : (d : Drill) → List·Memᴰ d drills → Holds d
-unfolding passes
-drills-hold d m = proved d (tables (d .run) .0) (tables (d .run) .1) (every-at passes pass m)
+pub drills-hold : AllHold
+unfolding passes drills
+drills-hold = (refl, λ d m. proved d (tables (run d) .0) (tables (run d) .1) (every-at passes pass m))

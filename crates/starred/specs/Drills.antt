@@ -1,0 +1,82 @@
+-- The starred drills D1 to D10 of document 01, ten rows of one table, and what a row says of its run. Assumes nothing.
+use Prim.Native.Nat.{ℕ, _+_, _-_, _*_}
+use mathlib.Core.Path.{_≡_}
+use mathlib.Core.List.{List, [], _∷_, _++_, map, List·Memᴰ}
+use mathlib.Core.Logic.{_↔_}
+use lib.ListN.{length, replicate}
+use Rattle.steps.specs.State.{State}
+use Rattle.steps.specs.Step.{Step, query, insert, delete, call, Body, Rule, Book}
+use Rattle.steps.specs.Run.{Run, Call, Answer, End}
+use Rattle.steps.specs.Counting.{Counts, Rising}
+use Rattle.steps.specs.Words.{run-of}
+use Rattle.steps.specs.Acceptance.{Accepted}
+
+-- A row: counts of fluents and actions, rule words, start and goal words as they are lent; the ends in rising order, and how many calls and
+-- answers there are. (The path of a row is a field more.)
+pub record Drill : Type 0 where
+  pub fluents : ℕ
+  pub actions : ℕ
+  pub rules : List ℕ
+  pub start : State
+  pub goal : List ℕ
+  pub ends : List State
+  pub calls : ℕ
+  pub answers : ℕ
+
+abbrev pub run : Drill → Run
+run d = run-of (d .rules) (d .goal) (d .start)
+
+-- What a row says: no refusal of 20 to 24, and the ends, calls and answers of its run.
+pub record Holds (d : Drill) : Type 0 where
+  pub accepted : Accepted (d .fluents) (d .actions) (d .rules) (d .goal) (d .start)
+  pub rising : Rising (d .ends)
+  pub ends : (D : State) → List·Memᴰ D (d .ends) ↔ End (run d) D
+  pub calls : Counts (λ (c : ℕ × State). Call (run d) (c .0) (c .1)) (d .calls)
+  pub answers : Counts (λ (c : ℕ × State × State). Answer (run d) (c .0) (c .1) (c .2)) (d .answers)
+
+-- ---- steps and rules in their words
+
+unfoldable pub word : Step → ℕ
+word (query p) = p
+word (insert p) = 256 + p
+word (delete p) = 512 + p
+word (call a) = 768 + a
+
+infix 20 _⟵_
+unfoldable pub _⟵_ : ℕ → Body → List ℕ
+unfolding word
+head ⟵ body = head ∷ length body ∷ map word body ++ replicate (16 - length body) 0
+
+unfoldable pub drill : ℕ → ℕ → List ℕ → State → Body → List State → ℕ → ℕ → Drill
+unfolding word
+drill fluents actions rules start goal ends calls answers = record { fluents = fluents; actions = actions; rules = rules; start = start; goal = map word goal; ends = ends; calls = calls; answers = answers }
+
+-- Counts of fluents and actions, rules, start and goal; then ends, calls and answers. Fluents a and b are 0 and 1; actions are numbered from 0.
+unfoldable pub drills : List Drill
+unfolding _⟵_ drill
+drills =
+    -- D1: purge is 0, light is 1; open is 0, lit is 1
+    drill 2 2 ((0 ⟵ insert 0 ∷ []) ++ (1 ⟵ call 0 ∷ query 0 ∷ insert 1 ∷ delete 0 ∷ [])) 0 (call 1 ∷ []) (2 ∷ []) 3 3
+    -- D2: a rule that calls itself first
+    ∷ drill 2 1 ((0 ⟵ call 0 ∷ query 0 ∷ insert 1 ∷ []) ++ (0 ⟵ insert 0 ∷ [])) 0 (call 0 ∷ []) (1 ∷ 3 ∷ []) 2 4
+    -- D3: a rule that only calls itself
+    ∷ drill 2 1 (0 ⟵ call 0 ∷ []) 0 (call 0 ∷ []) [] 2 0
+    -- D4: the empty goal, start 2
+    ∷ drill 2 0 [] 2 [] (2 ∷ []) 1 1
+    -- D5: an insert of what holds, start 1
+    ∷ drill 2 0 [] 1 (insert 0 ∷ []) (1 ∷ []) 1 1
+    -- D6: a delete of what does not hold
+    ∷ drill 2 0 [] 0 (delete 0 ∷ []) (0 ∷ []) 1 1
+    -- D7: a call after which the goal fails
+    ∷ drill 2 1 (0 ⟵ insert 0 ∷ []) 0 (call 0 ∷ query 1 ∷ []) [] 2 1
+    -- D8: one action called at two states
+    ∷ drill 2 1 ((0 ⟵ insert 0 ∷ call 0 ∷ []) ++ (0 ⟵ query 0 ∷ [])) 0 (call 0 ∷ []) (1 ∷ []) 3 3
+    -- D9: p is 0, q is 1
+    ∷ drill 2 2 ((0 ⟵ insert 0 ∷ delete 0 ∷ []) ++ (1 ⟵ call 0 ∷ call 0 ∷ [])) 0 (call 1 ∷ []) (0 ∷ []) 3 3
+    -- D10: the last of 64 fluents
+    ∷ drill 64 0 [] 0 (insert 63 ∷ []) (9223372036854775808 ∷ []) 1 1
+    ∷ []
+
+-- The statement: ten rows, and each holds.
+abbrev pub AllHold : Type 0
+AllHold = (length drills ≡ 10) × ((d : Drill) → List·Memᴰ d drills → Holds d)

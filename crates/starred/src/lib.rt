@@ -1,0 +1,1 @@
+// The starred drills, proved of the logic: definitions and laws, no code.
