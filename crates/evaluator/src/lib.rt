@@ -26,6 +26,7 @@ ghost use Rattle.evaluator.specs.Evaluated.{Evaluated, asked, lent, told
 
 // The refusals of a run that is accepted.
 pub const TABLE_FULL: u64 = 30;
+
 pub const LIST_SHORT: u64 = 31;
 
 // The refusal, 0 for none, and the counts of ends, calls and answers.

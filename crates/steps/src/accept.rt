@@ -7,9 +7,13 @@ ghost use Rattle.steps.specs.Acceptance.{each-below, good-step, good-wor
 
 // The refusals, by the part that is bad.
 pub const BAD_COUNTS: u64 = 20;
+
 pub const BAD_LENGTH: u64 = 21;
+
 pub const BAD_RULES: u64 = 22;
+
 pub const BAD_GOAL: u64 = 23;
+
 pub const BAD_START: u64 = 24;
 
 // Whether a step word is a step of these fluents and actions.

@@ -36,7 +36,9 @@ returns c =
     let i = p .before .before .before .before .before .before .before in
     let s = p .add-call .ensures in
     record {
-      calls-long = s .long; answers-long = refl; kept = record { calls-stored = s .stored; answers-stored = zeros-stored 19 _ (i .pre .1 .1) };
+      calls-long = s .long;
+      answers-long = refl;
+      kept = record { calls-stored = s .stored; answers-stored = zeros-stored 19 _ (i .pre .1 .1) };
       closed = λ e. absurd (true-not-false e);
       outgrown = λ e. first-full (bodies-of (i .args .rules .now) (i .args .goal .now)) 64 (i .args .start) _ (calls-in 2 (i .args .calls .now) 0) (calls-in 2 (p .add-call .last .0) (p .add-call .result .count)) _ _ _ (put-at p) (c .if1 .taken) refl;
     }
