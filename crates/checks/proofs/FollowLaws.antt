@@ -1,0 +1,57 @@
+-- Where a step word of a record leads, by its kind; one step of a walk. Assumes nothing.
+use Prim.Native.Nat.{ℕ, zero, suc, _+_, _-_, _/_, _%_, _<_, _≤_}
+use native.Mathlib.Omega.{arith}
+use native.Mathlib.Numerals.{add-one}
+use mathlib.Core.Path.{_≡_, refl, subst}
+use mathlib.Core.Bool.{Bool, true, false, cond, _&&_}
+use mathlib.Core.List.{List, [], _∷_}
+use lib.ListN.{length, getD, drop, drop-of-length-le}
+use lib.Seq.{drop-cons}
+use lib.Dec.{eqb, ltb}
+use Rattle.steps.specs.State.{State}
+use Rattle.steps.specs.Step.{Step, Body}
+use Rattle.steps.specs.Words.{step-by, step-of, body-of}
+use Rattle.steps.specs.Acceptance.{each-below}
+use Rattle.steps.specs.Elementary.{Onward, on, stuck, elementary}
+use Rattle.steps.proofs.WordLaws.{call-word}
+use Rattle.tabling.specs.Records.{Calls, Answers, follow, follows}
+
+module _ (calls : Calls) (answers : Answers) (n : ℕ) where
+  -- a call takes the named answer
+  pub follow-call : (w : ℕ) (s : State) (e : ℕ) → 2 < w / 256 → follow calls answers n (step-of w) s e
+      ≡ cond (ltb e n && (eqb (calls .action (answers .call e)) (w % 256) && eqb (calls .state (answers .call e)) s)) (on (answers .final e)) stuck
+  unfolding follow
+  follow-call w s e l = rw (call-word w l) refl
+
+  follow-by : (k i : ℕ) (s : State) (e : ℕ) → k ≤ 2 → follow calls answers n (step-by k i) s e ≡ cond (eqb e 0) (elementary (step-by k i) s) stuck
+  unfolding follow step-by
+  follow-by zero i s e l = refl
+  follow-by (suc zero) i s e l = refl
+  follow-by (suc (suc zero)) i s e l = refl
+  follow-by (suc (suc (suc k))) i s e l = absurd (omega arith)
+
+  -- any other step is done
+  pub follow-elementary : (w : ℕ) (s : State) (e : ℕ) → w / 256 ≤ 2 → follow calls answers n (step-of w) s e ≡ cond (eqb e 0) (elementary (step-of w) s) stuck
+  follow-elementary w s e l = follow-by (w / 256) (w % 256) s e l
+
+  -- a step, then the steps after it
+  follows-go : (q : ℕ) (s : State) (x : Step) (rest : Body) (o : Onward) → o ≡ follow calls answers n x s (answers .evidence n q)
+      → _≡_ {A = Bool} (follows calls answers n (x ∷ rest) q s) (elim o [ on t ↦ follows calls answers n rest (suc q) t | stuck ↦ false ])
+  unfolding follows
+  follows-go q s x rest o e =
+      subst (λ (o′ : Onward). _≡_ {A = Bool} (elim o′ [ on t ↦ follows calls answers n rest (suc q) t | stuck ↦ false ]) (elim o [ on t ↦ follows calls answers n rest (suc q) t | stuck ↦ false ])) e refl
+
+  -- the words from place q on: the step there, then the words after it
+  module _ (body : List ℕ) (q : ℕ) (s : State) where
+    pub follows-on : (t : State) → q < length body → on t ≡ follow calls answers n (step-of (getD body q 0)) s (answers .evidence n q)
+        → follows calls answers n (body-of (drop q body)) q s ≡ follows calls answers n (body-of (drop (q + 1) body)) (q + 1) t
+    follows-on t l e = rw (drop-cons body q 0 l, add-one) (follows-go q s (step-of (getD body q 0)) (body-of (drop (suc q) body)) (on t) e)
+
+    pub follows-stuck : q < length body → stuck ≡ follow calls answers n (step-of (getD body q 0)) s (answers .evidence n q)
+        → follows calls answers n (body-of (drop q body)) q s ≡ false
+    follows-stuck l e = rw (drop-cons body q 0 l) (follows-go q s (step-of (getD body q 0)) (body-of (drop (suc q) body)) stuck e)
+
+    pub follows-end : length body ≤ q
+        → follows calls answers n (body-of (drop q body)) q s ≡ (eqb s (answers .final n) && each-below (16 - q) (λ i. eqb (answers .evidence n (q + i)) 0))
+    unfolding follows
+    follows-end l = rw (drop-of-length-le body l) refl

@@ -1,0 +1,41 @@
+-- Records that 42 does not refuse. Assumes nothing.
+use Prim.Native.Nat.{ℕ, _/_, _^_, _<_}
+use native.Mathlib.Nat.{div-eq-of-lt}
+use mathlib.Core.Path.{_≡_, refl}
+use mathlib.Core.Bool.{Bool, true, false, _||_}
+use mathlib.Core.Logic.{_⊎_, inl, inr}
+use lib.Dec.{eqb, ltb}
+use borrow.Author.Tests.{eq-eqb, lt-ltb}
+use Rattle.steps.specs.Run.{Goal}
+use Rattle.steps.specs.Acceptance.{bad-start}
+use Rattle.steps.proofs.EachBelow.{each-all}
+use Rattle.tabling.specs.Records.{Calls, Answers, Bodies, justified}
+use Rattle.checks.specs.Checks.{good-call, good-calls, all-justified, bad-records}
+
+-- A call record of the goal or of an action below the count, in a state of the fluents counted.
+pub record Proper (fluents actions : ℕ) (calls : Calls) (i : ℕ) : Type 0 where
+  pub action : (calls .action i ≡ Goal) ⊎ (calls .action i < actions)
+  pub state : calls .state i < 2 ^ fluents
+
+within : (fluents s : ℕ) → s < 2 ^ fluents → bad-start fluents s ≡ false
+unfolding bad-start
+within fluents s l = rw (div-eq-of-lt l) refl
+
+either : (actions a : ℕ) → ((a ≡ Goal) ⊎ (a < actions)) → (eqb a Goal || ltb a actions) ≡ true
+either actions a (inl e) = rw (eq-eqb a Goal e) refl
+either actions a (inr l) = by (eqb a Goal)
+  where
+    by : (b : Bool) → (b || ltb a actions) ≡ true
+    by true = refl
+    by false = lt-ltb a actions l
+
+proper-good : (fluents actions : ℕ) (calls : Calls) (i : ℕ) → Proper fluents actions calls i → good-call fluents actions calls i ≡ true
+unfolding good-call
+proper-good fluents actions calls i p = rw (either actions (calls .action i) (p .action), within fluents (calls .state i) (p .state)) refl
+
+-- What an evaluation leaves, proper calls and justified answers, is never refused.
+pub never-bad : (fluents actions : ℕ) (bodies : Bodies) (calls : Calls) (answers : Answers) → ((i : ℕ) → i < calls .count → Proper fluents actions calls i)
+    → ((n : ℕ) → n < answers .count → justified calls answers n bodies ≡ true) → bad-records fluents actions bodies calls answers ≡ false
+unfolding bad-records good-calls all-justified
+never-bad fluents actions bodies calls answers proper just =
+    rw (each-all (good-call fluents actions calls) (calls .count) (λ i l. proper-good fluents actions calls i (proper i l)), each-all (λ n. justified calls answers n bodies) (answers .count) just) refl

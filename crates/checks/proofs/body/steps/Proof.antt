@@ -1,0 +1,25 @@
+-- `steps` meets its contract: 256 is the goal, any other number that goes with an action is a rule's. Assumes nothing.
+use native.Mathlib.Omega.{arith}
+use borrow.Author.Tests.{ltb-true, ltb-false, lt-ltb, le-ltb, eq-eqb, ne-eqb}
+use Rattle.steps.proofs.WordLaws.{words-short}
+use Rattle.checks.proofs.BodyLaws.{fits-rule}
+use Rattle.checks.proofs.body.steps.Statement.{statement}
+use Rattle.checks.proofs.body.steps.Tie as tie
+
+returns : tie.Need-returns
+returns c = (simp (eq-eqb _ _ (c .if1 .taken)), c .before .before .before .pre .0 .short-goal)
+
+rule-steps-requires : tie.Need-rule-steps-requires
+rule-steps-requires c κs =
+    let (short, (a, fits)) = c .before .before .before .pre in
+    let r = fits-rule (c .before .before .before .args .rules .now) (c .before .before .before .args .goal .now) _ a fits (c .if1 .left) .0 in
+    (r, short .short-rules _ r)
+
+returns-2 : tie.Need-returns-2
+returns-2 c =
+    let (short, (a, fits)) = c .before .before .before .before .pre in
+    let r = fits-rule (c .before .before .before .before .args .rules .now) (c .before .before .before .before .args .goal .now) _ a fits (c .before .if1 .left) .0 in
+    (simp (ne-eqb _ _ (c .before .if1 .left)) (c .rule-steps .ensures), rw (c .rule-steps .ensures) (omega (arith, words-short (c .before .before .before .before .args .rules .now) (c .before .before .before .before .args .rule), short .short-rules _ r)))
+
+pub steps-spec : {M : Type 1} → statement M
+steps-spec = tie.close (tie.spec returns rule-steps-requires returns-2)

@@ -1,0 +1,29 @@
+-- The checks of tables that may come from anybody: 40 and 42. Assumes nothing.
+use Prim.Native.Nat.{ℕ}
+use mathlib.Core.Bool.{Bool, not, _&&_, _||_}
+use mathlib.Core.List.{List}
+use lib.ListN.{length}
+use lib.Dec.{eqb, ltb}
+use Rattle.steps.specs.Run.{Goal}
+use Rattle.steps.specs.Acceptance.{each-below, bad-start}
+use Rattle.tabling.specs.Records.{Calls, Answers, Bodies, room, justified}
+
+-- 40: a record count over its room
+unfoldable pub over-room : List ℕ → ℕ → List ℕ → ℕ → Bool
+over-room calls call-count answers answer-count = ltb (room 2 (length calls)) call-count || ltb (room 19 (length answers)) answer-count
+
+-- A good call record: its action is 64 or below the count, and no state bit is at or above the fluent count.
+unfoldable pub good-call : ℕ → ℕ → Calls → ℕ → Bool
+good-call fluents actions calls i = (eqb (calls .action i) Goal || ltb (calls .action i) actions) && not (bad-start fluents (calls .state i))
+
+-- Every call record is good.
+unfoldable pub good-calls : ℕ → ℕ → Calls → Bool
+good-calls fluents actions calls = each-below (calls .count) (good-call fluents actions calls)
+
+-- Every answer record is justified.
+unfoldable pub all-justified : Calls → Answers → Bodies → Bool
+all-justified calls answers bodies = each-below (answers .count) (λ n. justified calls answers n bodies)
+
+-- 42: a call record with an action neither 64 nor below the count, or a state bit too high; or an answer not justified
+unfoldable pub bad-records : ℕ → ℕ → Bodies → Calls → Answers → Bool
+bad-records fluents actions bodies calls answers = not (good-calls fluents actions calls && all-justified calls answers bodies)

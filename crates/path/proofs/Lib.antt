@@ -1,0 +1,3 @@
+-- Laws of the path's answer.
+pub mod OutcomeLaws
+pub mod Drills

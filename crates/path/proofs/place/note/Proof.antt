@@ -1,0 +1,31 @@
+-- `note` meets its contract. Assumes nothing.
+use Prim.Native.Nat.{_+_, _*_, _/_, _<_, _≤_}
+use native.Mathlib.Omega.{arith}
+use mathlib.Core.Path.{_≡_, refl, sym, ap, _∙_}
+use borrow.Author.Needs.{needs}
+use borrow.Author.Tests.{ltb-true, ltb-false, lt-ltb, le-ltb, eq-eqb, ne-eqb}
+use Rattle.path.proofs.place.note.Statement.{statement}
+use Rattle.path.proofs.place.note.Tie as tie
+
+is-call-requires : tie.Need-is-call-requires
+is-call-requires c κs = search needs
+
+mul-offsets : tie.Need-mul-offsets
+mul-offsets c = omega (arith, c .before .before .before .pre (ltb-true 2 _ (sym (c .before .is-call .ensures) ∙ c .if1 .taken)))
+
+slice-write-offsets : tie.Need-slice-write-offsets
+slice-write-offsets c = c .before .before .before .pre (ltb-true 2 _ (sym (c .before .is-call .ensures) ∙ c .if1 .taken))
+
+same-length : tie.Need-same-length
+same-length c = search needs
+
+returns : tie.Need-returns
+returns c = rw (sym (c .before .is-call .ensures) ∙ c .if1 .taken) refl
+
+returns-2 : tie.Need-returns-2
+returns-2 c = rw (sym (c .before .is-call .ensures) ∙ c .if1 .left) refl
+
+pub note-spec : {M : Type 1} → statement M
+note-spec =
+    tie.close
+    (tie.spec is-call-requires mul-offsets slice-write-offsets same-length returns returns-2)

@@ -1,0 +1,114 @@
+-- `size` meets its contract. The loop's invariant: the count so far and what is left make up the whole; the measure: the steps left. Assumes nothing.
+use Prim.Native.Nat.{ℕ, _+_, _-_, _*_, _/_, _<_, _≤_, _^_}
+use native.Mathlib.Omega.{arith}
+use mathlib.Core.Path.{_≡_, refl, sym, ap, subst, _∙_}
+use borrow.Author.Needs.{needs}
+use lib.ListN.{length, getD}
+use Rattle.unfolding.proofs.Walk.{checked-less, wordsAt, stands-first, stands-goes}
+use Rattle.unfolding.proofs.Sizes.{Counted, counted-none, counted-more, counted-all, turned-small}
+use Rattle.path.proofs.size.size.Statement.{statement}
+use Rattle.path.proofs.size.size.Tie as tie
+
+abbrev Inv-loop : tie.InvT-loop
+Inv-loop rules goal calls answers n sizes cap steps state₀ sum₀ q₀ state sum q = (steps ≡ wordsAt rules goal answers n) × Counted rules goal calls answers n q state sum cap
+
+abbrev μ-loop : tie.MeasureT-loop
+μ-loop rules goal calls answers n sizes cap steps state₀ sum₀ q₀ state sum q = length steps - q
+
+mul-steps : tie.Need-mul-steps Inv-loop μ-loop
+mul-steps c = omega (arith, c .before .before .before .before .before .pre .0 .readable .long, c .before .before .before .before .before .pre .0 .readable .most)
+
+add-steps : tie.Need-add-steps Inv-loop μ-loop
+add-steps c = omega (arith, c .before .before .before .before .before .pre .0 .readable .long, c .before .before .before .before .before .pre .0 .readable .most)
+
+mul-steps-2 : tie.Need-mul-steps-2 Inv-loop μ-loop
+mul-steps-2 c = omega (arith, c .before .before .before .before .before .pre .0 .readable .long, c .before .before .before .before .before .pre .0 .readable .most)
+
+shared-slice-read-steps : tie.Need-shared-slice-read-steps Inv-loop μ-loop
+shared-slice-read-steps c = omega (arith, c .before .before .before .before .before .before .pre .0 .readable .long, c .before .before .before .before .before .before .pre .0 .readable .most)
+
+steps-requires : tie.Need-steps-requires Inv-loop μ-loop
+steps-requires c κs = (c .before .before .before .before .before .before .pre .0 .short, c .before .before .before .before .before .before .pre .0 .fits (c .before .before .before .before .before .before .args .n) (omega arith))
+
+start-requires : tie.Need-start-requires Inv-loop μ-loop
+start-requires c κs = c .before .before .before .before .before .before .before .pre .0 .readable
+
+loop-holds : tie.Need-loop-holds Inv-loop μ-loop
+loop-holds c = (c .before .steps .ensures .0, rw (c .start .ensures) (counted-none _ _ _ _ (stands-first _ _ _ _ (c .before .before .before .before .before .before .before .before .pre .0) (omega arith))))
+
+mul-take-step : tie.Need-mul-take-step Inv-loop μ-loop
+mul-take-step c = omega (arith, c .before .before .before .before .before .before .before .before .before .before .pre .0 .readable .long, c .before .before .before .before .before .before .before .before .before .before .pre .0 .readable .most, c .before .before .before .steps .ensures .1)
+
+shared-slice-read-take-step : tie.Need-shared-slice-read-take-step Inv-loop μ-loop
+shared-slice-read-take-step c = omega (arith, c .before .before .before .before .before .before .before .before .before .before .before .pre .0 .readable .long, c .before .before .before .before .before .before .before .before .before .before .before .pre .0 .readable .most, c .before .before .before .before .steps .ensures .1)
+
+mul-take-step-2 : tie.Need-mul-take-step-2 Inv-loop μ-loop
+mul-take-step-2 c = omega (arith, c .before .before .before .before .before .before .before .before .before .before .before .pre .0 .readable .long, c .before .before .before .before .before .before .before .before .before .before .before .pre .0 .readable .most, c .before .before .before .before .steps .ensures .1)
+
+add-take-step : tie.Need-add-take-step Inv-loop μ-loop
+add-take-step c = omega (arith, c .before .before .before .before .before .before .before .before .before .before .before .pre .0 .readable .long, c .before .before .before .before .before .before .before .before .before .before .before .pre .0 .readable .most, c .before .before .before .before .steps .ensures .1)
+
+add-take-step-2 : tie.Need-add-take-step-2 Inv-loop μ-loop
+add-take-step-2 c = omega (arith, c .before .before .before .before .before .before .before .before .before .before .before .pre .0 .readable .long, c .before .before .before .before .before .before .before .before .before .before .before .pre .0 .readable .most, c .before .before .before .before .steps .ensures .1)
+
+mul-take-step-3 : tie.Need-mul-take-step-3 Inv-loop μ-loop
+mul-take-step-3 c = omega (arith, c .before .before .before .before .before .before .before .before .before .before .before .pre .0 .readable .long, c .before .before .before .before .before .before .before .before .before .before .before .pre .0 .readable .most, c .before .before .before .before .steps .ensures .1)
+
+shared-slice-read-take-step-2 : tie.Need-shared-slice-read-take-step-2 Inv-loop μ-loop
+shared-slice-read-take-step-2 c = omega (arith, c .before .before .before .before .before .before .before .before .before .before .before .before .pre .0 .readable .long, c .before .before .before .before .before .before .before .before .before .before .before .before .pre .0 .readable .most, c .before .before .before .before .before .steps .ensures .1)
+
+take-step-requires : tie.Need-take-step-requires Inv-loop μ-loop
+take-step-requires c κs =
+    let a = c .before .before .before .before .before .before .before .before .before .before .before .before .args in
+    let i = c .before .before .before .loop .inv in
+    let l : c .before .before .before .loop .q < length (wordsAt (a .rules .now) (a .goal .now) (a .answers .now) (a .n)) = omega (arith, ap length (i .0)) in
+    (checked-less {n = a .n} (omega arith) (c .before .before .before .before .before .before .before .before .before .before .before .before .pre .0) .readable, c .before .before .before .before .before .before .before .before .before .before .before .before .pre .1, rw (i .0) (stands-goes (a .rules .now) (a .goal .now) (a .calls .now) (a .answers .now) (a .n) _ _ l (i .1 .stands)))
+
+capped-requires : tie.Need-capped-requires Inv-loop μ-loop
+capped-requires c κs = (c .before .before .before .before .loop .inv .1 .most, turned-small _ (c .before .before .before .before .before .before .before .before .before .before .before .before .before .pre .3) (c .take-step .ensures), c .before .before .before .before .before .before .before .before .before .before .before .before .before .pre .2)
+
+add-q : tie.Need-add-q Inv-loop μ-loop
+add-q c = omega (arith, c .before .before .before .before .before .before .before .before .before .before .before .before .before .before .pre .0 .readable .long, c .before .before .before .before .before .before .before .before .before .before .before .before .before .before .pre .0 .readable .most, c .before .before .before .before .before .before .before .steps .ensures .1)
+
+loop-less : tie.Need-loop-less Inv-loop μ-loop
+loop-less c = omega (arith, c .before .before .before .before .before .before .before .before .before .before .before .before .before .before .pre .0 .readable .long, c .before .before .before .before .before .before .before .before .before .before .before .before .before .before .pre .0 .readable .most, c .before .before .before .before .before .before .before .steps .ensures .1)
+
+loop-again : tie.Need-loop-again Inv-loop μ-loop
+loop-again c =
+    let a = c .before .before .before .before .before .before .before .before .before .before .before .before .before .before .args in
+    let i = c .before .before .before .before .before .loop .inv in
+    let l : c .before .before .before .before .before .loop .q < length (wordsAt (a .rules .now) (a .goal .now) (a .answers .now) (a .n)) = omega (arith, ap length (i .0)) in
+    (i .0, rw (c .capped .ensures) (counted-more (a .rules .now) (a .goal .now) (a .calls .now) (a .answers .now) (a .n) _ _ _ _ (i .1) l (c .before .before .before .before .before .before .before .before .before .before .before .before .before .before .pre .3) (rw (i .0) at (c .before .take-step .ensures))))
+
+returns : tie.Need-returns Inv-loop μ-loop
+returns c =
+    let a = c .before .before .before .before .before .before .before .before .before .before .args in
+    let i = c .before .loop .inv in
+    counted-all (a .rules .now) (a .goal .now) (a .calls .now) (a .answers .now) (a .n) _ _ _ _ (i .1) (omega (arith, ap length (i .0)))
+
+pub size-spec : {M : Type 1} → statement M
+size-spec =
+    tie.close
+    (tie.spec
+    Inv-loop
+    μ-loop
+    mul-steps
+    add-steps
+    mul-steps-2
+    shared-slice-read-steps
+    steps-requires
+    start-requires
+    loop-holds
+    mul-take-step
+    shared-slice-read-take-step
+    mul-take-step-2
+    add-take-step
+    add-take-step-2
+    mul-take-step-3
+    shared-slice-read-take-step-2
+    take-step-requires
+    capped-requires
+    add-q
+    loop-less
+    loop-again
+    returns)

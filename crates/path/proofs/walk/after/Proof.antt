@@ -1,0 +1,31 @@
+-- `after` meets its contract: a step that goes on is not stuck. Assumes nothing.
+use mathlib.Core.Path.{_≡_, refl, sym, ap, _∙_}
+use borrow.Author.Needs.{needs}
+use Rattle.steps.specs.Next.{onward}
+use Rattle.steps.proofs.WordLaws.{not-on}
+use Rattle.path.proofs.walk.after.Statement.{statement}
+use Rattle.path.proofs.walk.after.Tie as tie
+
+of-requires : tie.Need-of-requires
+of-requires c κs = search needs
+
+follow-requires : tie.Need-follow-requires
+follow-requires c κs = c .before .before .before .pre .0
+
+enum-known-next : tie.Need-enum-known-next
+enum-known-next c = search needs
+
+enum-told : tie.Need-enum-told
+enum-told c = search needs
+
+returns : tie.Need-returns
+unfolding onward
+returns c = record { leads = sym (rw (c .before .next .given .1, c .before .before .before .before .of .ensures) at (c .before .before .before .follow .ensures 0 0)) }
+
+returns-2 : tie.Need-returns-2
+unfolding onward
+returns-2 c = absurd (not-on (rw (c .enum-told .given .1, c .before .before .before .of .ensures) at (c .before .before .follow .ensures 0 0) ∙ c .before .before .before .before .before .before .pre .1 .1 .leads))
+
+pub after-spec : {M : Type 1} → statement M
+after-spec =
+    tie.close (tie.spec of-requires follow-requires enum-known-next enum-told returns returns-2)

@@ -1,0 +1,17 @@
+-- `shown` meets its contract. Assumes nothing.
+use mathlib.Core.Path.{_≡_, refl, sym, ap, _∙_}
+use borrow.Author.Tests.{ltb-true, ltb-false, lt-ltb, le-ltb, eq-eqb, ne-eqb}
+use Rattle.unfolding.specs.Path.{shown}
+use Rattle.path.proofs.walk.shown.Statement.{statement}
+use Rattle.path.proofs.walk.shown.Tie as tie
+
+returns : tie.Need-returns
+unfolding shown
+returns c x = rw (eq-eqb _ _ (c .if1 .taken)) refl
+
+returns-2 : tie.Need-returns-2
+unfolding shown
+returns-2 c x = rw (ne-eqb _ _ (c .if1 .left)) refl
+
+pub shown-spec : {M : Type 1} → statement M
+shown-spec = tie.close (tie.spec returns returns-2)

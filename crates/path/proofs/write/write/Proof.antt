@@ -1,0 +1,159 @@
+-- `write` meets its contract. The loop's invariant: the walk stands at place q and the next state at its own place, and the states so far are written;
+-- the measure: the steps left. Assumes nothing.
+use Prim.Native.Nat.{ℕ, _+_, _-_, _*_, _/_, _<_, _≤_, _^_}
+use native.Mathlib.Omega.{arith}
+use mathlib.Core.Path.{_≡_, refl, sym, ap, subst, _∙_}
+use borrow.Author.Needs.{needs}
+use lib.ListN.{length, getD}
+use Rattle.unfolding.proofs.Walk.{checked-less, leads-most, wordsAt, stands-first, stands-goes}
+use Rattle.unfolding.proofs.Places.{Along, along-first, along-next, along-end, exact, exact-call, room-left}
+use Rattle.unfolding.proofs.Writing.{Wrote, wrote-none, wrote-more}
+use Rattle.path.proofs.write.write.Statement.{statement}
+use Rattle.path.proofs.write.write.Tie as tie
+
+abbrev Inv-loop : tie.InvT-loop
+Inv-loop rules goal calls answers n sizes offsets list₀ steps state₀ at₀ q₀ list state at q = (steps ≡ wordsAt rules goal answers n) × Along rules goal calls answers n (getD offsets n 0) q state at × Wrote rules goal calls answers offsets n at list₀ list
+
+abbrev μ-loop : tie.MeasureT-loop
+μ-loop rules goal calls answers n sizes offsets list₀ steps state₀ at₀ q₀ list state at q = length steps - q
+
+mul-steps : tie.Need-mul-steps Inv-loop μ-loop
+mul-steps c = omega (arith, c .before .before .before .before .before .before .before .pre .checked .readable .long, c .before .before .before .before .before .before .before .pre .checked .readable .most)
+
+add-steps : tie.Need-add-steps Inv-loop μ-loop
+add-steps c = omega (arith, c .before .before .before .before .before .before .before .pre .checked .readable .long, c .before .before .before .before .before .before .before .pre .checked .readable .most)
+
+mul-steps-2 : tie.Need-mul-steps-2 Inv-loop μ-loop
+mul-steps-2 c = omega (arith, c .before .before .before .before .before .before .before .pre .checked .readable .long, c .before .before .before .before .before .before .before .pre .checked .readable .most)
+
+shared-slice-read-steps : tie.Need-shared-slice-read-steps Inv-loop μ-loop
+shared-slice-read-steps c = omega (arith, c .before .before .before .before .before .before .before .before .pre .checked .readable .long, c .before .before .before .before .before .before .before .before .pre .checked .readable .most)
+
+steps-requires : tie.Need-steps-requires Inv-loop μ-loop
+steps-requires c κs = (c .before .before .before .before .before .before .before .before .pre .checked .short, c .before .before .before .before .before .before .before .before .pre .checked .fits (c .before .before .before .before .before .before .before .before .args .n) (omega arith))
+
+start-requires : tie.Need-start-requires Inv-loop μ-loop
+start-requires c κs = c .before .before .before .before .before .before .before .before .before .pre .checked .readable
+
+mul-at : tie.Need-mul-at Inv-loop μ-loop
+mul-at c = omega (arith, c .before .before .before .before .before .before .before .before .before .before .pre .offsets-long)
+
+shared-slice-read-at : tie.Need-shared-slice-read-at Inv-loop μ-loop
+shared-slice-read-at c = omega (arith, c .before .before .before .before .before .before .before .before .before .before .before .pre .offsets-long)
+
+loop-holds : tie.Need-loop-holds Inv-loop μ-loop
+loop-holds c = (c .before .before .steps .ensures .0, rw (c .before .start .ensures) (along-first _ _ _ _ (stands-first _ _ _ _ (c .before .before .before .before .before .before .before .before .before .before .before .pre .checked) (omega arith))), wrote-none _ _ _ _ _ _ _)
+
+mul-step : tie.Need-mul-step Inv-loop μ-loop
+mul-step c = omega (arith, c .before .before .before .before .before .before .before .before .before .before .before .before .before .pre .checked .readable .long, c .before .before .before .before .before .before .before .before .before .before .before .before .before .pre .checked .readable .most, c .before .before .before .before .steps .ensures .1)
+
+shared-slice-read-step : tie.Need-shared-slice-read-step Inv-loop μ-loop
+shared-slice-read-step c = omega (arith, c .before .before .before .before .before .before .before .before .before .before .before .before .before .before .pre .checked .readable .long, c .before .before .before .before .before .before .before .before .before .before .before .before .before .before .pre .checked .readable .most, c .before .before .before .before .before .steps .ensures .1)
+
+mul-used : tie.Need-mul-used Inv-loop μ-loop
+mul-used c = omega (arith, c .before .before .before .before .before .before .before .before .before .before .before .before .before .before .pre .checked .readable .long, c .before .before .before .before .before .before .before .before .before .before .before .before .before .before .pre .checked .readable .most, c .before .before .before .before .before .steps .ensures .1)
+
+add-used : tie.Need-add-used Inv-loop μ-loop
+add-used c = omega (arith, c .before .before .before .before .before .before .before .before .before .before .before .before .before .before .pre .checked .readable .long, c .before .before .before .before .before .before .before .before .before .before .before .before .before .before .pre .checked .readable .most, c .before .before .before .before .before .steps .ensures .1)
+
+add-used-2 : tie.Need-add-used-2 Inv-loop μ-loop
+add-used-2 c = omega (arith, c .before .before .before .before .before .before .before .before .before .before .before .before .before .before .pre .checked .readable .long, c .before .before .before .before .before .before .before .before .before .before .before .before .before .before .pre .checked .readable .most, c .before .before .before .before .before .steps .ensures .1)
+
+mul-used-2 : tie.Need-mul-used-2 Inv-loop μ-loop
+mul-used-2 c = omega (arith, c .before .before .before .before .before .before .before .before .before .before .before .before .before .before .pre .checked .readable .long, c .before .before .before .before .before .before .before .before .before .before .before .before .before .before .pre .checked .readable .most, c .before .before .before .before .before .steps .ensures .1)
+
+shared-slice-read-used : tie.Need-shared-slice-read-used Inv-loop μ-loop
+shared-slice-read-used c = omega (arith, c .before .before .before .before .before .before .before .before .before .before .before .before .before .before .before .pre .checked .readable .long, c .before .before .before .before .before .before .before .before .before .before .before .before .before .before .before .pre .checked .readable .most, c .before .before .before .before .before .before .steps .ensures .1)
+
+take-step-requires : tie.Need-take-step-requires Inv-loop μ-loop
+take-step-requires c κs =
+    let a = c .before .before .before .before .before .before .before .before .before .before .before .before .before .before .before .args in
+    let i = c .before .before .before .loop .inv in
+    let l : c .before .before .before .loop .q < length (wordsAt (a .rules .now) (a .goal .now) (a .answers .now) (a .n)) = omega (arith, ap length (i .0)) in
+    (checked-less {n = a .n} (omega arith) (c .before .before .before .before .before .before .before .before .before .before .before .before .before .before .before .pre .checked) .readable, c .before .before .before .before .before .before .before .before .before .before .before .before .before .before .before .pre .sizes-long, rw (i .0) (stands-goes (a .rules .now) (a .goal .now) (a .calls .now) (a .answers .now) (a .n) _ _ l (i .1 .stands)))
+
+mul-write-step : tie.Need-mul-write-step Inv-loop μ-loop
+mul-write-step c = omega (arith, leads-most (c .take-step .ensures .to), c .before .before .before .before .before .before .before .before .before .before .before .before .before .before .before .before .pre .offsets-long)
+
+shared-slice-read-write-step : tie.Need-shared-slice-read-write-step Inv-loop μ-loop
+shared-slice-read-write-step c = omega (arith, leads-most (c .before .take-step .ensures .to), c .before .before .before .before .before .before .before .before .before .before .before .before .before .before .before .before .before .pre .offsets-long)
+
+write-step-requires : tie.Need-write-step-requires Inv-loop μ-loop
+write-step-requires c κs =
+    let a = c .before .before .before .before .before .before .before .before .before .before .before .before .before .before .before .before .before .before .args in
+    let i = c .before .before .before .before .before .before .loop .inv in
+    let l : c .before .before .before .before .before .before .loop .q < length (wordsAt (a .rules .now) (a .goal .now) (a .answers .now) (a .n)) = omega (arith, ap length (i .0)) in
+    let u = rw (i .0) at (c .before .before .take-step .ensures) in
+    let r = c .before .before .before .before .before .before .before .before .before .before .before .before .before .before .before .before .before .before .pre .roomy in (
+      omega (arith, room-left (a .rules .now) (a .goal .now) (a .calls .now) (a .answers .now) (a .n) _ _ _ _ (i .1) l r u, c .before .before .before .before .before .before .before .before .before .before .before .before .before .before .before .before .before .before .pre .inside (a .n) (r .after-first), i .2 .long),
+      λ k. (let k′ = rw (i .0) at k in omega (arith, exact-call (a .rules .now) (a .goal .now) (a .calls .now) (a .answers .now) (a .n) _ _ _ _ (i .1) l r u k′, c .before .before .before .before .before .before .before .before .before .before .before .before .before .before .before .before .before .before .pre .inside _ (c .before .before .before .before .before .before .before .before .before .before .before .before .before .before .before .before .before .before .pre .linked _ l k′), i .2 .long)),
+    )
+
+add-at : tie.Need-add-at Inv-loop μ-loop
+add-at c =
+    let a = c .before .before .before .before .before .before .before .before .before .before .before .before .before .before .before .before .before .before .before .before .before .before .args in
+    let i = c .before .before .before .before .before .before .before .before .before .before .loop .inv in
+    let l : c .before .before .before .before .before .before .before .before .before .before .loop .q < length (wordsAt (a .rules .now) (a .goal .now) (a .answers .now) (a .n)) = omega (arith, ap length (i .0)) in
+    let u = rw (i .0) at (c .before .before .before .before .before .before .take-step .ensures) in
+    omega (arith, room-left (a .rules .now) (a .goal .now) (a .calls .now) (a .answers .now) (a .n) _ _ _ _ (i .1) l (c .before .before .before .before .before .before .before .before .before .before .before .before .before .before .before .before .before .before .before .before .before .before .pre .roomy) u, c .before .before .before .before .before .before .before .before .before .before .before .before .before .before .before .before .before .before .before .before .before .before .pre .roomy .room, c .before .before .before .before .before .before .before .before .before .before .before .before .before .before .before .before .before .before .before .before .before .before .pre .roomy .small)
+
+add-q : tie.Need-add-q Inv-loop μ-loop
+add-q c = omega (arith, c .before .before .before .before .before .before .before .before .before .before .before .before .before .before .before .before .before .before .before .before .before .before .pre .checked .readable .long, c .before .before .before .before .before .before .before .before .before .before .before .before .before .before .before .before .before .before .before .before .before .before .pre .checked .readable .most, c .before .before .before .before .before .before .before .before .before .before .before .before .before .steps .ensures .1)
+
+loop-less : tie.Need-loop-less Inv-loop μ-loop
+loop-less c = omega (arith, c .before .before .before .before .before .before .before .before .before .before .before .before .before .before .before .before .before .before .before .before .before .before .pre .checked .readable .long, c .before .before .before .before .before .before .before .before .before .before .before .before .before .before .before .before .before .before .before .before .before .before .pre .checked .readable .most, c .before .before .before .before .before .before .before .before .before .before .before .before .before .steps .ensures .1)
+
+loop-again : tie.Need-loop-again Inv-loop μ-loop
+loop-again c =
+    let a = c .before .before .before .before .before .before .before .before .before .before .before .before .before .before .before .before .before .before .before .before .before .before .args in
+    let i = c .before .before .before .before .before .before .before .before .before .before .loop .inv in
+    let l : c .before .before .before .before .before .before .before .before .before .before .loop .q < length (wordsAt (a .rules .now) (a .goal .now) (a .answers .now) (a .n)) = omega (arith, ap length (i .0)) in
+    let u = rw (i .0) at (c .before .before .before .before .before .before .take-step .ensures) in
+    let e = exact (a .rules .now) (a .goal .now) (a .calls .now) (a .answers .now) (a .n) _ _ _ _ (i .1) l (c .before .before .before .before .before .before .before .before .before .before .before .before .before .before .before .before .before .before .before .before .before .before .pre .roomy) u in (
+      i .0,
+      along-next (a .rules .now) (a .goal .now) (a .calls .now) (a .answers .now) (a .n) _ _ _ _ (i .1) l _ (u .to) _ e,
+      wrote-more (a .rules .now) (a .goal .now) (a .calls .now) (a .answers .now) _ (a .n) _ _ _ _ _ _ _ _ (i .2) (c .before .before .before .before .before .before .before .before .before .before .before .before .before .before .before .before .before .before .before .before .before .before .pre .roomy .after-first) (i .1) (c .before .before .before .before .before .before .before .before .before .before .before .before .before .before .before .before .before .before .before .before .before .before .pre .linked) l (u .to) e (rw (i .0) at (c .before .before .before .write-step .ensures)),
+    )
+
+same-length : tie.Need-same-length Inv-loop μ-loop
+same-length c = c .before .loop .inv .2 .long
+
+returns : tie.Need-returns Inv-loop μ-loop
+returns c =
+    let a = c .before .before .before .before .before .before .before .before .before .before .before .before .before .args in
+    let i = c .before .loop .inv in
+    let e = along-end (a .rules .now) (a .goal .now) (a .calls .now) (a .answers .now) (a .n) _ _ _ _ (i .1) (omega (arith, ap length (i .0))) in
+    rw e at (i .2)
+
+pub write-spec : {M : Type 1} → statement M
+write-spec =
+    tie.close
+    (tie.spec
+    Inv-loop
+    μ-loop
+    mul-steps
+    add-steps
+    mul-steps-2
+    shared-slice-read-steps
+    steps-requires
+    start-requires
+    mul-at
+    shared-slice-read-at
+    loop-holds
+    mul-step
+    shared-slice-read-step
+    mul-used
+    add-used
+    add-used-2
+    mul-used-2
+    shared-slice-read-used
+    take-step-requires
+    mul-write-step
+    shared-slice-read-write-step
+    write-step-requires
+    add-at
+    add-q
+    loop-less
+    loop-again
+    same-length
+    returns)

@@ -1,0 +1,3 @@
+-- What the path answers, and the paths of document 01's drills.
+pub mod Outcome
+pub mod Drills

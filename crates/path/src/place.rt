@@ -1,0 +1,74 @@
+// A place in the path for what each record used adds, from the asked record down. Place 0 is the call's state, so 0 says that there is none.
+use crate::walk::start;
+use crate::walk::take_step;
+use checks::body;
+use steps::word::is_call;
+ghost use mathlib.Core.Path.{_≡_};
+ghost use mathlib.Core.Bool.{cond};
+ghost use mathlib.Core.List.{_∷_};
+ghost use Prim.Native.Nat.{_/_, _<_};
+ghost use lib.ListN.{length, set};
+ghost use lib.Dec.{ltb};
+ghost use Rattle.unfolding.proofs.Walk.{addedBy, startAt, wordsAt};
+ghost use Rattle.unfolding.proofs.Places.{Placing, Laying, Placeable, Laid};
+
+// Gives the record that a call uses its place.
+fn note(step: u16, used: u64, at: usize, offsets: &mut [usize])
+    requires { ⌜ (2 < step / 256 → used < length (now offsets)) ⌝ }
+    ensures { λ _. ⌜ now (offsets .exit) ≡ cond (ltb 2 (step / 256)) (set (now (offsets .entry)) used at) (now (offsets .entry)) ⌝ }
+{
+    if is_call(step) {
+        offsets[used as usize] = at;
+    }
+}
+
+// Gives the records that record n uses their places.
+fn place<'a>(
+    rules: &'a [u16],
+    goal: &'a [u16],
+    calls: &[u64],
+    answers: &[u64],
+    n: usize,
+    sizes: &[usize],
+    offsets: &mut [usize],
+)
+    requires { ⌜ Placing (now rules) (now goal) (now calls) (now answers) (now sizes) (now offsets) n ⌝ }
+    ensures { λ _. ⌜ Laying (now (rules .entry)) (now (goal .entry)) (now (calls .entry)) (now (answers .entry)) n (length (wordsAt (now (rules .entry)) (now (goal .entry)) (now (answers .entry)) n)) (now (offsets .entry)) (now (offsets .exit)) ⌝ }
+{
+    let steps = body::steps(rules, goal, answers[19 * n + 2]);
+    let mut state = start(calls, answers, n);
+    let mut at = offsets[n];
+    let mut q = 0;
+    while q < steps.len() {
+        let step = steps[q];
+        let used = answers[19 * n + 3 + q];
+        let t = take_step(step, state, used, n, calls, answers, sizes);
+        note(step, used, at, offsets);
+        at += t.size;
+        state = t.state;
+        q += 1;
+    }
+}
+
+// Gives the asked record and all that it uses, directly or not, their places.
+pub fn place_all<'a>(
+    rules: &'a [u16],
+    goal: &'a [u16],
+    calls: &[u64],
+    answers: &[u64],
+    asked: usize,
+    sizes: &[usize],
+    offsets: &mut [usize],
+)
+    requires { ⌜ Placeable (now rules) (now goal) (now calls) (now answers) (now sizes) (now offsets) asked ⌝ }
+    ensures { λ _. ⌜ (length (now (offsets .exit)) ≡ length (now (offsets .entry))) × Laid (now (rules .entry)) (now (goal .entry)) (now (calls .entry)) (now (answers .entry)) asked 0 (startAt (now (calls .entry)) (now (answers .entry)) asked ∷ addedBy (now (rules .entry)) (now (goal .entry)) (now (calls .entry)) (now (answers .entry)) asked) (now (offsets .exit)) ⌝ }
+{
+    offsets[asked] = 1;
+    let mut n = asked + 1;
+    while 0 < n {
+        n -= 1;
+        if offsets[n] != 0 {
+            place(rules, goal, calls, answers, n, sizes, offsets);
+        }
+    }
+}

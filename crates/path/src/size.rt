@@ -1,0 +1,73 @@
+// How many states each record adds, counted up to a cap: few records may add more than 64 bits can count.
+use crate::walk::start;
+use crate::walk::take_step;
+use checks::body;
+ghost use mathlib.Core.Path.{_≡_};
+ghost use Prim.Native.Nat.{_+_, _≤_, _<_, _^_, min};
+ghost use lib.ListN.{length};
+ghost use Rattle.unfolding.proofs.Walk.{Checked, addedBy};
+ghost use Rattle.unfolding.proofs.Sizes.{Sized};
+
+// The sum, or the cap where it is larger.
+fn capped(a: usize, b: usize, cap: usize) -> usize
+    requires { ⌜ (a ≤ cap) × (b ≤ cap + 1) × (cap < 2 ^ 61) ⌝ }
+    ensures { λ r. ⌜ r ≡ min cap (a + b) ⌝ }
+{
+    let sum = a + b;
+    if sum < cap { sum } else { cap }
+}
+
+// How many states record n adds, at most the cap.
+fn size<'a>(
+    rules: &'a [u16],
+    goal: &'a [u16],
+    calls: &[u64],
+    answers: &[u64],
+    n: usize,
+    sizes: &[usize],
+    cap: usize,
+) -> usize
+    requires { ⌜ Checked (now rules) (now goal) (now calls) (now answers) (n + 1) × (n ≤ length (now sizes)) × (cap < 2 ^ 61) × Sized (addedBy (now rules) (now goal) (now calls) (now answers)) (now sizes) n cap ⌝ }
+    ensures { λ r. ⌜ r ≡ min cap (length (addedBy (now (rules .entry)) (now (goal .entry)) (now (calls .entry)) (now (answers .entry)) n)) ⌝ }
+{
+    let steps = body::steps(rules, goal, answers[19 * n + 2]);
+    let mut state = start(calls, answers, n);
+    let mut sum = 0;
+    let mut q = 0;
+    while q < steps.len() {
+        let t = take_step(
+            steps[q],
+            state,
+            answers[19 * n + 3 + q],
+            n,
+            calls,
+            answers,
+            sizes,
+        );
+        sum = capped(sum, t.size, cap);
+        state = t.state;
+        q += 1;
+    }
+    sum
+}
+
+// Fills `sizes` with how many states each of the first `count` records adds, at most the cap.
+pub fn size_all<'a>(
+    rules: &'a [u16],
+    goal: &'a [u16],
+    calls: &[u64],
+    answers: &[u64],
+    count: usize,
+    cap: usize,
+    sizes: &mut [usize],
+)
+    requires { ⌜ Checked (now rules) (now goal) (now calls) (now answers) count × (count ≤ length (now sizes)) × (cap < 2 ^ 61) ⌝ }
+    ensures { λ _. ⌜ (length (now (sizes .exit)) ≡ length (now (sizes .entry))) × Sized (addedBy (now (rules .entry)) (now (goal .entry)) (now (calls .entry)) (now (answers .entry))) (now (sizes .exit)) count cap ⌝ }
+{
+    let mut n = 0;
+    while n < count {
+        let added = size(rules, goal, calls, answers, n, &sizes[..n], cap);
+        sizes[n] = added;
+        n += 1;
+    }
+}

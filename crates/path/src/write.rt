@@ -1,0 +1,90 @@
+// The states of the records that have places, from the first record up: a call's states are copied from the place of the record that it uses.
+use crate::walk::start;
+use crate::walk::take_step;
+use checks::body;
+use steps::word::is_call;
+ghost use Prim.Native.Nat.{_+_, _/_, _≤_, _<_};
+ghost use lib.ListN.{length, getD};
+ghost use Rattle.unfolding.proofs.Walk.{addedBy};
+ghost use Rattle.unfolding.proofs.Lies.{Copied};
+ghost use Rattle.unfolding.proofs.Writing.{Stepped, Ready, Wrote, Written, Writable};
+
+// Copies n words of the list to another place.
+fn copy(list: &mut [u64], from: usize, to: usize, n: usize)
+    requires { ⌜ (from + n ≤ length (now list)) × (to + n ≤ length (now list)) ⌝ }
+    ensures { λ _. ⌜ Copied (now (list .entry)) (now (list .exit)) from to n n ⌝ }
+{
+    let mut i = 0;
+    while i < n {
+        list[to + i] = list[from + i];
+        i += 1;
+    }
+}
+
+// Writes what one step adds: a call's states, if they do not stand there already, or the new state.
+fn write_step(step: u16, from: usize, at: usize, size: usize, state: u64, list: &mut [u64])
+    requires { ⌜ (at + size ≤ length (now list)) × (2 < step / 256 → from + size ≤ length (now list)) ⌝ }
+    ensures { λ _. ⌜ Stepped (now (list .entry)) (now (list .exit)) step from at size state ⌝ }
+{
+    if is_call(step) {
+        if from != at {
+            copy(list, from, at, size);
+        }
+        return;
+    }
+    if size != 0 {
+        list[at] = state;
+    }
+}
+
+// Writes what record n adds at its place; the records below it are written.
+fn write<'a>(
+    rules: &'a [u16],
+    goal: &'a [u16],
+    calls: &[u64],
+    answers: &[u64],
+    n: usize,
+    sizes: &[usize],
+    offsets: &[usize],
+    list: &mut [u64],
+)
+    requires { ⌜ Ready (now rules) (now goal) (now calls) (now answers) (now sizes) (now offsets) n (now list) ⌝ }
+    ensures { λ _. ⌜ Wrote (now (rules .entry)) (now (goal .entry)) (now (calls .entry)) (now (answers .entry)) (now (offsets .entry)) n (getD (now (offsets .entry)) n 0 + length (addedBy (now (rules .entry)) (now (goal .entry)) (now (calls .entry)) (now (answers .entry)) n)) (now (list .entry)) (now (list .exit)) ⌝ }
+{
+    let steps = body::steps(rules, goal, answers[19 * n + 2]);
+    let mut state = start(calls, answers, n);
+    let mut at = offsets[n];
+    let mut q = 0;
+    while q < steps.len() {
+        let step = steps[q];
+        let used = answers[19 * n + 3 + q];
+        let t = take_step(step, state, used, n, calls, answers, sizes);
+        write_step(step, offsets[used as usize], at, t.size, t.state, list);
+        at += t.size;
+        state = t.state;
+        q += 1;
+    }
+}
+
+// Writes what the records up to the asked one add, each that has a place.
+pub fn write_all<'a>(
+    rules: &'a [u16],
+    goal: &'a [u16],
+    calls: &[u64],
+    answers: &[u64],
+    asked: usize,
+    sizes: &[usize],
+    offsets: &[usize],
+    list: &mut [u64],
+)
+    requires { ⌜ Writable (now rules) (now goal) (now calls) (now answers) (now sizes) (now offsets) asked (now list) ⌝ }
+    ensures { λ _. ⌜ Written (now (rules .entry)) (now (goal .entry)) (now (calls .entry)) (now (answers .entry)) (now (offsets .entry)) (asked + 1) (now (list .entry)) (now (list .exit)) ⌝ }
+{
+    let mut n = 0;
+    while n <= asked {
+        if offsets[n] != 0 {
+            write(rules, goal, calls, answers, n, sizes, offsets, list);
+        }
+        n += 1;
+    }
+}

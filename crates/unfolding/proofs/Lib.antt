@@ -1,0 +1,10 @@
+-- Laws of the path, and what the code that lists it promises.
+pub mod Below
+pub mod Walk
+pub mod Sizes
+pub mod Lies
+pub mod Places
+pub mod Writing
+pub mod Checking
+pub mod StatesLaws
+pub mod Soundness

@@ -1,0 +1,168 @@
+-- The walk of one checked record, step by step: where it stands, what is left to add, and how much a step adds. Assumes nothing.
+use Prim.Native.Nat.{ℕ, zero, suc, _+_, _*_, _/_, _%_, _<_, _≤_, min}
+use native.Mathlib.Omega.{arith}
+use native.Mathlib.Numerals.{add-one}
+use mathlib.Core.Path.{_≡_, refl, sym, ap, subst, _∙_}
+use mathlib.Core.Bool.{Bool, true, false, cond}
+use mathlib.Core.List.{List, [], _∷_, _++_}
+use lib.ListN.{length, getD, drop, drop-of-length-le}
+use lib.Seq.{drop-cons}
+use lib.Dec.{eqb, ltb}
+use borrow.Author.Tests.{eqb-true, ltb-true, ltb-false}
+use Rattle.steps.specs.State.{State}
+use Rattle.steps.specs.Step.{Step, query, insert, delete, call, Body}
+use Rattle.steps.specs.Words.{step-by, step-of, body-of}
+use Rattle.steps.specs.Elementary.{Onward, on, stuck, elementary}
+use Rattle.steps.proofs.EachBelow.{true-not-false}
+use Rattle.steps.proofs.WordLaws.{call-word, not-on}
+use Rattle.tabling.specs.Records.{Calls, Answers, Bodies, calls-in, answers-in, bodies-of, follow, follows}
+use Rattle.checks.specs.Readable.{Short, Readable}
+use Rattle.checks.proofs.FollowLaws.{follow-elementary, follows-on, follows-stuck}
+use Rattle.unfolding.specs.Path.{shown, adds, walked, added}
+use Rattle.unfolding.proofs.Below.{call-below, added-walk}
+
+-- ---- the records of lent words, however many are counted
+
+abbrev pub callsOf : List ℕ → Calls
+callsOf calls = calls-in 2 calls 0
+
+abbrev pub answersOf : List ℕ → Answers
+answersOf answers = answers-in 19 answers 0
+
+-- the step words of record n, and the state of its call
+abbrev pub wordsAt : List ℕ → List ℕ → List ℕ → ℕ → List ℕ
+wordsAt rules goal answers n = bodies-of rules goal .words (getD answers (19 * n + 2) 0)
+
+abbrev pub startAt : List ℕ → List ℕ → ℕ → State
+startAt calls answers n = getD calls (2 * getD answers (19 * n) 0 + 1) 0
+
+abbrev pub stepAt : List ℕ → List ℕ → List ℕ → ℕ → ℕ → ℕ
+stepAt rules goal answers n q = getD (wordsAt rules goal answers n) q 0
+
+abbrev pub evidenceAt : List ℕ → ℕ → ℕ → ℕ
+evidenceAt answers n q = getD answers (19 * n + 3 + q) 0
+
+-- what record n adds
+abbrev pub addedBy : List ℕ → List ℕ → List ℕ → List ℕ → ℕ → List State
+addedBy rules goal calls answers = added (callsOf calls) (answersOf answers) (bodies-of rules goal)
+
+-- The records below count are checked.
+pub record Checked (rules goal calls answers : List ℕ) (count : ℕ) : Type 0 where
+  pub short : Short rules goal
+  pub readable : Readable calls answers count
+  pub fits : (n : ℕ) → n < count → (a : ℕ) × (bodies-of rules goal .fits (getD answers (19 * n + 2) 0) a ≡ true)
+  pub followed : (n : ℕ) → n < count → follows (callsOf calls) (answersOf answers) n (body-of (wordsAt rules goal answers n)) 0 (startAt calls answers n) ≡ true
+
+pub checked-less : {rules goal calls answers : List ℕ} {count n : ℕ} → n ≤ count → Checked rules goal calls answers count → Checked rules goal calls answers n
+checked-less l c =
+    record {
+      short = c .short;
+      readable = record { most = omega (arith, c .readable .most); long = omega (arith, c .readable .long); called = λ x h. c .readable .called x (omega arith) };
+      fits = λ x h. c .fits x (omega arith);
+      followed = λ x h. c .followed x (omega arith);
+    }
+
+-- ---- one step
+
+-- A step of record n leads from s to t with evidence e.
+pub record LeadsTo (calls answers : List ℕ) (n w : ℕ) (s : State) (e : ℕ) (t : State) : Type 0 where
+  pub leads : follow (callsOf calls) (answersOf answers) n (step-of w) s e ≡ on t
+
+-- a call uses a smaller record
+pub leads-below : {calls answers : List ℕ} {n w : ℕ} {s : State} {e : ℕ} {t : State} → 2 < w / 256 → LeadsTo calls answers n w s e t → e < n
+leads-below {calls} {answers} {n} {w} {s} {e} {t} l h =
+    call-below (callsOf calls) (answersOf answers) n (w % 256) s t e (rw (call-word w l) at (h .leads))
+
+-- any evidence is at most the record's own number
+pub leads-most : {calls answers : List ℕ} {n w : ℕ} {s : State} {e : ℕ} {t : State} → LeadsTo calls answers n w s e t → e ≤ n
+leads-most {calls} {answers} {n} {w} {s} {e} {t} h = by (ltb 2 (w / 256)) refl
+  where
+    none : (b : Bool) → eqb e 0 ≡ b → cond b (elementary (step-of w) s) stuck ≡ on t → e ≤ n
+    none true z k = let q : e ≡ 0 = eqb-true e 0 z in omega arith
+    none false z k = absurd (not-on k)
+
+    by : (b : Bool) → ltb 2 (w / 256) ≡ b → e ≤ n
+    by true z = omega (arith, leads-below (ltb-true 2 (w / 256) z) h)
+    by false z = none (eqb e 0) refl (sym (follow-elementary (callsOf calls) (answersOf answers) n w s e (ltb-false 2 (w / 256) z)) ∙ h .leads)
+
+pub adds-call : (f : ℕ → List State) (w : ℕ) (s t : State) (e : ℕ) → 2 < w / 256 → adds f (step-of w) s t e ≡ f e
+unfolding adds
+adds-call f w s t e l = rw (call-word w l) refl
+
+adds-by : (f : ℕ → List State) (k i : ℕ) (s t : State) (e : ℕ) → k ≤ 2 → adds f (step-by k i) s t e ≡ shown (step-by k i) s t
+unfolding adds step-by
+adds-by f zero i s t e l = refl
+adds-by f (suc zero) i s t e l = refl
+adds-by f (suc (suc zero)) i s t e l = refl
+adds-by f (suc (suc (suc k))) i s t e l = absurd (omega arith)
+
+pub adds-shown : (f : ℕ → List State) (w : ℕ) (s t : State) (e : ℕ) → w / 256 ≤ 2 → adds f (step-of w) s t e ≡ shown (step-of w) s t
+adds-shown f w s t e l = adds-by f (w / 256) (w % 256) s t e l
+
+-- all that the code knows of `shown`: it is the new state or nothing
+pub shown-small : (x : Step) (s t : State) → length (shown x s t) ≤ 1
+unfolding shown
+shown-small x s t = by (eqb t s)
+  where
+    by : (b : Bool) → length (cond b [] (t ∷ [])) ≤ 1
+    by true = omega arith
+    by false = omega arith
+
+pub shown-new : (x : Step) (s t : State) → 0 < length (shown x s t) → getD (shown x s t) 0 0 ≡ t
+unfolding shown
+shown-new x s t = by (eqb t s)
+  where
+    by : (b : Bool) → 0 < length (cond b [] (t ∷ [])) → getD (cond b [] (t ∷ [])) 0 0 ≡ t
+    by true l = absurd (omega arith)
+    by false l = refl
+
+-- a step, then the steps after it
+walked-next : (calls : Calls) (answers : Answers) (n : ℕ) (f : ℕ → List State) (x : Step) (rest : Body) (q : ℕ) (s t : State) → follow calls answers n x s (answers .evidence n q) ≡ on t
+    → walked calls answers n f (x ∷ rest) q s ≡ adds f x s t (answers .evidence n q) ++ walked calls answers n f rest (suc q) t
+unfolding walked
+walked-next calls answers n f x rest q s t e =
+    subst (λ (o : Onward). _≡_ {A = List State} (elim o [ on u ↦ adds f x s u (answers .evidence n q) ++ walked calls answers n f rest (suc q) u | stuck ↦ [] ])
+    (adds f x s t (answers .evidence n q) ++ walked calls answers n f rest (suc q) t)) (sym e) refl
+
+-- ---- the walk
+
+module _ (rules goal calls answers : List ℕ) where
+  -- The walk of record n stands at place q in state s.
+  pub record Stands (n q : ℕ) (s : State) : Type 0 where
+    pub within : q ≤ length (wordsAt rules goal answers n)
+    pub goes : follows (callsOf calls) (answersOf answers) n (body-of (drop q (wordsAt rules goal answers n))) q s ≡ true
+
+  -- what the steps from there on add
+  abbrev pub left : ℕ → ℕ → State → List State
+  left n q s = walked (callsOf calls) (answersOf answers) n (addedBy rules goal calls answers) (body-of (drop q (wordsAt rules goal answers n))) q s
+
+  pub stands-first : {count n : ℕ} → Checked rules goal calls answers count → n < count → Stands n 0 (startAt calls answers n)
+  stands-first {count} {n} c l = record { within = omega arith; goes = c .followed n l }
+
+  pub left-first : (n : ℕ) → addedBy rules goal calls answers n ≡ left n 0 (startAt calls answers n)
+  left-first n = added-walk (callsOf calls) (answersOf answers) (bodies-of rules goal) n
+
+  module _ (n q : ℕ) (s : State) (l : q < length (wordsAt rules goal answers n)) where
+    pub stands-goes : Stands n q s → (t : State) × LeadsTo calls answers n (stepAt rules goal answers n q) s (evidenceAt answers n q) t
+    stands-goes h = by (follow (callsOf calls) (answersOf answers) n (step-of (stepAt rules goal answers n q)) s (evidenceAt answers n q)) refl
+      where
+        by : (o : Onward) → follow (callsOf calls) (answersOf answers) n (step-of (stepAt rules goal answers n q)) s (evidenceAt answers n q) ≡ o
+            → (t : State) × LeadsTo calls answers n (stepAt rules goal answers n q) s (evidenceAt answers n q) t
+        by (on t) e = (t, record { leads = e })
+        by stuck e = absurd (true-not-false (sym (h .goes) ∙ follows-stuck (callsOf calls) (answersOf answers) n (wordsAt rules goal answers n) q s l (sym e)))
+
+    pub stands-next : (t : State) → Stands n q s → LeadsTo calls answers n (stepAt rules goal answers n q) s (evidenceAt answers n q) t → Stands n (q + 1) t
+    stands-next t h e = record {
+      within = omega arith;
+      goes = sym (follows-on (callsOf calls) (answersOf answers) n (wordsAt rules goal answers n) q s t l (sym (e .leads))) ∙ h .goes;
+    }
+
+    pub left-next : (t : State) → LeadsTo calls answers n (stepAt rules goal answers n q) s (evidenceAt answers n q) t
+        → left n q s ≡ adds (addedBy rules goal calls answers) (step-of (stepAt rules goal answers n q)) s t (evidenceAt answers n q) ++ left n (q + 1) t
+    left-next t e =
+        rw (drop-cons (wordsAt rules goal answers n) q 0 l, add-one q)
+        (walked-next (callsOf calls) (answersOf answers) n (addedBy rules goal calls answers) (step-of (stepAt rules goal answers n q)) (body-of (drop (suc q) (wordsAt rules goal answers n))) q s t (e .leads))
+
+  pub left-end : (n q : ℕ) (s : State) → length (wordsAt rules goal answers n) ≤ q → left n q s ≡ []
+  unfolding walked
+  left-end n q s l = rw (drop-of-length-le (wordsAt rules goal answers n) l) refl

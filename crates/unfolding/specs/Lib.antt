@@ -1,0 +1,3 @@
+-- The path of an answer record, and the states of a deduction.
+pub mod Path
+pub mod States

@@ -1,0 +1,1 @@
+// The execution that an answer record's evidence unfolds to: definitions and laws, no code.
