@@ -1,0 +1,2 @@
+-- Reading: what the reader hands to the evaluator.
+pub mod Reading

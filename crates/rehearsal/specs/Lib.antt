@@ -1,0 +1,2 @@
+-- Rehearsed: what one rehearsal of a sheet gives.
+pub mod Rehearsed

@@ -1,0 +1,25 @@
+-- What one rehearsal of a sheet gives and leaves in the list of ends. Assumes nothing.
+use Prim.Native.Nat.{ℕ}
+use mathlib.Core.Path.{_≡_}
+use mathlib.Core.List.{List}
+use lib.ListN.{length, replicate}
+use Rattle.sheet.specs.Book.{Book, joined}
+use Rattle.sheet.specs.Reader.{readSheet, refused, written}
+use Rattle.evaluator.specs.Evaluated.{Evaluated, Asked, asked, lent, told}
+use Rattle.rehearsal.specs.declared.Rehearsal.{Rehearsal}
+
+-- A refusal of the reader: its number and line, counts of 0.
+abbrev pub refusal : ℕ → ℕ → Rehearsal
+refusal number line = record { refusal = number; line = line; ends = 0; calls = 0; answers = 0 }
+
+-- What a book asks of the evaluator.
+abbrev pub asked-by : Book → Asked
+asked-by b = asked (length (b .names .fluents)) (length (b .names .actions)) (joined (b .rules)) (b .goal) (b .start)
+
+pub data Rehearsed (sheet before after : List ℕ) (r : Rehearsal) : Type 0 where
+  -- 10 to 18: the list unchanged.
+  not-read : (number line : ℕ) → readSheet sheet ≡ refused number line → r ≡ refusal number line → after ≡ before → Rehearsed sheet before after r
+  -- The book's goal evaluated in rooms of 512 calls and 256 answers, both tables 0 at first; no line.
+  evaluated : (b : Book) (calls answers : List ℕ) → readSheet sheet ≡ written b → r .line ≡ 0
+      → Evaluated (asked-by b) (lent (replicate 1024 0) (replicate 4864 0) before) (lent calls answers after) (told (r .refusal) (r .ends) (r .calls) (r .answers))
+      → Rehearsed sheet before after r

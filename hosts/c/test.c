@@ -1,0 +1,150 @@
+/* The operations as a C host meets them: results, refusals, and what each buffer holds afterwards. */
+#include "lawhemuri.h"
+
+#include <stdio.h>
+#include <string.h>
+
+#define MARK 0x5555555555555555u
+#define WORDS(a) (sizeof(a) / sizeof(a)[0])
+
+static unsigned failures;
+
+static void expect(int holds, const char *what, int line) {
+    if (!holds) {
+        failures++;
+        printf("hosts/c/test.c:%d: %s\n", line, what);
+    }
+}
+#define EXPECT(c) expect((c), #c, __LINE__)
+
+static const char EXAMPLE[] = "fluent\topen\nfluent\tlit\naction\tpurge\naction\tlight\nrule\tpurge\t+open\n"
+                              "rule\tlight\t!purge\t?open\t+lit\t-open\nstart\ngoal\t!light\n";
+
+/* Drill D2: g: !g ?a +b; g: +a; goal !g. */
+static const uint16_t RULES[36] = {0, 3, 768, 0, 257, [18] = 0, 1, 256};
+static const uint16_t GOAL[1] = {768};
+
+static uint64_t calls[2 * 8], answers[19 * 8], ends[8];
+
+static int all(const uint64_t *words, size_t len, uint64_t value) {
+    for (size_t i = 0; i < len; i++)
+        if (words[i] != value)
+            return 0;
+    return 1;
+}
+
+static void fill(uint64_t *words, size_t len) {
+    for (size_t i = 0; i < len; i++)
+        words[i] = MARK;
+}
+
+/* Runs drill D2 in these rooms, over buffers filled with marks. */
+static lawhemuri_run in_rooms(size_t call_room, size_t answer_room, size_t list) {
+    fill(calls, WORDS(calls));
+    fill(answers, WORDS(answers));
+    fill(ends, WORDS(ends));
+    return lawhemuri_evaluate(2, 1, RULES, 36, GOAL, 1, 0, calls, 2 * call_room, answers, 19 * answer_room, ends, list);
+}
+
+static lawhemuri_sheet read_text(const char *text, uint16_t *rules, size_t len) {
+    return lawhemuri_read((const uint8_t *)text, strlen(text), rules, len);
+}
+
+static void test_example(void) {
+    uint16_t rules[40];
+    memset(rules, 0x77, sizeof rules);
+    lawhemuri_sheet s = read_text(EXAMPLE, rules, WORDS(rules));
+    EXPECT(s.refusal == LAWHEMURI_OK && s.line == 0);
+    EXPECT(s.fluents == 2 && s.actions == 2 && s.rules == 2 && s.start == 0);
+    EXPECT(s.goal_len == 1 && s.goal[0] == 769 && s.goal[1] == 0 && s.goal[15] == 0);
+    EXPECT(rules[35] == 0 && rules[36] == 0x7777 && rules[39] == 0x7777);
+    fill(ends, WORDS(ends));
+    lawhemuri_run r = lawhemuri_evaluate(s.fluents, s.actions, rules, LAWHEMURI_RULE_WORDS * s.rules, s.goal, s.goal_len,
+                                         s.start, calls, WORDS(calls), answers, WORDS(answers), ends, WORDS(ends));
+    EXPECT(r.refusal == LAWHEMURI_OK && r.ends == 1 && r.calls == 3 && r.answers == 3);
+    EXPECT(ends[0] == 2 && all(ends + 1, WORDS(ends) - 1, MARK));
+    EXPECT(all(calls + 6, WORDS(calls) - 6, 0) && all(answers + 57, WORDS(answers) - 57, 0));
+}
+
+static void test_names(void) {
+    const uint8_t *text = (const uint8_t *)EXAMPLE;
+    size_t len = strlen(EXAMPLE);
+    lawhemuri_span lit = lawhemuri_fluent_name(text, len, 1), none = lawhemuri_fluent_name(text, len, 2);
+    EXPECT(lit.len == 3 && memcmp(text + lit.at, "lit", 3) == 0);
+    EXPECT(none.at == 0 && none.len == 0);
+    none = lawhemuri_fluent_name(NULL, 0, 0);
+    EXPECT(none.at == 0 && none.len == 0);
+}
+
+static void test_refused_sheets(void) {
+    static const struct {
+        const char *text;
+        uint64_t refusal, line;
+    } cases[] = {
+        {"fluent open\n", LAWHEMURI_BAD_BYTE, 0},         {"start", LAWHEMURI_NOT_ENDED, 0},
+        {"\n", LAWHEMURI_BAD_WORD, 1},                    {"start\ngoal\t\n", LAWHEMURI_BAD_FIELD, 2},
+        {"fluent\ta\naction\ta\n", LAWHEMURI_REPEATED, 2}, {"start\ta\n", LAWHEMURI_UNDEFINED, 1},
+        {"start\ngoal" "\t+a\t+a\t+a\t+a\t+a\t+a\t+a\t+a\t+a\t+a\t+a\t+a\t+a\t+a\t+a\t+a\t+a\n", LAWHEMURI_TOO_MANY, 2},
+        {"", LAWHEMURI_INCOMPLETE, 0},
+    };
+    for (size_t i = 0; i < WORDS(cases); i++) {
+        uint16_t rules[36];
+        memset(rules, 0x77, sizeof rules);
+        lawhemuri_sheet s = read_text(cases[i].text, rules, WORDS(rules));
+        EXPECT(s.refusal == cases[i].refusal && s.line == cases[i].line);
+        EXPECT(s.fluents == 0 && s.actions == 0 && s.rules == 0 && s.start == 0 && s.goal_len == 0);
+        EXPECT(rules[0] == 0x7777 && rules[35] == 0x7777);
+    }
+    uint16_t few[35] = {7};
+    EXPECT(read_text(EXAMPLE, few, WORDS(few)).refusal == LAWHEMURI_NO_ROOM && few[0] == 7);
+    static uint8_t lines[65537];
+    memset(lines, '\n', sizeof lines);
+    EXPECT(lawhemuri_read(lines, sizeof lines, NULL, 0).refusal == LAWHEMURI_TOO_LONG);
+    EXPECT(lawhemuri_read(lines, sizeof lines - 1, NULL, 0).refusal == LAWHEMURI_BAD_WORD);
+}
+
+static void test_rooms(void) {
+    lawhemuri_run r = in_rooms(2, 4, 2);
+    EXPECT(r.refusal == LAWHEMURI_OK && r.ends == 2 && r.calls == 2 && r.answers == 4);
+    EXPECT(ends[0] == 1 && ends[1] == 3 && all(ends + 2, WORDS(ends) - 2, MARK));
+    EXPECT(all(calls + 4, WORDS(calls) - 4, MARK) && all(answers + 76, WORDS(answers) - 76, MARK));
+    static const size_t short_rooms[3][2] = {{1, 4}, {2, 3}, {0, 4}};
+    for (size_t i = 0; i < 3; i++) {
+        size_t c = short_rooms[i][0], a = short_rooms[i][1];
+        r = in_rooms(c, a, 2);
+        EXPECT(r.refusal == LAWHEMURI_TABLES_FULL && r.ends == 0 && r.calls == 0 && r.answers == 0);
+        EXPECT(all(calls, 2 * c, 0) && all(answers, 19 * a, 0) && all(ends, WORDS(ends), MARK));
+    }
+    r = in_rooms(2, 4, 1);
+    EXPECT(r.refusal == LAWHEMURI_LIST_SHORT && r.ends == 2 && r.calls == 2 && r.answers == 4);
+    EXPECT(calls[0] == LAWHEMURI_GOAL_ACTION && all(ends, WORDS(ends), MARK));
+}
+
+static void test_refused_questions(void) {
+    uint16_t bad[36], goal[17] = {0};
+    memcpy(bad, RULES, sizeof bad);
+    bad[17] = 1; /* an unused word that is not 0 */
+    fill(calls, WORDS(calls));
+    fill(answers, WORDS(answers));
+    fill(ends, WORDS(ends));
+#define RUN(f, a, rules, len, goal, goal_len, start) \
+    lawhemuri_evaluate(f, a, rules, len, goal, goal_len, start, calls, 16, answers, 152, ends, 8).refusal
+    EXPECT(RUN(65, 1, RULES, 36, GOAL, 1, 0) == LAWHEMURI_BAD_COUNTS);
+    EXPECT(RUN(2, 65, RULES, 36, GOAL, 1, 0) == LAWHEMURI_BAD_COUNTS);
+    EXPECT(RUN(2, 1, RULES, 35, GOAL, 1, 0) == LAWHEMURI_BAD_LENGTH);
+    EXPECT(RUN(2, 1, bad, 36, GOAL, 1, 0) == LAWHEMURI_BAD_RULE);
+    EXPECT(RUN(2, 1, RULES, 36, goal, 17, 0) == LAWHEMURI_BAD_GOAL);
+    EXPECT(RUN(2, 1, RULES, 36, GOAL, 1, 4) == LAWHEMURI_BAD_START);
+    EXPECT(all(calls, WORDS(calls), MARK) && all(answers, WORDS(answers), MARK) && all(ends, WORDS(ends), MARK));
+    EXPECT(lawhemuri_evaluate(0, 0, NULL, 0, NULL, 0, 0, NULL, 0, NULL, 0, NULL, 0).refusal == LAWHEMURI_TABLES_FULL);
+}
+
+int main(void) {
+    test_example();
+    test_names();
+    test_refused_sheets();
+    test_rooms();
+    test_refused_questions();
+    printf("hosts/c: %s\n", failures == 0 ? "ok" : "failed");
+    return failures != 0;
+}

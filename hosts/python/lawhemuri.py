@@ -1,0 +1,98 @@
+"""Rehearsal sheets from Python, by ctypes over a shared library.
+
+`hosts/python/run SHEET` builds the shared library from the static one and prints the ends of a sheet.
+"""
+
+import ctypes
+import os
+import sys
+
+U16, U64, SIZE = ctypes.c_uint16, ctypes.c_uint64, ctypes.c_size_t
+
+
+class Sheet(ctypes.Structure):
+    """What a sheet says beside its rule words."""
+
+    _fields_ = [(name, U64) for name in ("refusal", "line", "fluents", "actions", "rules", "start", "goal_len")]
+    _fields_ += [("goal", U16 * 16)]
+
+
+class Span(ctypes.Structure):
+    """A part of a sheet."""
+
+    _fields_ = [("at", SIZE), ("len", SIZE)]
+
+
+class Run(ctypes.Structure):
+    """The refusal, 0 for none, and the counts."""
+
+    _fields_ = [(name, U64) for name in ("refusal", "ends", "calls", "answers")]
+
+
+class Refused(Exception):
+    """A numbered refusal, with its line for 13 to 17."""
+
+    def __init__(self, number, line=0):
+        super().__init__(f"refused {number}, line {line}" if line else f"refused {number}")
+        self.number, self.line = number, line
+
+
+class Library:
+    """The operations of one shared library."""
+
+    def __init__(self, path):
+        lib = ctypes.CDLL(path)
+        words, longs = ctypes.POINTER(U16), ctypes.POINTER(U64)
+        self._read, self._name, self._evaluate = lib.lawhemuri_read, lib.lawhemuri_fluent_name, lib.lawhemuri_evaluate
+        self._read.argtypes, self._read.restype = [ctypes.c_char_p, SIZE, words, SIZE], Sheet
+        self._name.argtypes, self._name.restype = [ctypes.c_char_p, SIZE, U64], Span
+        self._evaluate.argtypes = [U64, U64, words, SIZE, words, SIZE, U64] + [longs, SIZE] * 3
+        self._evaluate.restype = Run
+
+    def read(self, text):
+        """The sheet and its rule words."""
+        rules = (U16 * (256 * 18))()
+        sheet = self._read(text, len(text), rules, len(rules))
+        if sheet.refusal:
+            raise Refused(sheet.refusal, sheet.line)
+        return sheet, rules
+
+    def fluent_name(self, text, fluent):
+        """The part of the sheet that defines a fluent."""
+        part = self._name(text, len(text), fluent)
+        return text[part.at : part.at + part.len]
+
+    def evaluate(self, sheet, rules, rooms=(512, 256, 256)):
+        """The run's counts, its ends in rising order, and both tables as lists of records."""
+        calls, answers, ends = (U64 * (2 * rooms[0]))(), (U64 * (19 * rooms[1]))(), (U64 * rooms[2])()
+        run = self._evaluate(
+            sheet.fluents, sheet.actions, rules, 18 * sheet.rules, sheet.goal, sheet.goal_len, sheet.start,
+            calls, len(calls), answers, len(answers), ends, len(ends),
+        )
+        if run.refusal:
+            raise Refused(run.refusal)
+        return run, ends[: run.ends], records(calls, 2, run.calls), records(answers, 19, run.answers)
+
+
+def records(table, width, count):
+    return [table[width * i : width * (i + 1)] for i in range(count)]
+
+
+def main():
+    lib = Library(os.environ["LAWHEMURI_SO"])
+    with open(sys.argv[1], "rb") as file:
+        text = file.read()
+    try:
+        sheet, rules = lib.read(text)
+        run, ends, calls, answers = lib.evaluate(sheet, rules)
+    except Refused as refusal:
+        print("refused", refusal.number, refusal.line, sep="\t")
+        return
+    names = [lib.fluent_name(text, k).decode() for k in range(sheet.fluents)]
+    print("ends", run.ends, run.calls, run.answers, sep="\t")
+    for state in ends:
+        print("end", state, *(name for k, name in enumerate(names) if state >> k & 1), sep="\t")
+
+
+if __name__ == "__main__":
+    main()

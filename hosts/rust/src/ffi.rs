@@ -1,0 +1,52 @@
+//! The C interface, as `include/lawhemuri.h` declares it.
+
+#[repr(C)]
+pub struct Sheet {
+    pub refusal: u64,
+    pub line: u64,
+    pub fluents: u64,
+    pub actions: u64,
+    pub rules: u64,
+    pub start: u64,
+    pub goal_len: u64,
+    pub goal: [u16; 16],
+}
+
+#[repr(C)]
+pub struct Span {
+    pub at: usize,
+    pub len: usize,
+}
+
+#[repr(C)]
+pub struct Run {
+    pub refusal: u64,
+    pub ends: u64,
+    pub calls: u64,
+    pub answers: u64,
+}
+
+extern "C" {
+    pub fn lawhemuri_read(
+        sheet: *const u8,
+        sheet_len: usize,
+        rules: *mut u16,
+        rules_len: usize,
+    ) -> Sheet;
+    pub fn lawhemuri_fluent_name(sheet: *const u8, sheet_len: usize, fluent: u64) -> Span;
+    pub fn lawhemuri_evaluate(
+        fluents: u64,
+        actions: u64,
+        rules: *const u16,
+        rules_len: usize,
+        goal: *const u16,
+        goal_len: usize,
+        start: u64,
+        calls: *mut u64,
+        calls_len: usize,
+        answers: *mut u64,
+        answers_len: usize,
+        ends: *mut u64,
+        ends_len: usize,
+    ) -> Run;
+}

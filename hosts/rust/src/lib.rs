@@ -1,0 +1,172 @@
+//! Safe functions over the proved library: read a rehearsal sheet, evaluate its goal.
+//!
+//! The caller lends all memory as slices. What each slice holds afterwards, for every
+//! refusal, is said at each function. [`evaluate`] needs some 640 KiB of stack.
+//!
+//! ```
+//! let text = b"fluent\ta\nfluent\tb\naction\tg\nrule\tg\t!g\t?a\t+b\nrule\tg\t+a\nstart\ngoal\t!g\n";
+//! let mut rules = [0; 4608];
+//! let sheet = lawhemuri::read(text, &mut rules).unwrap();
+//! let (mut calls, mut answers, mut ends) = ([0; 2 * 512], [0; 19 * 256], [0; 256]);
+//! let mut buffers = lawhemuri::Buffers { calls: &mut calls, answers: &mut answers, ends: &mut ends };
+//! let run = lawhemuri::evaluate(&sheet.question(&rules), &mut buffers).unwrap();
+//! assert_eq!((run.ends, run.calls, run.answers), (2, 2, 4));
+//! assert_eq!(&ends[..2], [1, 3]);
+//! ```
+
+mod ffi;
+mod refusal;
+
+pub use refusal::Refusal;
+
+/// Words of one rule: head, step count, 16 step words.
+pub const RULE_WORDS: usize = 18;
+/// Words of one call record: action, state.
+pub const CALL_WORDS: usize = 2;
+/// Words of one answer record: call record number, final state, rule number, 16 evidence words.
+pub const ANSWER_WORDS: usize = 19;
+/// The goal's number among the actions of call records.
+pub const GOAL_ACTION: u64 = 64;
+/// The goal's number among the rule numbers of answer records.
+pub const GOAL_RULE: u64 = 256;
+/// Rule words that any sheet fits in.
+pub const MOST_RULE_WORDS: usize = 256 * RULE_WORDS;
+
+/// What an accepted sheet says beside its rule words.
+#[derive(Clone, Debug, PartialEq, Eq)]
+pub struct Sheet {
+    pub fluents: u64,
+    pub actions: u64,
+    /// How many rules stand at the head of the list lent, 18 words each.
+    pub rules: usize,
+    pub start: u64,
+    goal: [u16; 16],
+    goal_len: usize,
+}
+
+impl Sheet {
+    /// The goal's step words, at most 16.
+    pub fn goal(&self) -> &[u16] {
+        &self.goal[..self.goal_len]
+    }
+
+    /// What the sheet asks of [`evaluate`], with the rule words that [`read`] wrote.
+    pub fn question<'a>(&'a self, rules: &'a [u16]) -> Question<'a> {
+        Question {
+            fluents: self.fluents,
+            actions: self.actions,
+            rules: &rules[..RULE_WORDS * self.rules],
+            goal: self.goal(),
+            start: self.start,
+        }
+    }
+}
+
+/// A refused sheet: why, and the line from 1 for refusals 13 to 17, else 0.
+#[derive(Clone, Copy, Debug, PartialEq, Eq)]
+pub struct Unread {
+    pub refusal: Refusal,
+    pub line: u64,
+}
+
+/// What is asked of [`evaluate`].
+#[derive(Clone, Copy, Debug)]
+pub struct Question<'a> {
+    pub fluents: u64,
+    pub actions: u64,
+    pub rules: &'a [u16],
+    pub goal: &'a [u16],
+    pub start: u64,
+}
+
+/// The buffers lent to [`evaluate`]: two tables and the list of ends.
+#[derive(Debug)]
+pub struct Buffers<'a> {
+    pub calls: &'a mut [u64],
+    pub answers: &'a mut [u64],
+    pub ends: &'a mut [u64],
+}
+
+/// The counts of ends, of call records and of answer records.
+#[derive(Clone, Copy, Debug, Default, PartialEq, Eq)]
+pub struct Run {
+    pub ends: usize,
+    pub calls: usize,
+    pub answers: usize,
+}
+
+/// A refused run: why, and the counts, which are 0 but for refusal 31.
+#[derive(Clone, Copy, Debug, PartialEq, Eq)]
+pub struct Unrun {
+    pub refusal: Refusal,
+    pub run: Run,
+}
+
+/// Reads a sheet (refusals 10 to 19).
+///
+/// Accepted, the head of `rules` holds 18 words for each rule and the list past them is
+/// unchanged; refused, `rules` is unchanged.
+pub fn read(sheet: &[u8], rules: &mut [u16]) -> Result<Sheet, Unread> {
+    // The library reads `sheet` and writes `rules`, within the lengths given, and keeps neither.
+    let r = unsafe {
+        ffi::lawhemuri_read(sheet.as_ptr(), sheet.len(), rules.as_mut_ptr(), rules.len())
+    };
+    match Refusal::of(r.refusal) {
+        Some(refusal) => Err(Unread { refusal, line: r.line }),
+        None => Ok(Sheet {
+            fluents: r.fluents,
+            actions: r.actions,
+            rules: r.rules as usize,
+            start: r.start,
+            goal: r.goal,
+            goal_len: r.goal_len as usize,
+        }),
+    }
+}
+
+/// The very part of the sheet that defines a fluent; empty for a refused sheet or a number too high.
+///
+/// Each call reads the whole sheet.
+pub fn fluent_name(sheet: &[u8], fluent: u64) -> &[u8] {
+    // The library reads `sheet` within the length given; the part lies within it.
+    let part = unsafe { ffi::lawhemuri_fluent_name(sheet.as_ptr(), sheet.len(), fluent) };
+    &sheet[part.at..part.at + part.len]
+}
+
+/// Evaluates a goal from a start (refusals 20 to 31).
+///
+/// * No refusal: both tables hold the run's calls and answers, each once, and 0 past
+///   them; the list begins with the ends in rising order and is unchanged past them.
+/// * 20 to 24: the buffers are unchanged.
+/// * 30: both tables are 0 throughout, the list is unchanged.
+/// * 31: both tables as with no refusal, the counts are given, the list is unchanged.
+pub fn evaluate(question: &Question<'_>, lent: &mut Buffers<'_>) -> Result<Run, Unrun> {
+    // The library reads rules and goal and writes the buffers, within the lengths given, and keeps
+    // none; the borrows make them disjoint.
+    let r = unsafe {
+        ffi::lawhemuri_evaluate(
+            question.fluents,
+            question.actions,
+            question.rules.as_ptr(),
+            question.rules.len(),
+            question.goal.as_ptr(),
+            question.goal.len(),
+            question.start,
+            lent.calls.as_mut_ptr(),
+            lent.calls.len(),
+            lent.answers.as_mut_ptr(),
+            lent.answers.len(),
+            lent.ends.as_mut_ptr(),
+            lent.ends.len(),
+        )
+    };
+    let run = Run {
+        ends: r.ends as usize,
+        calls: r.calls as usize,
+        answers: r.answers as usize,
+    };
+    match Refusal::of(r.refusal) {
+        Some(refusal) => Err(Unrun { refusal, run }),
+        None => Ok(run),
+    }
+}

@@ -1,0 +1,106 @@
+//! The numbered refusals.
+
+use std::fmt;
+
+/// Why an operation refused. The numbers are those of the sheet's rules and are part of the interface.
+#[derive(Clone, Copy, Debug, PartialEq, Eq, Hash)]
+pub enum Refusal {
+    /// 10: the sheet is longer than 65,536 bytes.
+    TooLong = 10,
+    /// 11: a byte of the sheet is not TAB, LF or 33 to 126.
+    BadByte = 11,
+    /// 12: the sheet is not empty and its last byte is not LF.
+    NotEnded = 12,
+    /// 13: a line's first field is no record word, or is out of order.
+    BadWord = 13,
+    /// 14: `fluent` or `action` without exactly one name, `rule` without head, or a field that is no name or step.
+    BadField = 14,
+    /// 15: a name defined before, or twice in `start`.
+    Repeated = 15,
+    /// 16: a used name that is undefined or of the wrong kind.
+    Undefined = 16,
+    /// 17: a 65th fluent or action, a 257th rule, or more than 16 steps.
+    TooMany = 17,
+    /// 18: no `start` or no `goal`.
+    Incomplete = 18,
+    /// 19: the rule words lent are fewer than 18 times the rules.
+    NoRoom = 19,
+    /// 20: over 64 fluents or over 64 actions.
+    BadCounts = 20,
+    /// 21: the rule words are not a multiple of 18, or over 256 rules.
+    BadLength = 21,
+    /// 22: a rule with a bad head, a count over 16, a bad step, or an unused word that is not 0.
+    BadRule = 22,
+    /// 23: a goal of over 16 steps, or with a bad step.
+    BadGoal = 23,
+    /// 24: a start with a bit at or above the fluent count.
+    BadStart = 24,
+    /// 30: the run's calls outnumber the call room, or its answers the answer room.
+    TablesFull = 30,
+    /// 31: the list has fewer places than there are ends.
+    ListShort = 31,
+}
+
+impl Refusal {
+    /// All refusals, in rising order of their numbers.
+    pub const ALL: [Refusal; 17] = [
+        Refusal::TooLong,
+        Refusal::BadByte,
+        Refusal::NotEnded,
+        Refusal::BadWord,
+        Refusal::BadField,
+        Refusal::Repeated,
+        Refusal::Undefined,
+        Refusal::TooMany,
+        Refusal::Incomplete,
+        Refusal::NoRoom,
+        Refusal::BadCounts,
+        Refusal::BadLength,
+        Refusal::BadRule,
+        Refusal::BadGoal,
+        Refusal::BadStart,
+        Refusal::TablesFull,
+        Refusal::ListShort,
+    ];
+
+    /// The refusal's number.
+    pub fn number(self) -> u64 {
+        self as u64
+    }
+
+    /// The refusal of a number; `None` for 0 and for numbers that no operation gives.
+    pub fn of(number: u64) -> Option<Refusal> {
+        Refusal::ALL.into_iter().find(|r| r.number() == number)
+    }
+
+    /// What the refusal means, in a few words.
+    pub fn meaning(self) -> &'static str {
+        match self {
+            Refusal::TooLong => "sheet longer than 65,536 bytes",
+            Refusal::BadByte => "a byte that is not TAB, LF or 33 to 126",
+            Refusal::NotEnded => "the last line is not ended by LF",
+            Refusal::BadWord => "no record word, or one out of order",
+            Refusal::BadField => "a missing name, or a field that is no name or step",
+            Refusal::Repeated => "a name defined before, or twice in start",
+            Refusal::Undefined => "a name undefined or of the wrong kind",
+            Refusal::TooMany => "too many fluents, actions, rules or steps",
+            Refusal::Incomplete => "no start or no goal",
+            Refusal::NoRoom => "too few rule words lent",
+            Refusal::BadCounts => "over 64 fluents or actions",
+            Refusal::BadLength => "rule words not a multiple of 18, or over 256 rules",
+            Refusal::BadRule => "a bad rule word",
+            Refusal::BadGoal => "a bad goal",
+            Refusal::BadStart => "a start bit at or above the fluent count",
+            Refusal::TablesFull => "the tables have too little room for the run",
+            Refusal::ListShort => "the list has fewer places than there are ends",
+        }
+    }
+}
+
+impl fmt::Display for Refusal {
+    fn fmt(&self, f: &mut fmt::Formatter<'_>) -> fmt::Result {
+        write!(f, "refused {}: {}", self.number(), self.meaning())
+    }
+}
+
+impl std::error::Error for Refusal {}

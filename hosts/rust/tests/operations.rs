@@ -1,0 +1,129 @@
+//! The operations as a host meets them: results, refusals, and what each buffer holds afterwards.
+
+use lawhemuri::{evaluate, fluent_name, read, Buffers, Question, Refusal, Run, Unread, Unrun};
+
+const EXAMPLE: &[u8] = b"fluent\topen\nfluent\tlit\naction\tpurge\naction\tlight\nrule\tpurge\t+open\n\
+rule\tlight\t!purge\t?open\t+lit\t-open\nstart\ngoal\t!light\n";
+
+const MARK: u64 = 0x5555_5555_5555_5555;
+
+/// Drill D2: g: !g ?a +b; g: +a.
+fn left_recursion() -> Vec<u16> {
+    let mut rules = vec![0; 36];
+    rules[..5].copy_from_slice(&[0, 3, 768, 0, 257]);
+    rules[18..21].copy_from_slice(&[0, 1, 256]);
+    rules
+}
+
+fn with_rooms(
+    question: &Question<'_>,
+    calls: usize,
+    answers: usize,
+    ends: usize,
+) -> (Result<Run, Unrun>, Vec<u64>, Vec<u64>, Vec<u64>) {
+    let (mut c, mut a, mut e) = (vec![MARK; 2 * calls], vec![MARK; 19 * answers], vec![MARK; ends]);
+    let mut lent = Buffers { calls: &mut c, answers: &mut a, ends: &mut e };
+    let run = evaluate(question, &mut lent);
+    (run, c, a, e)
+}
+
+#[test]
+fn example_sheet() {
+    let mut rules = [7; 40];
+    let sheet = read(EXAMPLE, &mut rules).unwrap();
+    assert_eq!((sheet.fluents, sheet.actions, sheet.rules, sheet.start), (2, 2, 2, 0));
+    assert_eq!(sheet.goal(), [769]);
+    assert_eq!(rules[36..], [7; 4]);
+    assert_eq!(fluent_name(EXAMPLE, 1), b"lit");
+    assert_eq!(fluent_name(EXAMPLE, 2), b"");
+    let (run, _, _, ends) = with_rooms(&sheet.question(&rules), 512, 256, 256);
+    assert_eq!(run, Ok(Run { ends: 1, calls: 3, answers: 3 }));
+    assert_eq!(ends[..2], [2, MARK]);
+}
+
+#[test]
+fn name_is_a_part_of_the_sheet() {
+    let name = fluent_name(EXAMPLE, 0);
+    assert_eq!(name.as_ptr(), EXAMPLE[7..].as_ptr());
+}
+
+#[test]
+fn refused_sheets() {
+    let mut rules = [7; 4608];
+    let mut refusal = |sheet: &[u8]| read(sheet, &mut rules).unwrap_err();
+    let unread = |refusal, line| Unread { refusal, line };
+    assert_eq!(refusal(&[b'\n'; 65537]), unread(Refusal::TooLong, 0));
+    assert_eq!(refusal(b"fluent open\n"), unread(Refusal::BadByte, 0));
+    assert_eq!(refusal(b"start"), unread(Refusal::NotEnded, 0));
+    assert_eq!(refusal(b"\n"), unread(Refusal::BadWord, 1));
+    assert_eq!(refusal(b"start\ngoal\t\n"), unread(Refusal::BadField, 2));
+    assert_eq!(refusal(b"fluent\ta\naction\ta\n"), unread(Refusal::Repeated, 2));
+    assert_eq!(refusal(b"start\ta\n"), unread(Refusal::Undefined, 1));
+    assert_eq!(refusal(b""), unread(Refusal::Incomplete, 0));
+    assert!(rules.iter().all(|&w| w == 7));
+    assert_eq!(read(EXAMPLE, &mut [7; 35]), Err(unread(Refusal::NoRoom, 0)));
+}
+
+#[test]
+fn left_recursion_and_its_rooms() {
+    let rules = left_recursion();
+    let question = Question { fluents: 2, actions: 1, rules: &rules, goal: &[768], start: 0 };
+    let (run, calls, answers, ends) = with_rooms(&question, 3, 5, 3);
+    assert_eq!(run, Ok(Run { ends: 2, calls: 2, answers: 4 }));
+    assert_eq!(ends, [1, 3, MARK]);
+    assert_eq!(calls[4..], [0; 2]);
+    assert_eq!(answers[76..], [0; 19]);
+    for (calls, answers) in [(1, 4), (2, 3), (0, 4)] {
+        let (run, c, a, e) = with_rooms(&question, calls, answers, 3);
+        assert_eq!(run, Err(Unrun { refusal: Refusal::TablesFull, run: Run::default() }));
+        assert!(c.iter().chain(&a).all(|&w| w == 0));
+        assert_eq!(e, [MARK; 3]);
+    }
+}
+
+#[test]
+fn short_list_keeps_tables_and_counts() {
+    let rules = left_recursion();
+    let question = Question { fluents: 2, actions: 1, rules: &rules, goal: &[768], start: 0 };
+    let (run, calls, answers, ends) = with_rooms(&question, 2, 4, 1);
+    let counts = Run { ends: 2, calls: 2, answers: 4 };
+    assert_eq!(run, Err(Unrun { refusal: Refusal::ListShort, run: counts }));
+    assert_eq!(ends, [MARK]);
+    let (_, c, a, _) = with_rooms(&question, 2, 4, 2);
+    assert_eq!((calls, answers), (c, a));
+}
+
+#[test]
+fn refused_questions_leave_the_buffers() {
+    let rules = left_recursion();
+    let asked = Question { fluents: 2, actions: 1, rules: &rules, goal: &[768], start: 0 };
+    let cases = [
+        (Question { fluents: 65, ..asked }, Refusal::BadCounts),
+        (Question { rules: &rules[..35], ..asked }, Refusal::BadLength),
+        (Question { actions: 0, ..asked }, Refusal::BadRule),
+        (Question { goal: &[769], ..asked }, Refusal::BadGoal),
+        (Question { start: 4, ..asked }, Refusal::BadStart),
+    ];
+    for (question, refusal) in cases {
+        let (run, c, a, e) = with_rooms(&question, 4, 4, 4);
+        assert_eq!(run, Err(Unrun { refusal, run: Run::default() }));
+        assert!(c.iter().chain(&a).chain(&e).all(|&w| w == MARK));
+    }
+}
+
+#[test]
+fn numbers_of_refusals() {
+    for refusal in Refusal::ALL {
+        assert_eq!(Refusal::of(refusal.number()), Some(refusal));
+    }
+    assert_eq!(Refusal::of(0), None);
+}
+
+#[test]
+fn empty_slices() {
+    assert_eq!(fluent_name(&[], 0), b"");
+    let question = Question { fluents: 0, actions: 0, rules: &[], goal: &[], start: 0 };
+    let (run, ..) = with_rooms(&question, 1, 1, 1);
+    assert_eq!(run, Ok(Run { ends: 1, calls: 1, answers: 1 }));
+    assert_eq!(with_rooms(&question, 0, 0, 0).0.unwrap_err().refusal, Refusal::TablesFull);
+}

@@ -1,0 +1,176 @@
+/* Rehearsal sheets in ground Transaction Logic: read a sheet, evaluate its goal.
+ *
+ * The host lends all memory; nothing is allocated, kept between calls, printed or
+ * locked, so calls may run in any number of threads. Every call returns, whatever
+ * the buffers hold; no call touches a word outside the buffers lent.
+ *
+ * A buffer is a pointer and a count of elements (not of bytes). The pointer may be
+ * NULL where the count is 0. A buffer that is written may not overlap another one
+ * of the same call.
+ *
+ * Stack: lawhemuri_evaluate needs LAWHEMURI_STACK_EVALUATE bytes of it,
+ * the others LAWHEMURI_STACK_READ. A main thread has 8 MiB on most systems, a
+ * thread of Rust's 2 MiB, one of musl's only 128 KiB.
+ */
+#ifndef LAWHEMURI_H
+#define LAWHEMURI_H
+
+#include <stddef.h>
+#include <stdint.h>
+
+#ifdef __cplusplus
+extern "C" {
+#endif
+
+/* ---- Refusals, in the order in which they are looked for ----
+ *
+ * No.  Exactly when                                          Buffers afterwards
+ *
+ * Whole sheet (lawhemuri_read):
+ *  10  longer than 65,536 bytes                              unchanged
+ *  11  a byte not TAB, LF or 33 to 126                       unchanged
+ *  12  not empty, last byte not LF                           unchanged
+ * A line, from the top; in a line 13, 17 and the count part of 14 come first,
+ * then fields from the left, each by 14, 15, 16:
+ *  13  first field is no record word, or is out of order     unchanged
+ *  17  65th fluent or action, 257th rule, or over 16 steps   unchanged
+ *  14  fluent or action without exactly one name, rule
+ *      without head; then a field that is no name or step    unchanged
+ *  15  a name defined before, or twice in `start`            unchanged
+ *  16  a used name undefined or of the wrong kind            unchanged
+ * Sheet's end:
+ *  18  no `start` or no `goal`                               unchanged
+ *  19  rule words lent are fewer than 18 times the rules     unchanged
+ * Rule words (lawhemuri_evaluate, from here on):
+ *  20  over 64 fluents or over 64 actions                    unchanged
+ *  21  length not a multiple of 18, or over 256 rules        unchanged
+ *  22  bad head, count over 16, bad step, unused word not 0  unchanged
+ * Goal:
+ *  23  over 16 steps or a bad step                           unchanged
+ * Start:
+ *  24  a bit at or above the fluent count                    unchanged
+ * Tables:
+ *  30  the run's calls outnumber the call room, or its       both tables wholly 0,
+ *      answers the answer room                               list unchanged
+ * List:
+ *  31  fewer places than ends                                both tables finished,
+ *                                                            list unchanged
+ *
+ * A result with a refusal has 0 in every other field, but for two: the line of 13
+ * to 17, and the three counts of 31.
+ */
+#define LAWHEMURI_OK 0u
+#define LAWHEMURI_TOO_LONG 10u
+#define LAWHEMURI_BAD_BYTE 11u
+#define LAWHEMURI_NOT_ENDED 12u
+#define LAWHEMURI_BAD_WORD 13u
+#define LAWHEMURI_BAD_FIELD 14u
+#define LAWHEMURI_REPEATED 15u
+#define LAWHEMURI_UNDEFINED 16u
+#define LAWHEMURI_TOO_MANY 17u
+#define LAWHEMURI_INCOMPLETE 18u
+#define LAWHEMURI_NO_ROOM 19u
+#define LAWHEMURI_BAD_COUNTS 20u
+#define LAWHEMURI_BAD_LENGTH 21u
+#define LAWHEMURI_BAD_RULE 22u
+#define LAWHEMURI_BAD_GOAL 23u
+#define LAWHEMURI_BAD_START 24u
+#define LAWHEMURI_TABLES_FULL 30u
+#define LAWHEMURI_LIST_SHORT 31u
+
+/* ---- Words ----
+ *
+ * State: 64 bits; fluent k holds exactly if bit k is set.
+ * Step: 256 times kind plus index. Kinds: 0 query, 1 insert, 2 delete of a fluent,
+ *   3 call of an action.
+ * Rule: 18 words: head, step count, 16 step words, unused ones 0.
+ * Call record: 2 words: action (64 for the goal), state.
+ * Answer record: 19 words: call record number; final state; rule number (256 for the
+ *   goal); 16 evidence words. At a call step of the rule the evidence is the number of
+ *   the answer record used, always a smaller one; elsewhere it is 0.
+ * Room of a table: its length divided by 2 or 19, rounded down, at most 65,536.
+ */
+#define LAWHEMURI_RULE_WORDS 18u
+#define LAWHEMURI_CALL_WORDS 2u
+#define LAWHEMURI_ANSWER_WORDS 19u
+#define LAWHEMURI_MOST_RULES 256u
+#define LAWHEMURI_MOST_STEPS 16u
+#define LAWHEMURI_MOST_RECORDS 65536u
+#define LAWHEMURI_MOST_SHEET_BYTES 65536u
+#define LAWHEMURI_GOAL_ACTION 64u
+#define LAWHEMURI_GOAL_RULE 256u
+
+/* Bytes of stack that a call needs, with some to spare. */
+#define LAWHEMURI_STACK_EVALUATE 655360u
+#define LAWHEMURI_STACK_READ 65536u
+
+/* What a sheet says beside its rule words. */
+typedef struct lawhemuri_sheet {
+    uint64_t refusal;  /* 0: accepted */
+    uint64_t line;     /* for 13 to 17 the line, from 1; else 0 */
+    uint64_t fluents;
+    uint64_t actions;
+    uint64_t rules;    /* 18 words each, at the head of the list lent */
+    uint64_t start;
+    uint64_t goal_len; /* 0 to 16 */
+    uint16_t goal[16]; /* unused words are 0 */
+} lawhemuri_sheet;
+
+/* A part of a sheet: `len` bytes from byte `at` on. */
+typedef struct lawhemuri_span {
+    size_t at;
+    size_t len;
+} lawhemuri_span;
+
+/* What a run gives. */
+typedef struct lawhemuri_run {
+    uint64_t refusal; /* 0: the ends are listed */
+    uint64_t ends;
+    uint64_t calls;   /* records in the call table */
+    uint64_t answers; /* records in the answer table */
+} lawhemuri_run;
+
+/* Reads a sheet (refusals 10 to 19).
+ *
+ * rules: accepted, the first 18 * result.rules words are the rules and the list past
+ *   them is unchanged; refused, it is unchanged. 4,608 words (256 rules) always do.
+ */
+lawhemuri_sheet lawhemuri_read(const uint8_t *sheet, size_t sheet_len,
+                               uint16_t *rules, size_t rules_len);
+
+/* The part of the sheet that defines a fluent's name, for a number below the count of
+ * fluents in an accepted sheet; for any other sheet or number `at` and `len` are 0.
+ * Each call reads the whole sheet: a host that prints many names keeps the spans.
+ */
+lawhemuri_span lawhemuri_fluent_name(const uint8_t *sheet, size_t sheet_len,
+                                     uint64_t fluent);
+
+/* Evaluates a goal from a start (refusals 20 to 31).
+ *
+ * No refusal:
+ *   calls: result.calls records, each of the run's calls once; 0 past them.
+ *   answers: result.answers records, each of the run's answers once, each justified by
+ *     its evidence; 0 past them.
+ *   ends: the goal's final states, result.ends of them in rising order; unchanged past
+ *     them.
+ * 20 to 24: all three unchanged.
+ * 30: calls and answers 0 throughout, ends unchanged.
+ * 31: calls and answers as with no refusal, the three counts given, ends unchanged.
+ */
+lawhemuri_run lawhemuri_evaluate(uint64_t fluents, uint64_t actions,
+                                 const uint16_t *rules, size_t rules_len,
+                                 const uint16_t *goal, size_t goal_len,
+                                 uint64_t start,
+                                 uint64_t *calls, size_t calls_len,
+                                 uint64_t *answers, size_t answers_len,
+                                 uint64_t *ends, size_t ends_len);
+
+/* The path of an answer record (refusals 20 to 23, then 40 to 43) stands here once the
+ * library has it.
+ */
+
+#ifdef __cplusplus
+}
+#endif
+
+#endif
