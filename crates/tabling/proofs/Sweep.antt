@@ -115,6 +115,17 @@ module _ {St : Type 0} (Edge : ℕ → St → ℕ → St → Type 0) where
       pub marked : {mark : ℕ → St → Type 0} {ev : ℕ → ℕ} {at : ℕ} {s : St} → Search D mark ev at at s → mark at s → Swept at s
       marked {at = at} {s} S m = ⊎-elim (λ (k, e). absurd (omega arith)) (λ k. k) (S .marks at s m)
 
+      -- a swept node that the search comes to may be marked
+      pub swept-marked : {mark mark′ : ℕ → St → Type 0} {ev : ℕ → ℕ} {top at : ℕ} {s : St} → Search D mark ev top at s → Swept at s
+          → ((q : ℕ) (u : St) → mark′ q u → mark q u ⊎ ((q ≡ at) × (u ≡ s))) → Search D mark′ ev top at s
+      swept-marked {top = top} {at} {s} S k new = record {
+        st = S .st;
+        from = S .from;
+        now = S .now;
+        links = S .links;
+        marks = λ q u m. ⊎-elim (S .marks q u) (λ (z, e). inr (rw (z, e) k)) (new q u m);
+      }
+
       -- back from a node that is swept
       pub pop : {mark : ℕ → St → Type 0} {ev : ℕ → ℕ} {at : ℕ} {t : St} → Search D mark ev (suc at) (suc at) t
           → (s : St) × Search D mark ev (suc at) at s × Link at s (ev at) t

@@ -1,6 +1,7 @@
 -- One turn of the walk: each way that the code may go keeps the search's invariant or sweeps the node. Assumes nothing.
 use Prim.Native.Nat.{ℕ, zero, suc, _+_, _-_, _*_, _/_, _%_, _<_, _≤_}
 use native.Mathlib.Omega.{arith}
+use native.Mathlib.Decide.{decLt}
 use mathlib.Core.Path.{_≡_, refl, sym, subst, ap, _∙_}
 use mathlib.Core.Bool.{Bool, true, false}
 use mathlib.Core.List.{List}
@@ -22,8 +23,8 @@ use Rattle.tabling.proofs.Justification.{Has, Proper, Justified}
 use Rattle.tabling.proofs.Evidence.{Valid, inside-of, come-reached, way-ends, way-follows}
 use Rattle.tabling.proofs.Adding.{valid-call, valid-answer, full-calls, full-answers}
 use Rattle.tabling.proofs.Sweep.{Swept, Way}
-use Rattle.tabling.proofs.Walking.{Of, call-of, NoneIn, Retreat, Chosen, EdgeT, GoodT, Walking, walk-start, walk-forward, walk-way, chosen-of, Done, done-end, done-stuck, done-seen, done-call, take-first, back-over, back-take, walking-up}
-use Rattle.tabling.proofs.Marks.{Mark, Stamped, with-mark, mark-stamped}
+use Rattle.tabling.proofs.Walking.{Of, call-of, NoneIn, Retreat, Chosen, EdgeT, GoodT, Walking, walk-start, walk-forward, walk-way, chosen-of, Done, done-end, done-stuck, done-seen, done-call, mark-done, take-first, back-over, back-take, walking-up}
+use Rattle.tabling.proofs.Marks.{Mark, Stamped, with-mark, mark-new, mark-stamped}
 
 -- ---- from record numbers in the present tables to contents in the tables at the walk's start
 
@@ -190,27 +191,52 @@ module _ (bodies : Bodies) (Root : ℕ → State → Type 0) (b : Tables) (known
       turn-calls-full m (call-no-room f i none z) n = inl (rw i at (full-calls (T .valid) none came))
 
       module _ {r : ℕ} (l : r < t .calls .count) (k : CallAt (t .calls) r (getD body at 0 % 256) s) where
+        -- nothing is left from here on where the call has no answer yet
+        none-done : NextAnswer (t .answers) known r 0 known → Done body b known walk (HeldCall t) (Held t row) from at s
+        none-done n = done-call body b known walk (HeldCall t) (Held t row) from (T .walking) h e (r, l, k)
+            (none-old (T .valid) (T .grew) (T .given .enough) (inside-of (T .given .valid)) (getD body at 0 % 256, s) l k n)
+
+        -- a call recorded since the round began has no answer that may be used
+        none-new : b .calls .count ≤ r → NextAnswer (t .answers) known r 0 known
+        none-new new = record { low = omega arith; high = omega arith; skipped = skip; found = λ i. absurd (omega arith) }
+          where
+            skip : (y : ℕ) → 0 ≤ y → y < known → t .answers .call y ≡ r → ⊥
+            skip y o i z =
+                let x : y < b .answers .count = omega (arith, T .given .enough) in
+                let same = T .grew .call-same x in
+                let old = inside-of (T .given .valid) y x in
+                omega arith
+
+        -- the call's contents at the round's start
+        at-start : r < b .calls .count → CallAt (b .calls) r (getD body at 0 % 256) s
+        at-start i = record { has-action = sym (T .grew .action-same i) ∙ k .has-action; has-state = sym (T .grew .state-same i) ∙ k .has-state }
+
         -- the node has been searched before
         pub turn-seen : Mark marks walk at r → Turned t marks chosen at s
-        turn-seen m =
-            let i : r < b .calls .count = T .walking .stood at r m in
-            record {
-              turning = T;
-              done = done-seen body b known walk (HeldCall t) (Held t row) from (T .walking) (
-                r,
-                i,
-                record { has-action = sym (T .grew .action-same i) ∙ k .has-action; has-state = sym (T .grew .state-same i) ∙ k .has-state },
-                m,
-              );
-            }
+        turn-seen m = record { turning = T; done = by (decLt r (b .calls .count)) }
+          where
+            by : Dec (r < b .calls .count) → Done body b known walk (HeldCall t) (Held t row) from at s
+            by (yes i) = done-seen body b known walk (HeldCall t) (Held t row) from (T .walking) (r, i, at-start i, m)
+            by (no n) = none-done (none-new (omega arith))
 
-        -- the call has no answer yet
-        pub turn-none : NextAnswer (t .answers) known r 0 known → Turned t marks chosen at s
-        turn-none n = record {
-          turning = T;
-          done = done-call body b known walk (HeldCall t) (Held t row) from (T .walking) h e (r, l, k)
-              (none-old (T .valid) (T .grew) (T .given .enough) (inside-of (T .given .valid)) (getD body at 0 % 256, s) l k n);
-        }
+        -- the call has no answer yet: its node is marked
+        pub turn-none : r < 65536 → ¬ Mark marks walk at r → NextAnswer (t .answers) known r 0 known → Turned t (with-mark marks walk at r) chosen at s
+        turn-none room free n =
+            let long : r < length marks = omega (arith, T .stamped .long) in
+            let done = none-done n in
+            record {
+              turning = record {
+                given = T .given;
+                valid = T .valid;
+                grew = T .grew;
+                stamped = mark-stamped marks walk at r (place-low h) long free (T .stamped);
+                chosen-long = T .chosen-long;
+                unused = T .unused;
+                walking = mark-done body b known walk (HeldCall t) (Held t row) from (T .walking) done
+                    (λ q u (y, a, d, x). ⊎-elim (λ x′. inl (y, a, d, x′)) (λ (z, w). inr (z, sym (d .has-state) ∙ ap (b .calls .state) w ∙ at-start (omega arith) .has-state)) (mark-new marks walk at r (place-low h) long free q y x));
+              };
+              done = done;
+            }
 
         -- its first answer is taken
         pub turn-take : {j : ℕ} → r < 65536 → ¬ Mark marks walk at r → j < known → NextAnswer (t .answers) known r 0 j → Turning t (with-mark marks walk at r) (set chosen at j) (at + 1) (t .answers .final j)

@@ -17,7 +17,7 @@ use Rattle.steps.proofs.WordLaws.{call-word, word-call, not-on}
 use Rattle.tabling.specs.Records.{Calls, Answers}
 use Rattle.tabling.proofs.Storage.{CallAt, NextAnswer}
 use Rattle.tabling.proofs.Growth.{Tables, HeldCall}
-use Rattle.tabling.proofs.Sweep.{Swept, Upto, Link, Search, start, push, pop, close, marked, over, unwind, passed, way-of, search-up, first-or, Way}
+use Rattle.tabling.proofs.Sweep.{Swept, Upto, Link, Search, start, push, pop, close, marked, over, unwind, passed, way-of, search-up, swept-marked, first-or, Way}
 use Rattle.tabling.proofs.Graph.{Front, goes, calls, Leads, Known, Edge, Good, leads, forward, stops, ended, none-left, take, backward}
 use Rattle.tabling.proofs.Graph as graph
 use Rattle.tabling.proofs.Marks.{Mark, with-mark, mark-new}
@@ -115,11 +115,10 @@ module _ (body : List ℕ) (b : Tables) (known walk : ℕ) (C : ℕ × State →
   -- The search at place `at` in state s, as the loop has it.
   pub record Walking (marks chosen : List ℕ) (top at : ℕ) (s : State) : Type 0 where
     pub inside : at ≤ length body
-    pub stood : (q r : ℕ) → Mark marks walk q r → r < b .calls .count
     pub search : Search E G D (Seen b body marks walk) (λ q. getD chosen q 0) top at s
 
   pub walk-start : {marks chosen : List ℕ} → ((q r : ℕ) → ¬ Mark marks walk q r) → Walking marks chosen 0 0 D
-  walk-start none = record { inside = omega arith; stood = λ q r m. absurd (none q r m); search = start E G (λ q u (r, l, c, m). none q r m) }
+  walk-start none = record { inside = omega arith; search = start E G (λ q u (r, l, c, m). none q r m) }
 
   -- Nothing is left from here on.
   abbrev pub Done : ℕ → State → Type 0
@@ -129,7 +128,6 @@ module _ (body : List ℕ) (b : Tables) (known walk : ℕ) (C : ℕ × State →
     pub walk-forward : {t : State} → at < length body → at < length chosen → elementary (step-of (getD body at 0)) s ≡ on t → Walking marks (set chosen at 0) (at + 1) (at + 1) t
     walk-forward {t} h l e = record {
       inside = omega arith;
-      stood = W .stood;
       search = rw add-one (push E G (omega arith) (W .search)
           (subst (λ (x : ℕ). Link E G at s x t) (sym (getD-set-same chosen at 0 0 l)) (forward move (Of b known) (final b) 0 body h (move-on (getD body at 0) s t e)))
           (λ q i. getD-set-other chosen at q 0 0 (omega arith)) (λ q u m. inl m));
@@ -144,6 +142,10 @@ module _ (body : List ℕ) (b : Tables) (known walk : ℕ) (C : ℕ × State →
     -- the node has been searched before
     pub done-seen : Seen b body marks walk at s → Done at s
     done-seen m = marked E G (W .search) m
+
+    -- a node from which nothing is left may be marked
+    pub mark-done : {marks′ : List ℕ} → Done at s → ((q : ℕ) (u : State) → Seen b body marks′ walk q u → Seen b body marks walk q u ⊎ ((q ≡ at) × (u ≡ s))) → Walking marks′ chosen at at s
+    mark-done k new = record { inside = W .inside; search = swept-marked E G (W .search) k new }
 
   module _ {marks chosen : List ℕ} {top at : ℕ} {s : State} (W : Walking marks chosen top at s) where
     -- the answers of the call up to j are passed
@@ -162,12 +164,10 @@ module _ (body : List ℕ) (b : Tables) (known walk : ℕ) (C : ℕ × State →
 
     -- an answer j of the call in front is taken, and the node is marked or stays as it is
     walk-take : {marks′ : List ℕ} {j : ℕ} → top ≤ suc at → at < length body → at < length chosen → 2 < getD body at 0 / 256 → C (getD body at 0 % 256, s) → Upto E G at s j → Of b known (getD body at 0 % 256, s) j
-        → ((q r : ℕ) → Mark marks′ walk q r → r < b .calls .count)
         → ((q : ℕ) (u : State) → Seen b body marks′ walk q u → Seen b body marks walk q u ⊎ ((q ≡ at) × (u ≡ s)))
         → Walking marks′ (set chosen at j) (at + 1) (at + 1) (final b j)
-    walk-take {marks′} {j} up h l e k u o stood new = record {
+    walk-take {marks′} {j} up h l e k u o new = record {
       inside = omega arith;
-      stood = stood;
       search = rw add-one (push E G up (W .search)
           (subst (λ (x : ℕ). Link E G at s x (final b j)) (sym (getD-set-same chosen at j 0 l)) (take move (Of b known) (final b) 0 body h (move-call (getD body at 0) s e) k o u))
           (λ q i. getD-set-other chosen at q j 0 (omega arith)) new);
@@ -188,7 +188,6 @@ module _ (body : List ℕ) (b : Tables) (known walk : ℕ) (C : ℕ × State →
     pub take-first : {r j : ℕ} → at < 16 → at < length chosen → r < length marks → r < b .calls .count → CallAt (b .calls) r (getD body at 0 % 256) s → ¬ Mark marks walk at r
         → Of b known (getD body at 0 % 256, s) j → NoneIn b known (getD body at 0 % 256, s) 0 j → Walking (with-mark marks walk at r) (set chosen at j) (at + 1) (at + 1) (final b j)
     take-first {r} {j} small l m i c free o n = walk-take W (omega arith) h l e k (walk-upto W e first n) o
-        (λ q y x. ⊎-elim (W .stood q y) (λ (z, w). omega arith) (mark-new marks walk at r small m free q y x))
         (λ q u (y, a, d, x). ⊎-elim (λ x′. inl (y, a, d, x′)) (λ (z, w). inr (z, sym (d .has-state) ∙ ap (b .calls .state) w ∙ c .has-state)) (mark-new marks walk at r small m free q y x))
 
   -- ---- back
@@ -210,7 +209,7 @@ module _ (body : List ℕ) (b : Tables) (known walk : ℕ) (C : ℕ × State →
       -- a later answer is taken
       take-later : {j : ℕ} → at < length chosen → NoneIn b known (call-of b (getD chosen at 0)) (getD chosen at 0 + 1) j → Of b known (call-of b (getD chosen at 0)) j
           → Walking marks (set chosen at j) (at + 1) (at + 1) (final b j)
-      take-later {j} len n o = walk-take W (omega arith) (l .edge .0) len e known-here (walk-upto W e passed-here (rw (same-call, add-one) at n)) (rw same-call at o) (W .stood) (λ q u m. inl m)
+      take-later {j} len n o = walk-take W (omega arith) (l .edge .0) len e known-here (walk-upto W e passed-here (rw (same-call, add-one) at n)) (rw same-call at o) (λ q u m. inl m)
 
     -- a place is swept once it has no answer left
     spent-back : Spent body b known chosen at → Done at s
@@ -224,8 +223,8 @@ module _ (body : List ℕ) (b : Tables) (known walk : ℕ) (C : ℕ × State →
   module _ {marks chosen : List ℕ} {at j : ℕ} {s : State} (W : Walking marks chosen at at s) (k : Done at s) where
     back-to : (r : ℕ) → Retreat body b known chosen at r j → (s′ : State) × Walking marks chosen r r s′ × Swept E G r s′
     back-to r R =
-        let (s′, S, k′) = unwind E G r at (R .low) (W .search) k (λ q u t x y S l i. spent-back {marks = marks} {chosen = chosen} (record { inside = omega (arith, W .inside); stood = W .stood; search = S }) l i (R .spent q x y)) in
-        (s′, record { inside = omega (arith, W .inside, R .low); stood = W .stood; search = S }, k′)
+        let (s′, S, k′) = unwind E G r at (R .low) (W .search) k (λ q u t x y S l i. spent-back {marks = marks} {chosen = chosen} (record { inside = omega (arith, W .inside); search = S }) l i (R .spent q x y)) in
+        (s′, record { inside = omega (arith, W .inside, R .low); search = S }, k′)
 
     pub back-over : Retreat body b known chosen at 0 j → Swept E G 0 D
     back-over R = let (s′, W′, k′) = back-to 0 R in over E G (W′ .search) k′
@@ -236,7 +235,7 @@ module _ (body : List ℕ) (b : Tables) (known walk : ℕ) (C : ℕ × State →
         let S′ : Search E G D (Seen b body marks walk) (λ q. getD chosen q 0) (suc p) (suc p) s′ = subst (λ (n : ℕ). Search E G D (Seen b body marks walk) (λ q. getD chosen q 0) n n s′) (add-one p) (W′ .search) in
         let k″ : Swept E G (suc p) s′ = subst (λ (n : ℕ). Swept E G n s′) (add-one p) k′ in
         let (u, S″, l) = pop E G S′ in
-        let W″ : Walking marks chosen (suc p) p u = record { inside = omega (arith, W′ .inside); stood = W .stood; search = S″ } in
+        let W″ : Walking marks chosen (suc p) p u = record { inside = omega (arith, W′ .inside); search = S″ } in
         let (e, later, n, o) = R .found p refl in
         take-later W″ l k″ e (omega (arith, R .low)) n o
 
@@ -251,4 +250,4 @@ module _ (body : List ℕ) (b : Tables) (known walk : ℕ) {C C′ : ℕ × Stat
   good-up q s g = record { ends = λ e. upA s (g .ends e); called = λ h. known-up (move (getD body q 0) s) (g .called h) }
 
   pub walking-up : {marks chosen : List ℕ} {top at : ℕ} {s : State} → Walking body b known walk C A D marks chosen top at s → Walking body b known walk C′ A′ D marks chosen top at s
-  walking-up W = record { inside = W .inside; stood = W .stood; search = search-up (EdgeT b known body) good-up (W .search) }
+  walking-up W = record { inside = W .inside; search = search-up (EdgeT b known body) good-up (W .search) }

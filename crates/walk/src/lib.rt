@@ -119,6 +119,7 @@ fn enter(
             front: Front::Spent,
         };
     }
+    marks::mark(marks, job.walk, at, row);
     let first = tables::next_answer(answers, job.known, row as u64, 0);
     if first == job.known {
         return Advanced {
@@ -127,7 +128,6 @@ fn enter(
             front: Front::Spent,
         };
     }
-    marks::mark(marks, job.walk, at, row);
     chosen[at] = first as u64;
     Advanced {
         calls: count,

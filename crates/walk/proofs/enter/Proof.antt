@@ -69,6 +69,14 @@ returns-2 c =
           (turn-seen bodies (Among roots) b (j .known) (j .rule) (j .row) (j .walk) body U h e l k (rw (c .if2 .taken) at (c .before .is-marked .ensures)), refl)),
     )
 
+mark-requires : tie.Need-mark-requires
+mark-requires c κs =
+    let k = c .before in
+    let d = k .before .before .before in
+    let p = d .before .before .before in
+    let i = p .before .before .before .before .before .before in
+    (i .pre .1, row-small p (d .if1 .left), i .pre .2, rw (k .if2 .left) at (k .before .is-marked .ensures))
+
 next-answer-requires : tie.Need-next-answer-requires
 next-answer-requires c κs = search needs
 
@@ -81,24 +89,21 @@ same-length-5 c = search needs
 returns-3 : tie.Need-returns-3
 returns-3 c =
     let n = c .before .before in
-    let d = n .before .before .before .before in
+    let m = n .before .before .before in
+    let k = m .before .before in
+    let d = k .before .before .before in
     let p = d .before .before .before in
     let s = p .add-call .ensures in
     let i = p .before .before .before .before .before .before in
     let j = i .args .job in (
       (s .long, s .stored, refl),
       λ bodies roots b body h e z T.
-          (let (U, l, k) = turn-called bodies (Among roots) b (j .known) (j .rule) (j .row) (j .walk) body T h e (put-at p z) (d .if1 .left) in
-          (turn-none bodies (Among roots) b (j .known) (j .rule) (j .row) (j .walk) body U h e l k (next-among (i .args .answers .now) (i .args .m) (rw (c .if3 .taken) at (n .next-answer .ensures))), refl)),
+          (let (U, l, r) = turn-called bodies (Among roots) b (j .known) (j .rule) (j .row) (j .walk) body T h e (put-at p z) (d .if1 .left) in (
+            rw (m .mark .ensures) (turn-none bodies (Among roots) b (j .known) (j .rule) (j .row) (j .walk) body U h e l r (row-small p (d .if1 .left)) (rw (k .if2 .left) at (k .before .is-marked .ensures))
+                (next-among (i .args .answers .now) (i .args .m) (rw (c .if3 .taken) at (n .next-answer .ensures)))),
+            refl,
+          )),
     )
-
-mark-requires : tie.Need-mark-requires
-mark-requires c κs =
-    let k = c .before .before .before .before in
-    let d = k .before .before .before in
-    let p = d .before .before .before in
-    let i = p .before .before .before .before .before .before in
-    (i .pre .1, row-small p (d .if1 .left), i .pre .2, rw (k .if2 .left) at (k .before .is-marked .ensures))
 
 mul-chosen : tie.Need-mul-chosen
 mul-chosen c = search needs
@@ -117,10 +122,10 @@ same-length-7 c = search needs
 
 returns-4 : tie.Need-returns-4
 returns-4 c =
-    let m = c .before .before .before in
-    let o = m .before .before in
+    let o = c .before in
     let n = o .before .before in
-    let k = n .before in
+    let m = n .before .before .before in
+    let k = m .before .before in
     let d = k .before .before .before in
     let p = d .before .before .before in
     let s = p .add-call .ensures in
@@ -150,11 +155,11 @@ enter-spec =
     same-length-2
     same-length-3
     returns-2
+    mark-requires
     next-answer-requires
     same-length-4
     same-length-5
     returns-3
-    mark-requires
     mul-chosen
     element-write-chosen
     final-of-requires
