@@ -14,7 +14,7 @@ use lib.Dec.{eqb, ltb}
 use borrow.Author.Tests.{lt-ltb, ltb-true, ltb-false, eqb-true, not-true, not-false}
 use Rattle.steps.specs.State.{State, holds, added, removed}
 use Rattle.steps.specs.Step.{Step, query, insert, delete, call, Body, Rule, Book}
-use Rattle.steps.specs.Deduction.{_⊢_, Move, queries, inserts, deletes, calls, Deduction, done, move}
+use Rattle.steps.specs.Deduction.{ComesToCall, _⊢_, Move, queries, inserts, deletes, calls, Deduction, done, move}
 use Rattle.steps.specs.Run.{Run, Goal}
 use Rattle.steps.specs.Words.{step-by, step-of, body-of, head-of, count-of, words-of, rule-of, book-of, run-of}
 use Rattle.steps.specs.Acceptance.{each-below, good-step, good-word, good-rule, bad-counts, bad-length, bad-rules, bad-goal, bad-start, words-refusal, refusal-of}
@@ -204,3 +204,11 @@ pub accepted-below : (fluents actions : ℕ) (rules goal : List ℕ) (start : St
 accepted-below fluents actions rules goal start e D rest d =
     let (acc, l) = start-accepted fluents actions rules goal start e in
     deduction-below (λ r m. rule-indexed acc r m .1) d l (goal-indexed acc)
+
+-- A call that a deduction of the goal from the start comes to is of an action below the count, in a state below 2 ^ fluents.
+pub accepted-calls : (fluents actions : ℕ) (rules goal : List ℕ) (start : State) → refusal-of fluents actions rules goal start ≡ 0
+    → (a : ℕ) (D : State) → ComesToCall (book-of rules) start (body-of goal) a D → (a < actions) × (D < 2 ^ fluents)
+accepted-calls fluents actions rules goal start e a D (rest, d) =
+    let (acc, l) = start-accepted fluents actions rules goal start e in
+    let (below, indexed) = deduction-kept (λ r m. rule-indexed acc r m .1) d (l, goal-indexed acc) in
+    (indexed (call a) (List·Memᴰ·head refl), below)

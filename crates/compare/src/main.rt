@@ -1,0 +1,236 @@
+// Compares the evaluator with a separately written one on books at random: ends, calls, answers, justifications and rooms.
+mod evidence;
+mod records;
+mod rooms;
+mod words;
+
+use evaluator::Run;
+use relation::Found;
+use relation::random;
+
+// What was seen: books; rules that call their own action first; books in which two actions call each other first; ends, calls
+// and answers. Then the books that differ.
+struct Tally {
+    books: u64,
+    own: u64,
+    mutual: u64,
+    ends: u64,
+    calls: u64,
+    answers: u64,
+    bad_ends: u64,
+    bad_calls: u64,
+    bad_answers: u64,
+    bad_evidence: u64,
+    bad_rooms: u64,
+}
+
+fn sum(a: u64, b: u64) -> u64 {
+    std::num::wrapping_add_u64(a, b)
+}
+
+fn plus(a: Tally, b: Tally) -> Tally {
+    Tally {
+        books: sum(a.books, b.books),
+        own: sum(a.own, b.own),
+        mutual: sum(a.mutual, b.mutual),
+        ends: sum(a.ends, b.ends),
+        calls: sum(a.calls, b.calls),
+        answers: sum(a.answers, b.answers),
+        bad_ends: sum(a.bad_ends, b.bad_ends),
+        bad_calls: sum(a.bad_calls, b.bad_calls),
+        bad_answers: sum(a.bad_answers, b.bad_answers),
+        bad_evidence: sum(a.bad_evidence, b.bad_evidence),
+        bad_rooms: sum(a.bad_rooms, b.bad_rooms),
+    }
+}
+
+fn none() -> Tally {
+    Tally {
+        books: 0,
+        own: 0,
+        mutual: 0,
+        ends: 0,
+        calls: 0,
+        answers: 0,
+        bad_ends: 0,
+        bad_calls: 0,
+        bad_answers: 0,
+        bad_evidence: 0,
+        bad_rooms: 0,
+    }
+}
+
+// 1 for a comparison that failed.
+fn failed(same: bool) -> u64 {
+    if same { 0 } else { 1 }
+}
+
+// Whether a rule's first step calls an action.
+fn calls_first(book: &[u16; 126], rule: usize, action: u16) -> bool {
+    if relation::word_at(book, rule, 1) == 0 {
+        return false;
+    }
+    relation::word_at(book, rule, 2) == action % 4 + 768
+}
+
+// How many of the six rules call their own action first.
+fn own_first(book: &[u16; 126]) -> u64 {
+    let mut n: u64 = 0;
+    for rule in 0..6usize {
+        if calls_first(book, rule, relation::word_at(book, rule, 0)) {
+            n = sum(n, 1);
+        }
+    }
+    n
+}
+
+// Whether two rules call each other's action first.
+fn mutual_pair(book: &[u16; 126], a: usize, b: usize) -> bool {
+    let p = relation::word_at(book, a, 0);
+    let q = relation::word_at(book, b, 0);
+    if p == q {
+        return false;
+    }
+    if calls_first(book, a, q) {
+        return calls_first(book, b, p);
+    }
+    false
+}
+
+// 1 if two of the six rules do.
+fn mutual_first(book: &[u16; 126]) -> u64 {
+    for a in 0..6usize {
+        for b in 0..6usize {
+            if mutual_pair(book, a, b) {
+                return 1;
+            }
+        }
+    }
+    0
+}
+
+fn same_ends(run: Run, set: u64, ends: &[u64]) -> bool {
+    if run.refusal != 0 {
+        return false;
+    }
+    if run.ends != relation::ones(set) {
+        return false;
+    }
+    records::same_ends(ends, set)
+}
+
+fn same_calls(run: Run, found: Found, calls: &[u64], called: &[u64; 4], start: u64) -> bool {
+    let n = run.calls;
+    if n != found.calls {
+        return false;
+    }
+    if !words::all_from(calls, (n % 41) as usize * 2, 0) {
+        return false;
+    }
+    records::same_calls(calls, n, called, start)
+}
+
+fn same_answers(
+    run: Run,
+    found: Found,
+    calls: &[u64],
+    answers: &[u64],
+    rel: &[u64; 32],
+    called: &[u64; 4],
+    start: u64,
+) -> bool {
+    let m = run.answers;
+    if m != found.answers {
+        return false;
+    }
+    if !words::all_from(answers, (m % 301) as usize * 19, 0) {
+        return false;
+    }
+    records::same_answers(calls, run.calls, answers, m, rel, called, found.ends, start)
+}
+
+// Compares one book from one state.
+fn compared(book: &[u16; 126], start: u64) -> Tally {
+    let mut rel = [0u64; 32];
+    let mut called = [0u64; 4];
+    let found = relation::run(book, 6, start, &mut rel, &mut called);
+    let mut calls = [words::MARK; 80];
+    let mut answers = [words::MARK; 5700];
+    let mut ends = [words::MARK; 10];
+    let run = rooms::evaluate(book, start, &mut calls, &mut answers, &mut ends);
+    let good_ends = same_ends(run, found.ends, &ends);
+    let good_calls = same_calls(run, found, &calls, &called, start);
+    let good_answers = same_answers(run, found, &calls, &answers, &rel, &called, start);
+    let good_evidence = evidence::all_justified(book, &calls, run.calls, &answers, run.answers);
+    let good_rooms = rooms::exact(
+        book,
+        start,
+        run.calls as usize,
+        run.answers as usize,
+        run.ends as usize,
+    );
+    Tally {
+        books: 1,
+        own: own_first(book),
+        mutual: mutual_first(book),
+        ends: run.ends,
+        calls: run.calls,
+        answers: run.answers,
+        bad_ends: failed(good_ends),
+        bad_calls: failed(good_calls),
+        bad_answers: failed(good_answers),
+        bad_evidence: failed(good_evidence),
+        bad_rooms: failed(good_rooms),
+    }
+}
+
+// Writes a book at random over zeros: its first rules are base rules, so many as said; the generator's next number.
+fn random_book(seed: u64, book: &mut [u16; 126], bases: usize) -> u64 {
+    let mut x = seed;
+    for rule in 0..7usize {
+        x = random::record(book, rule, x, rule < bases);
+    }
+    random::next(x)
+}
+
+// Compares so many books. In turn they have no, one, two and three base rules.
+fn compare(books: u64, from: u64) -> Tally {
+    let mut tally = none();
+    let mut seed = from;
+    for k in 0..books {
+        let mut book = [0u16; 126];
+        seed = random_book(seed, &mut book, (k % 4) as usize);
+        tally = plus(tally, compared(&book, random::pick(seed, 8) % 8));
+    }
+    tally
+}
+
+fn line(name: &[u8], n: u64) {
+    io::write_all(1, name);
+    io::write_all(1, b"\t");
+    io::print_decimal(1, n);
+    io::write_all(1, b"\n");
+}
+
+fn print_seen(t: Tally) {
+    line(b"books", t.books);
+    line(b"rules that call themselves first", t.own);
+    line(b"books with mutual recursion first", t.mutual);
+    line(b"ends", t.ends);
+    line(b"calls", t.calls);
+    line(b"answers", t.answers);
+}
+
+fn print_differences(t: Tally) {
+    line(b"books that differ in ends", t.bad_ends);
+    line(b"books that differ in calls", t.bad_calls);
+    line(b"books that differ in answers", t.bad_answers);
+    line(b"books with an answer not justified", t.bad_evidence);
+    line(b"books refused in wrong rooms", t.bad_rooms);
+}
+
+fn main() {
+    let tally = compare(5000, 2026);
+    print_seen(tally);
+    print_differences(tally);
+}
