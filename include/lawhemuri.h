@@ -1,4 +1,5 @@
-/* Rehearsal sheets in ground Transaction Logic: read a sheet, evaluate its goal.
+/* Rehearsal sheets in ground Transaction Logic: read a sheet, evaluate its goal,
+ * list the path of an answer.
  *
  * The host lends all memory; nothing is allocated, kept between calls, printed or
  * locked, so calls may run in any number of threads. Every call returns, whatever
@@ -8,8 +9,8 @@
  * NULL where the count is 0. A buffer that is written may not overlap another one
  * of the same call.
  *
- * Stack: lawhemuri_evaluate needs LAWHEMURI_STACK_EVALUATE bytes of it,
- * the others LAWHEMURI_STACK_READ. A main thread has 8 MiB on most systems, a
+ * Stack: lawhemuri_evaluate needs LAWHEMURI_STACK_EVALUATE bytes of it, lawhemuri_path
+ * LAWHEMURI_STACK_PATH, the others LAWHEMURI_STACK_READ. A main thread has 8 MiB on most systems, a
  * thread of Rust's 2 MiB, one of musl's only 128 KiB.
  */
 #ifndef LAWHEMURI_H
@@ -55,6 +56,13 @@ extern "C" {
  * List:
  *  31  fewer places than ends                                both tables finished,
  *                                                            list unchanged
+ * Tables that are shown (lawhemuri_path, after 20 to 23):
+ *  40  a record count over its room                          list unchanged
+ *  41  record number not below the answer count              list unchanged
+ *  42  a call record with an action neither 64 nor below
+ *      the count, or a state bit too high; or an answer
+ *      not justified                                         list unchanged
+ *  43  fewer places than states in the path                  list unchanged
  *
  * A result with a refusal has 0 in every other field, but for two: the line of 13
  * to 17, and the three counts of 31.
@@ -77,6 +85,10 @@ extern "C" {
 #define LAWHEMURI_BAD_START 24u
 #define LAWHEMURI_TABLES_FULL 30u
 #define LAWHEMURI_LIST_SHORT 31u
+#define LAWHEMURI_BAD_RECORD_COUNT 40u
+#define LAWHEMURI_NO_RECORD 41u
+#define LAWHEMURI_BAD_RECORD 42u
+#define LAWHEMURI_STATES_SHORT 43u
 
 /* ---- Words ----
  *
@@ -102,6 +114,7 @@ extern "C" {
 
 /* Bytes of stack that a call needs, with some to spare. */
 #define LAWHEMURI_STACK_EVALUATE 655360u
+#define LAWHEMURI_STACK_PATH 1179648u
 #define LAWHEMURI_STACK_READ 65536u
 
 /* What a sheet says beside its rule words. */
@@ -129,6 +142,12 @@ typedef struct lawhemuri_run {
     uint64_t calls;   /* records in the call table */
     uint64_t answers; /* records in the answer table */
 } lawhemuri_run;
+
+/* What a path gives. */
+typedef struct lawhemuri_states {
+    uint64_t refusal; /* 0: the states are listed */
+    uint64_t states;  /* how many; 0 where refused */
+} lawhemuri_states;
 
 /* Reads a sheet (refusals 10 to 19).
  *
@@ -165,9 +184,23 @@ lawhemuri_run lawhemuri_evaluate(uint64_t fluents, uint64_t actions,
                                  uint64_t *answers, size_t answers_len,
                                  uint64_t *ends, size_t ends_len);
 
-/* The path of an answer record (refusals 20 to 23, then 40 to 43) stands here once the
- * library has it.
+/* Lists the path of an answer record (refusals 20 to 23, then 40 to 43): the call's
+ * state, then the state after each update of the execution that the record's evidence
+ * unfolds to; equal neighbours are joined into one. The tables may come from anybody:
+ * all records counted are checked first. What lawhemuri_evaluate leaves is never
+ * refused with 42.
+ *
+ * states: no refusal, the first result.states words are the states and the list past
+ *   them is unchanged; refused, it is unchanged. The tables are only read.
  */
+lawhemuri_states lawhemuri_path(uint64_t fluents, uint64_t actions,
+                                const uint16_t *rules, size_t rules_len,
+                                const uint16_t *goal, size_t goal_len,
+                                const uint64_t *calls, size_t calls_len,
+                                uint64_t call_count,
+                                const uint64_t *answers, size_t answers_len,
+                                uint64_t answer_count, uint64_t record,
+                                uint64_t *states, size_t states_len);
 
 #ifdef __cplusplus
 }

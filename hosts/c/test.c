@@ -139,12 +139,39 @@ static void test_refused_questions(void) {
     EXPECT(lawhemuri_evaluate(0, 0, NULL, 0, NULL, 0, 0, NULL, 0, NULL, 0, NULL, 0).refusal == LAWHEMURI_TABLES_FULL);
 }
 
+/* Drill D1: the path of the goal's answer, and each refusal of the path. */
+static void test_path(void) {
+    static const uint16_t rules[36] = {0, 1, 256, [18] = 1, 4, 768, 0, 257, 512};
+    static const uint16_t goal[1] = {769};
+    uint64_t states[5];
+    lawhemuri_run r = lawhemuri_evaluate(2, 2, rules, 36, goal, 1, 0, calls, WORDS(calls), answers, WORDS(answers), ends, WORDS(ends));
+    EXPECT(r.refusal == LAWHEMURI_OK && r.calls == 3 && r.answers == 3);
+    uint64_t record = r.answers;
+    for (uint64_t x = 0; x < r.answers; x++)
+        if (calls[2 * answers[19 * x]] == LAWHEMURI_GOAL_ACTION)
+            record = x;
+#define PATH(count, call_room, record, places) \
+    lawhemuri_path(2, 2, rules, 36, goal, 1, calls, 2 * (call_room), r.calls, answers, WORDS(answers), count, record, states, places)
+    fill(states, WORDS(states));
+    lawhemuri_states p = PATH(r.answers, 8, record, 5);
+    EXPECT(p.refusal == LAWHEMURI_OK && p.states == 4);
+    EXPECT(states[0] == 0 && states[1] == 1 && states[2] == 3 && states[3] == 2 && states[4] == MARK);
+    fill(states, WORDS(states));
+    EXPECT(PATH(r.answers, 2, record, 5).refusal == LAWHEMURI_BAD_RECORD_COUNT);
+    EXPECT(PATH(r.answers, 8, 3, 5).refusal == LAWHEMURI_NO_RECORD);
+    EXPECT(PATH(r.answers, 8, record, 3).refusal == LAWHEMURI_STATES_SHORT);
+    answers[19 * record + 1] ^= 1;
+    p = PATH(r.answers, 8, record, 5);
+    EXPECT(p.refusal == LAWHEMURI_BAD_RECORD && p.states == 0 && all(states, WORDS(states), MARK));
+}
+
 int main(void) {
     test_example();
     test_names();
     test_refused_sheets();
     test_rooms();
     test_refused_questions();
+    test_path();
     printf("hosts/c: %s\n", failures == 0 ? "ok" : "failed");
     return failures != 0;
 }

@@ -26,6 +26,12 @@ pub struct Run {
     pub answers: u64,
 }
 
+#[repr(C)]
+pub struct States {
+    pub refusal: u64,
+    pub states: u64,
+}
+
 extern "C" {
     pub fn lawhemuri_read(
         sheet: *const u8,
@@ -49,4 +55,21 @@ extern "C" {
         ends: *mut u64,
         ends_len: usize,
     ) -> Run;
+    pub fn lawhemuri_path(
+        fluents: u64,
+        actions: u64,
+        rules: *const u16,
+        rules_len: usize,
+        goal: *const u16,
+        goal_len: usize,
+        calls: *const u64,
+        calls_len: usize,
+        call_count: u64,
+        answers: *const u64,
+        answers_len: usize,
+        answer_count: u64,
+        record: u64,
+        states: *mut u64,
+        states_len: usize,
+    ) -> States;
 }

@@ -1,7 +1,7 @@
-//! Safe functions over the proved library: read a rehearsal sheet, evaluate its goal.
+//! Safe functions over the proved library: read a rehearsal sheet, evaluate its goal, list the path of an answer.
 //!
 //! The caller lends all memory as slices. What each slice holds afterwards, for every
-//! refusal, is said at each function. [`evaluate`] needs some 640 KiB of stack.
+//! refusal, is said at each function. [`evaluate`] needs some 640 KiB of stack, [`path`] some 1.1 MiB.
 //!
 //! ```
 //! let text = b"fluent\ta\nfluent\tb\naction\tg\nrule\tg\t!g\t?a\t+b\nrule\tg\t+a\nstart\ngoal\t!g\n";
@@ -168,5 +168,46 @@ pub fn evaluate(question: &Question<'_>, lent: &mut Buffers<'_>) -> Result<Run, 
     match Refusal::of(r.refusal) {
         Some(refusal) => Err(Unrun { refusal, run }),
         None => Ok(run),
+    }
+}
+
+/// Filled tables to be shown, and how many records of each count.
+#[derive(Clone, Copy, Debug)]
+pub struct Records<'a> {
+    pub calls: &'a [u64],
+    pub call_count: usize,
+    pub answers: &'a [u64],
+    pub answer_count: usize,
+}
+
+/// Lists the path of an answer record (refusals 20 to 23, then 40 to 43) and gives the count of its states.
+///
+/// The call's state comes first, then the state after each update; equal neighbours are joined. The list past the
+/// states is unchanged; refused, it is unchanged. The tables may come from anybody: every record is checked. The
+/// question's start is not used. It needs 1 MiB of stack.
+pub fn path(question: &Question<'_>, records: &Records<'_>, record: usize, states: &mut [u64]) -> Result<usize, Refusal> {
+    // The library reads rules, goal and tables and writes `states`, within the lengths given, and keeps none.
+    let r = unsafe {
+        ffi::lawhemuri_path(
+            question.fluents,
+            question.actions,
+            question.rules.as_ptr(),
+            question.rules.len(),
+            question.goal.as_ptr(),
+            question.goal.len(),
+            records.calls.as_ptr(),
+            records.calls.len(),
+            records.call_count as u64,
+            records.answers.as_ptr(),
+            records.answers.len(),
+            records.answer_count as u64,
+            record as u64,
+            states.as_mut_ptr(),
+            states.len(),
+        )
+    };
+    match Refusal::of(r.refusal) {
+        Some(refusal) => Err(refusal),
+        None => Ok(r.states as usize),
     }
 }

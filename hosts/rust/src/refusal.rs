@@ -39,11 +39,19 @@ pub enum Refusal {
     TablesFull = 30,
     /// 31: the list has fewer places than there are ends.
     ListShort = 31,
+    /// 40: a record count is over its room.
+    BadRecordCount = 40,
+    /// 41: the record number is not below the answer count.
+    NoRecord = 41,
+    /// 42: a call record with a bad action or state, or an answer that is not justified.
+    BadRecord = 42,
+    /// 43: the list has fewer places than there are states in the path.
+    StatesShort = 43,
 }
 
 impl Refusal {
     /// All refusals, in rising order of their numbers.
-    pub const ALL: [Refusal; 17] = [
+    pub const ALL: [Refusal; 21] = [
         Refusal::TooLong,
         Refusal::BadByte,
         Refusal::NotEnded,
@@ -61,6 +69,10 @@ impl Refusal {
         Refusal::BadStart,
         Refusal::TablesFull,
         Refusal::ListShort,
+        Refusal::BadRecordCount,
+        Refusal::NoRecord,
+        Refusal::BadRecord,
+        Refusal::StatesShort,
     ];
 
     /// The refusal's number.
@@ -93,6 +105,10 @@ impl Refusal {
             Refusal::BadStart => "a start bit at or above the fluent count",
             Refusal::TablesFull => "the tables have too little room for the run",
             Refusal::ListShort => "the list has fewer places than there are ends",
+            Refusal::BadRecordCount => "a record count over its room",
+            Refusal::NoRecord => "no such answer record",
+            Refusal::BadRecord => "a bad call record, or an answer that is not justified",
+            Refusal::StatesShort => "the list has fewer places than the path has states",
         }
     }
 }

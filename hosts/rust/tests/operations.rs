@@ -1,6 +1,6 @@
 //! The operations as a host meets them: results, refusals, and what each buffer holds afterwards.
 
-use lawhemuri::{evaluate, fluent_name, read, Buffers, Question, Refusal, Run, Unread, Unrun};
+use lawhemuri::{evaluate, fluent_name, path, read, Buffers, Question, Records, Refusal, Run, Unread, Unrun};
 
 const EXAMPLE: &[u8] = b"fluent\topen\nfluent\tlit\naction\tpurge\naction\tlight\nrule\tpurge\t+open\n\
 rule\tlight\t!purge\t?open\t+lit\t-open\nstart\ngoal\t!light\n";
@@ -126,4 +126,23 @@ fn empty_slices() {
     let (run, ..) = with_rooms(&question, 1, 1, 1);
     assert_eq!(run, Ok(Run { ends: 1, calls: 1, answers: 1 }));
     assert_eq!(with_rooms(&question, 0, 0, 0).0.unwrap_err().refusal, Refusal::TablesFull);
+}
+
+#[test]
+fn path_of_the_goals_answer() {
+    let mut rules = [0; 36];
+    let sheet = read(EXAMPLE, &mut rules).unwrap();
+    let question = sheet.question(&rules);
+    let (run, calls, answers, _) = with_rooms(&question, 8, 8, 8);
+    let run = run.unwrap();
+    let records = Records { calls: &calls, call_count: run.calls, answers: &answers, answer_count: run.answers };
+    let goal = (0..run.answers).find(|x| calls[2 * answers[19 * x] as usize] == 64).unwrap();
+    let mut states = [MARK; 5];
+    assert_eq!(path(&question, &records, goal, &mut states), Ok(4));
+    assert_eq!(states, [0, 1, 3, 2, MARK]);
+    assert_eq!(path(&question, &records, goal, &mut states[..3]), Err(Refusal::StatesShort));
+    assert_eq!(path(&question, &records, 3, &mut states), Err(Refusal::NoRecord));
+    assert_eq!(path(&question, &Records { call_count: 9, ..records }, goal, &mut states), Err(Refusal::BadRecordCount));
+    assert_eq!(path(&question, &Records { call_count: 0, ..records }, goal, &mut states), Err(Refusal::BadRecord));
+    assert_eq!(states, [0, 1, 3, 2, MARK]);
 }
