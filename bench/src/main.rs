@@ -3,6 +3,7 @@
 
 mod book;
 mod families;
+mod paths;
 mod plain;
 
 use book::Book;
@@ -85,4 +86,5 @@ fn main() {
             }
         }
     }
+    paths::print();
 }
