@@ -44,7 +44,8 @@ pub struct Counted {
     pub answers: usize,
 }
 
-// Closes the n call records from `first` on, with m answers, under the rules and the goal; their places are those of the lent words.
+// Rounds over the call records from `first` on until one adds nothing, under the rules and the goal, or until a table is full. The tables hold
+// n0 call records and m0 answers at first; what they can hold is fixed by the lengths of the lent words.
 fn fill<'a>(
     rules: &'a [u16],
     goal: &'a [u16],

@@ -1,5 +1,5 @@
 -- Marks of a place 0 to 15 and a call record, as bits of one word for each record, under the number of the walk that set them:
--- a word of an earlier walk holds no mark, so nothing is ever cleared. Assumes nothing.
+-- a word of an earlier walk holds no mark, so a walk begins without clearing any. Assumes nothing.
 use Prim.Native.Nat.{ℕ, _+_, _*_, _/_, _%_, _^_, _<_, _≤_}
 use native.Mathlib.Omega.{arith}
 use native.Mathlib.Decide.{ℕ-discrete, decLt}

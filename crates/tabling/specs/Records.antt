@@ -48,7 +48,7 @@ pub record Bodies : Type 0 where
   pub fits : ℕ → ℕ → Bool
   pub words : ℕ → List ℕ
 
--- A rule goes with its head; 256 is the goal and goes with action 64.
+-- A rule goes with its head; 256 is the goal and goes with action 64 (no accepted head is 64).
 abbrev pub bodies-of : List ℕ → List ℕ → Bodies
 bodies-of rules goal = record {
   fits = λ i a. cond (eqb i 256) (eqb a Goal) (ltb i (length rules / 18) && eqb (head-of rules i) a);
@@ -57,7 +57,8 @@ bodies-of rules goal = record {
 
 module _ (calls : Calls) (answers : Answers) (n : ℕ) where
   -- Where step x of record n leads from state s with evidence e. A call takes the named answer: its number is smaller than n, and
-  -- its call is this step's action at s. Any other step is done, and its evidence is 0.
+  -- its call is this step's action at s (that its call record exists is asked of the named answer's own record). Any other step is done, and
+  -- its evidence is 0.
   unfoldable pub follow : Step → State → ℕ → Onward
   follow (call a) s e = cond (ltb e n && (eqb (calls .action (answers .call e)) a && eqb (calls .state (answers .call e)) s)) (on (answers .final e)) stuck
   follow (query p) s e = cond (eqb e 0) (elementary (query p) s) stuck

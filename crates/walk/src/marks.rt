@@ -1,5 +1,5 @@
 // The marks of a walk: for each call record one word, the number of the walk that wrote it above a bit for each of 16 places.
-// A word of an earlier walk holds no mark, so a walk clears nothing.
+// A word of an earlier walk holds no mark, so a walk begins without clearing any.
 use crate::tables;
 use steps::state::State;
 ghost use mathlib.Core.Path.{_≡_};
@@ -37,7 +37,8 @@ pub fn mark(marks: &mut [u64], walk: u64, place: usize, row: usize)
     marks[row] = State::of(word).insert(place as u64).0;
 }
 
-// The number of the next walk, which has no mark yet. Numbers have 48 bits: after the last one all words are cleared and counted anew.
+// The number of the next walk, which has no mark yet. Numbers have 48 bits: after the last one, which no run comes to,
+// all words would be cleared and walks counted anew.
 pub fn next_walk(marks: &mut [u64], walk: u64) -> u64
     requires { ⌜ Stamped (now marks) walk ⌝ }
     ensures { λ r. ⌜ Fresh (now (marks .exit)) r ⌝ }

@@ -1,4 +1,4 @@
-// The words of the two tables: reading, finding and adding records. Widths and offsets of the records stand here alone.
+// The words of the two tables: reading, finding and adding records. In the evaluator's code widths and offsets of the records stand here.
 use steps::state::Call;
 use steps::state::State;
 ghost use mathlib.Core.Path.{_≡_};
