@@ -1,0 +1,90 @@
+// Lines of the report: a name, numbers, and buffers with equal neighbours told as one value and how often it stands.
+ghost use Prim.Native.Nat.{_<_, _≤_};
+ghost use lib.ListN.{length};
+
+pub fn text(s: &[u8]) {
+    io::write_all(1, s);
+}
+
+pub fn number(name: &[u8], n: u64) {
+    text(b"\t");
+    text(name);
+    text(b" ");
+    io::print_decimal(1, n);
+}
+
+// One value and how often it stands.
+fn times(value: u64, count: u64) {
+    text(b" ");
+    io::print_decimal(1, value);
+    if 1 < count {
+        text(b"x");
+        io::print_decimal(1, count);
+    }
+}
+
+// The place after the equal words that begin here.
+fn run_of(words: &[u64], from: usize) -> usize
+    requires { ⌜ from < length (now words) ⌝ }
+    ensures { λ r. ⌜ (from < r) × (r ≤ length (now (words .entry))) ⌝ }
+{
+    let mut i = from + 1;
+    while i < words.len() {
+        if words[i] != words[from] {
+            return i;
+        }
+        i += 1;
+    }
+    i
+}
+
+// The words of a buffer.
+pub fn buffer(name: &[u8], words: &[u64]) {
+    text(b"\t");
+    text(name);
+    let mut i: usize = 0;
+    while i < words.len() {
+        let end = run_of(words, i);
+        times(words[i], (end - i) as u64);
+        i = end;
+    }
+}
+
+fn wide(word: u16) -> u64 {
+    word as u64
+}
+
+// The same place among words of 16 bits.
+fn short_run_of(words: &[u16], from: usize) -> usize
+    requires { ⌜ from < length (now words) ⌝ }
+    ensures { λ r. ⌜ (from < r) × (r ≤ length (now (words .entry))) ⌝ }
+{
+    let mut i = from + 1;
+    while i < words.len() {
+        if words[i] != words[from] {
+            return i;
+        }
+        i += 1;
+    }
+    i
+}
+
+// The words of a buffer of 16 bits each.
+pub fn short_buffer(name: &[u8], words: &[u16]) {
+    text(b"\t");
+    text(name);
+    let mut i: usize = 0;
+    while i < words.len() {
+        let end = short_run_of(words, i);
+        times(wide(words[i]), (end - i) as u64);
+        i = end;
+    }
+}
+
+// The 16 words of a goal.
+pub fn goal(words: &[u16; 16]) {
+    text(b"\tgoal");
+    for k in 0..16usize {
+        times(wide(words[k]), 1);
+    }
+}

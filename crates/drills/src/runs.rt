@@ -1,0 +1,110 @@
+// Drill D2 in several rooms, and questions that are refused. Every word lent is 7 before.
+use crate::print;
+
+// Evaluates with these buffers, and prints what it gives and leaves.
+fn shown<'a>(
+    name: &[u8],
+    fluents: u64,
+    rules: &'a [u16],
+    goal: &'a [u16],
+    start: u64,
+    calls: &mut [u64],
+    answers: &mut [u64],
+    ends: &mut [u64],
+) {
+    let r = evaluator::evaluate(fluents, 1, rules, goal, start, calls, answers, ends);
+    print::text(name);
+    print::number(b"refusal", r.refusal);
+    print::number(b"ends", r.ends);
+    print::number(b"calls", r.calls);
+    print::number(b"answers", r.answers);
+    print::buffer(b"calls", calls);
+    print::buffer(b"answers", answers);
+    print::buffer(b"list", ends);
+    print::text(b"\n");
+}
+
+// Drill D2, g: `!g ?a +b`; g: `+a`, in these rooms, at most 3, 5 and 3.
+fn in_rooms(name: &[u8], n: usize, m: usize, e: usize) {
+    let mut rules = [0u16; 36];
+    rules[1] = 3;
+    rules[2] = 768;
+    rules[4] = 257;
+    rules[19] = 1;
+    rules[20] = 256;
+    let mut calls = [7u64; 6];
+    let mut answers = [7u64; 95];
+    let mut ends = [7u64; 3];
+    let c = 6 - n % 4 * 2;
+    let a = 95 - m % 6 * 19;
+    let l = 3 - e % 4;
+    shown(
+        name,
+        2,
+        &rules,
+        &[768],
+        0,
+        &mut calls[c..],
+        &mut answers[a..],
+        &mut ends[l..],
+    );
+}
+
+fn rooms() {
+    in_rooms(b"D11 rooms 2 and 4", 2, 4, 2);
+    in_rooms(b"rooms 3 and 5, list of 3", 3, 5, 3);
+    in_rooms(b"D11 rooms 1 and 4", 1, 4, 2);
+    in_rooms(b"D11 rooms 2 and 3", 2, 3, 2);
+    in_rooms(b"D11 call room 0", 0, 4, 2);
+}
+
+fn lists() {
+    in_rooms(b"D11 list of 1", 2, 4, 1);
+    in_rooms(b"list of 0", 2, 4, 0);
+    in_rooms(b"30 before 31", 2, 3, 1);
+}
+
+// A question in rooms 2 and 4, with a list of 2.
+fn asked<'a>(name: &[u8], fluents: u64, rules: &'a [u16], goal: &'a [u16], start: u64) {
+    let mut calls = [7u64; 4];
+    let mut answers = [7u64; 76];
+    let mut ends = [7u64; 2];
+    shown(
+        name,
+        fluents,
+        rules,
+        goal,
+        start,
+        &mut calls,
+        &mut answers,
+        &mut ends,
+    );
+}
+
+// One rule of g with no step; then what is wrong.
+fn bad_rules() {
+    let rule = [0u16; 18];
+    asked(b"20 of 65 fluents", 65, &rule, &[768], 0);
+    let odd = [0u16; 35];
+    asked(b"21 of 35 words", 2, &odd, &[768], 0);
+    let mut unused = [0u16; 36];
+    unused[35] = 1;
+    asked(b"22 an unused word not 0", 2, &unused, &[768], 0);
+}
+
+fn bad_goals() {
+    let rule = [0u16; 18];
+    asked(b"23 no such action", 2, &rule, &[769], 0);
+    let long = [0u16; 17];
+    asked(b"23 of 17 steps", 2, &rule, &long, 0);
+    asked(b"24 a bit too high", 2, &rule, &[768], 4);
+    asked(b"23 before 24", 2, &rule, &[769], 4);
+    asked(b"accepted", 2, &rule, &[768], 3);
+}
+
+pub fn all() {
+    rooms();
+    lists();
+    bad_rules();
+    bad_goals();
+}
