@@ -1,6 +1,6 @@
 """Rehearsal sheets from Python, by ctypes over a shared library.
 
-`hosts/python/run SHEET` builds the shared library from the static one and prints the ends of a sheet.
+`hosts/python/run SHEET` builds the shared library from the static one and prints the ends of a sheet, each with a path to it.
 """
 
 import ctypes
@@ -29,6 +29,12 @@ class Run(ctypes.Structure):
     _fields_ = [(name, U64) for name in ("refusal", "ends", "calls", "answers")]
 
 
+class States(ctypes.Structure):
+    """The refusal, 0 for none, and how many states the path has."""
+
+    _fields_ = [(name, U64) for name in ("refusal", "states")]
+
+
 class Refused(Exception):
     """A numbered refusal, with its line for 13 to 17."""
 
@@ -48,6 +54,8 @@ class Library:
         self._name.argtypes, self._name.restype = [ctypes.c_char_p, SIZE, U64], Span
         self._evaluate.argtypes = [U64, U64, words, SIZE, words, SIZE, U64] + [longs, SIZE] * 3
         self._evaluate.restype = Run
+        self._path, self._path.restype = lib.lawhemuri_path, States
+        self._path.argtypes = [U64, U64, words, SIZE, words, SIZE] + [longs, SIZE, U64] * 2 + [U64, longs, SIZE]
 
     def read(self, text):
         """The sheet and its rule words."""
@@ -63,7 +71,7 @@ class Library:
         return text[part.at : part.at + part.len]
 
     def evaluate(self, sheet, rules, rooms=(512, 256, 256)):
-        """The run's counts, its ends in rising order, and both tables as lists of records."""
+        """The run's counts, its ends in rising order, and the tables of calls and answers."""
         calls, answers, ends = (U64 * (2 * rooms[0]))(), (U64 * (19 * rooms[1]))(), (U64 * rooms[2])()
         run = self._evaluate(
             sheet.fluents, sheet.actions, rules, 18 * sheet.rules, sheet.goal, sheet.goal_len, sheet.start,
@@ -71,11 +79,24 @@ class Library:
         )
         if run.refusal:
             raise Refused(run.refusal)
-        return run, ends[: run.ends], records(calls, 2, run.calls), records(answers, 19, run.answers)
+        return run, ends[: run.ends], calls, answers
+
+    def path(self, sheet, rules, run, calls, answers, record, room=65536):
+        """The states of the execution that an answer record's evidence unfolds to."""
+        states = (U64 * room)()
+        path = self._path(
+            sheet.fluents, sheet.actions, rules, 18 * sheet.rules, sheet.goal, sheet.goal_len,
+            calls, len(calls), run.calls, answers, len(answers), run.answers, record, states, len(states),
+        )
+        if path.refusal:
+            raise Refused(path.refusal)
+        return states[: path.states]
 
 
-def records(table, width, count):
-    return [table[width * i : width * (i + 1)] for i in range(count)]
+def goal_records(run, calls, answers):
+    """The number of the goal's answer record for each end."""
+    goals = [i for i in range(run.answers) if calls[2 * answers[19 * i]] == 64]
+    return {answers[19 * i + 1]: i for i in goals}
 
 
 def main():
@@ -89,9 +110,11 @@ def main():
         print("refused", refusal.number, refusal.line, sep="\t")
         return
     names = [lib.fluent_name(text, k).decode() for k in range(sheet.fluents)]
+    record_of = goal_records(run, calls, answers)
     print("ends", run.ends, run.calls, run.answers, sep="\t")
     for state in ends:
         print("end", state, *(name for k, name in enumerate(names) if state >> k & 1), sep="\t")
+        print("path", *lib.path(sheet, rules, run, calls, answers, record_of[state]), sep="\t")
 
 
 if __name__ == "__main__":

@@ -1,4 +1,5 @@
-// Drills D11 to D13 and each refusal from 10 to 31, with what every buffer holds afterwards.
+// Drills D11 to D13, the path of D9, and each refusal from 10 to 43, with what every buffer holds afterwards.
+mod paths;
 mod print;
 mod runs;
 mod sheets;
@@ -6,4 +7,5 @@ mod sheets;
 fn main() {
     sheets::all();
     runs::all();
+    paths::all();
 }
