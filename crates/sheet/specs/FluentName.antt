@@ -14,6 +14,10 @@ use Rattle.sheet.specs.Reader.{readSheet, refused, written}
 abbrev pub partOf : List ℕ → Span → List ℕ
 partOf s p = take (p .len) (drop (p .at) s)
 
+-- The address of that part, a block of memory and an offset in it, where the sheet has this one: the same block, `at` bytes further.
+abbrev pub addressOf : ℕ × ℕ → Span → ℕ × ℕ
+addressOf sheet p = (sheet .0, p .at + sheet .1)
+
 abbrev pub nowhere : Span
 nowhere = record { at = 0; len = 0 }
 

@@ -11,7 +11,7 @@ ghost use lib.ListN.{length, take, drop};
 ghost use Rattle.chars.specs.Pieces.{lines};
 ghost use Rattle.sheet.specs.Reader.{wholeSheet, readSheet};
 ghost use Rattle.sheet.specs.Result.{refusal, resultOf, rulesAfter};
-ghost use Rattle.sheet.specs.FluentName.{nameIn, nameSpan, partOf};
+ghost use Rattle.sheet.specs.FluentName.{nameIn, nameSpan, partOf, addressOf};
 ghost use Rattle.sheet.specs.Held.{answer, Gives, fieldSpan};
 use lines::Scan;
 
@@ -196,9 +196,10 @@ pub fn fluent_span(sheet: &[u8], number: u64) -> Span
     name_in(sheet, number)
 }
 
-// The part of the sheet that defines the fluent; empty for a refused sheet or a number too high.
+// The very part of the lent sheet that defines the fluent; for a refused sheet or a number too high, the empty part at the sheet's first byte.
 pub fn fluent_name<'a>(sheet: &'a [u8], number: u64) -> &'a [u8]
     ensures { λ r. ⌜ now r ≡ partOf (now (sheet .entry)) (nameSpan (now (sheet .entry)) number) ⌝ }
+    ensures { λ r. ⌜ r .ptr ≡ addressOf (sheet .entry .ptr) (nameSpan (now (sheet .entry)) number) ⌝ }
 {
     let name = fluent_span(sheet, number);
     let at = name.at;

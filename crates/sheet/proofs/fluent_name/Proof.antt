@@ -1,11 +1,11 @@
--- `fluent_name` meets its contract: the span lies in the sheet. Assumes nothing.
+-- `fluent_name` meets its contract: the span lies in the sheet, and the part is cut where the span says. Assumes nothing.
 use mathlib.Core.Path.{_≡_, ap, _∙_, subst⁻¹}
 use Prim.Native.Nat.{ℕ, _+_, _-_, _≤_}
 use native.Mathlib.Omega.{arith}
 use denote.Ref.{now}
 use lib.ListN.{length, take, drop}
 use Rattle.sheet.specs.declared.Span.{Span}
-use Rattle.sheet.specs.FluentName.{partOf}
+use Rattle.sheet.specs.FluentName.{partOf, addressOf}
 use Rattle.sheet.proofs.FluentNames.{span-within}
 use borrow.Author.Needs.{needs}
 use Rattle.sheet.proofs.fluent_name.Statement.{statement}
@@ -36,9 +36,11 @@ part-result-end c =
 returns : tie.Need-returns
 returns c =
     let a = c .before .before .before .before .args in
-    let r = c .before .before .fluent-span .result in
+    let p = c .before .before .fluent-span in
+    let r = p .result in
     let e : r .at + r .len - r .at ≡ r .len = omega arith in
-    ap (λ (n : ℕ). take n (drop (r .at) (now (a .sheet)))) e ∙ ap (partOf (now (a .sheet))) (c .before .before .fluent-span .ensures)
+    let bytes = ap (λ (n : ℕ). take n (drop (r .at) (now (a .sheet)))) e ∙ ap (partOf (now (a .sheet))) (p .ensures) in
+    (bytes, ap (addressOf (a .sheet .ptr)) (p .ensures))
 
 pub fluent-name-spec : {M : Type 1} → statement M
 fluent-name-spec =
