@@ -24,7 +24,7 @@ padded-length ws h =
     omega arith
 
 -- rules of 18 words each, one after the other
-abbrev Rows : List (List ℕ) → Type 0
+abbrev pub Rows : List (List ℕ) → Type 0
 Rows rs = (i : ℕ) → i < length rs → length (getD rs i []) ≡ 18
 
 joined-length : (rs : List (List ℕ)) → Rows rs → length (joined rs) ≡ 18 * length rs
@@ -67,7 +67,7 @@ module _ (b : Book) (v : Valid b) where
   abbrev actions : ℕ
   actions = length (b .names .actions)
 
-  rows : Rows (b .rules)
+  pub rows : Rows (b .rules)
   rows i l =
       let g = v .rules i l in
       let p = padded-length (g .steps) (g .good .few) in

@@ -12,6 +12,7 @@ pub mod AcceptedLines
 pub mod Valid
 pub mod ValidSheets
 pub mod Acceptance
+pub mod Decoding
 pub mod RefusalNumbers
 pub mod ResultAccepted
 pub mod Spans

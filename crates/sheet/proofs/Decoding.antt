@@ -1,0 +1,122 @@
+-- The words of an accepted sheet decode to what it writes: a step word to the step of its field, a rule's 18 words to its head and steps, the goal's words to its steps. Assumes nothing.
+use mathlib.Core.Path.{_≡_, refl, ap, sym, _∙_, subst}
+use mathlib.Core.Bool.{Bool, true, false, cond}
+use mathlib.Core.List.{List, [], _∷_, _++_, append-assoc, Forall₂, Forall₂·nil, Forall₂·cons}
+use Prim.Native.Nat.{ℕ, zero, suc, _+_, _-_, _*_, _/_, _%_, _≤_, _<_}
+use native.Mathlib.Omega.{arith}
+use lib.Dec.{ltb, eqb}
+use lib.ListN.{length, getD, take, drop, replicate}
+use lib.Seq.{take-append-seam, drop-append-add, drop-drop, getD-drop}
+use borrow.Author.Tests.{ltb-true, eqb-true}
+use Rattle.steps.specs.Step.{Step, query, insert, delete, call}
+use Rattle.steps.specs.Words.{step-by, step-of, body-of, rule-of}
+use Rattle.chars.specs.Bytes.{text, isName}
+use Rattle.chars.specs.Places.{place, placeAfter, among, byteAt}
+use Rattle.sheet.specs.Verdict.{accept, _>>=_}
+use Rattle.sheet.specs.Book.{Book, Symbols, padded, ruleWords, joined}
+use Rattle.sheet.specs.Field.{marks, namesOf, usedName, stepFrom, stepWord, stepWords}
+use Rattle.sheet.specs.Reader.{readSheet, written}
+use Rattle.sheet.specs.Result.{accepted}
+use Rattle.sheet.proofs.Verdicts.{followed, required, same-value, not-both}
+use Rattle.sheet.proofs.AcceptedLines.{judged-accepted}
+use Rattle.sheet.proofs.Valid.{used-below}
+use Rattle.sheet.proofs.ValidSheets.{sheet-valid}
+use Rattle.sheet.proofs.Acceptance.{Rows, rows}
+
+-- The step that a field writes: `?`, `+`, `-` (query, insert, delete of a fluent) or `!` (call), then a name. Its index is the name's place among the fluents, for a call among the actions.
+pub data Writes (y : Symbols) (field : List ℕ) (step : Step) : Type 0 where
+  queries : (name : List ℕ) → field ≡ text "?" ++ name → step ≡ query (place name (y .fluents)) → Writes y field step
+  inserts : (name : List ℕ) → field ≡ text "+" ++ name → step ≡ insert (place name (y .fluents)) → Writes y field step
+  deletes : (name : List ℕ) → field ≡ text "-" ++ name → step ≡ delete (place name (y .fluents)) → Writes y field step
+  calls : (name : List ℕ) → field ≡ text "!" ++ name → step ≡ call (place name (y .actions)) → Writes y field step
+
+-- the byte at its own place
+byte-is : (b : ℕ) (bs : List ℕ) → byteAt b bs < length bs → getD bs (byteAt b bs) 0 ≡ b
+unfolding byteAt
+byte-is b [] l = absurd (omega arith)
+byte-is b (x ∷ xs) l = by (eqb x b) refl (byte-is b xs) l
+  where
+    by : (t : Bool) → eqb x b ≡ t → (byteAt b xs < length xs → getD xs (byteAt b xs) 0 ≡ b) → placeAfter t (byteAt b xs) < suc (length xs) → getD (x ∷ xs) (placeAfter t (byteAt b xs)) 0 ≡ b
+    by true e h k = eqb-true x b e
+    by false e h k = h (omega arith)
+
+-- a used name's number is its place
+used-place : (names : List (List ℕ)) (f : List ℕ) (k : ℕ) → usedName names f ≡ accept k → k ≡ place f names
+unfolding usedName
+used-place names f k e = sym (judged-accepted (isName f) true (among f names) (place f names) k e .value)
+
+-- 256 times kind plus index
+word-step : (kind index : ℕ) → index < 256 → step-of (256 * kind + index) ≡ step-by kind index
+word-step kind index l =
+    let d : (256 * kind + index) / 256 ≡ kind = omega arith in
+    let m : (256 * kind + index) % 256 ≡ index = omega arith in
+    rw (d, m)
+
+module _ (y : Symbols) (few-fluents : length (y .fluents) ≤ 64) (few-actions : length (y .actions) ≤ 64) where
+  -- the kinds, by their marks
+  by-kind : (kind mark : ℕ) (name : List ℕ) (step : Step) → kind < 4 → getD marks kind 0 ≡ mark → step ≡ step-by kind (place name (namesOf y kind)) → Writes y (mark ∷ name) step
+  unfolding step-by
+  by-kind zero mark name step l m e = queries name (ap (λ (b : ℕ). b ∷ name) (sym m)) e
+  by-kind (suc zero) mark name step l m e = inserts name (ap (λ (b : ℕ). b ∷ name) (sym m)) e
+  by-kind (suc (suc zero)) mark name step l m e = deletes name (ap (λ (b : ℕ). b ∷ name) (sym m)) e
+  by-kind (suc (suc (suc zero))) mark name step l m e = calls name (ap (λ (b : ℕ). b ∷ name) (sym m)) e
+  by-kind (suc (suc (suc (suc k)))) mark name step l m e = absurd (omega arith)
+
+  few-names : (kind : ℕ) → length (namesOf y kind) ≤ 64
+  few-names kind = by (eqb kind 3)
+    where
+      by : (t : Bool) → length (cond t (y .actions) (y .fluents)) ≤ 64
+      by true = few-actions
+      by false = few-fluents
+
+  -- an accepted step word decodes to the step that its field writes
+  pub step-decoded : (f : List ℕ) (w : ℕ) → stepWord y f ≡ accept w → Writes y f (step-of w)
+  unfolding stepWord
+  step-decoded [] w e = absurd (not-both 14 w e)
+  step-decoded (mark ∷ name) w e =
+      let kind = byteAt mark marks in
+      let (k, r) = required (ltb kind 4) 14 (λ _. stepFrom kind (usedName (namesOf y kind) name)) w e in
+      let (index, u, v) = followed (usedName (namesOf y kind) name) (λ index. accept (256 * kind + index)) w r in
+      let few = few-names kind in
+      let low = used-below (namesOf y kind) name index u in
+      let d = word-step kind index (omega arith) ∙ ap (step-by kind) (used-place (namesOf y kind) name index u) in
+      by-kind kind mark name (step-of w) (ltb-true kind 4 k) (byte-is mark marks (ltb-true kind 4 k)) (ap step-of (sym (same-value v)) ∙ d)
+
+  -- and so do the words of a body, fields from the left
+  pub steps-decoded : (fs : List (List ℕ)) (ws : List ℕ) → stepWords y fs ≡ accept ws → Forall₂ (Writes y) fs (body-of ws)
+  unfolding stepWords
+  steps-decoded [] ws e = subst (λ (x : List ℕ). Forall₂ (Writes y) [] (body-of x)) (same-value e) Forall₂·nil
+  steps-decoded (f ∷ fs) ws e =
+      let (w, u, r) = followed (stepWord y f) (λ w. stepWords y fs >>= (λ us. accept (w ∷ us))) ws e in
+      let (us, v, t) = followed (stepWords y fs) (λ us. accept (w ∷ us)) ws r in
+      subst (λ (x : List ℕ). Forall₂ (Writes y) (f ∷ fs) (body-of x)) (same-value t) (Forall₂·cons (step-decoded f w u) (steps-decoded fs us v))
+
+-- the words from rule r on
+joined-from : (rs : List (List ℕ)) → Rows rs → (r : ℕ) → r < length rs → drop (18 * r) (joined rs) ≡ getD rs r [] ++ joined (drop (suc r) rs)
+joined-from [] h r l = absurd (omega arith)
+joined-from (x ∷ rs) h zero l = refl
+joined-from (x ∷ rs) h (suc r) l =
+    let n = h 0 (omega arith) in
+    let e : 18 * suc r ≡ length x + 18 * r = omega arith in
+    ap (λ (k : ℕ). drop k (x ++ joined rs)) e ∙ drop-append-add x (joined rs) (18 * r) ∙ joined-from rs (λ i k. h (suc i) (omega arith)) r (omega arith)
+
+-- the rule of 18 words that stand at rule r
+rule-at : (words : List ℕ) (r head : ℕ) (steps rest : List ℕ) → drop (18 * r) words ≡ ruleWords head steps ++ rest → rule-of words r ≡ record { head = head; body = body-of steps }
+rule-at words r head steps rest e =
+    let z : 18 * r + 0 ≡ 18 * r = omega arith in
+    let h : getD words (18 * r) 0 ≡ head = ap (λ (i : ℕ). getD words i 0) (sym z) ∙ sym (getD-drop (18 * r) words 0 0) ∙ ap (λ (l : List ℕ). getD l 0 0) e in
+    let n : getD words (18 * r + 1) 0 ≡ length steps = sym (getD-drop (18 * r) words 1 0) ∙ ap (λ (l : List ℕ). getD l 1 0) e in
+    let d : drop (18 * r + 2) words ≡ padded steps ++ rest = sym (drop-drop 2 (18 * r) words) ∙ ap (drop 2) e in
+    let t = ap (take (length steps)) (append-assoc steps (replicate (16 - length steps) 0) rest) ∙ take-append-seam steps (replicate (16 - length steps) 0 ++ rest) in
+    rw (h, n, d, t)
+
+-- the rule words of an accepted sheet, 18 for each rule, decode to the rule's head and steps
+pub rule-decoded : (s : List ℕ) (b : Book) (r head : ℕ) (steps : List ℕ) → readSheet s ≡ written b → r < length (b .rules) → getD (b .rules) r [] ≡ ruleWords head steps
+    → rule-of (joined (b .rules)) r ≡ record { head = head; body = body-of steps }
+rule-decoded s b r head steps e l g =
+    let rest = joined (drop (suc r) (b .rules)) in
+    rule-at (joined (b .rules)) r head steps rest (joined-from (b .rules) (rows b (sheet-valid s b e)) r l ∙ ap (λ (x : List ℕ). x ++ rest) g)
+
+-- its goal words, as many as the result says, decode to the goal's steps
+pub goal-decoded : (b : Book) → body-of (take (accepted b .«goal_len») (accepted b .goal)) ≡ body-of (b .goal)
+goal-decoded b = ap body-of (take-append-seam (b .goal) (replicate (16 - length (b .goal)) 0))
