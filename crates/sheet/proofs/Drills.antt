@@ -1,7 +1,7 @@
 -- The drills about sheets, and each refusal from 10 to 19, computed from the definition. Assumes nothing.
 use mathlib.Core.Path.{_≡_, refl}
 use mathlib.Core.List.{List, [], _∷_, _++_, map}
-use Prim.Native.Nat.{ℕ, _<_}
+use Prim.Native.Nat.{ℕ, zero, suc, _<_}
 use native.Mathlib.Omega.{arith}
 use lib.ListN.{length, replicate, length-replicate}
 use borrow.Author.Tests.{lt-leb}
@@ -31,6 +31,18 @@ reads sheet fluents start goal = record { sheet = sheet; room = 0; result = reco
 abbrev example : List ℕ
 example = text "fluent\topen\nfluent\tlit\naction\tpurge\naction\tlight\nrule\tpurge\t+open\nrule\tlight\t!purge\t?open\t+lit\t-open\nstart\ngoal\t!light\n"
 
+-- n steps `+a`, each after its tab
+abbrev steps : ℕ → List ℕ
+steps zero = []
+steps (suc n) = text "\t+a" ++ steps n
+
+-- sheets with a rule, and with a goal, of n steps
+abbrev ruleOf : ℕ → List ℕ
+ruleOf n = text "fluent\ta\naction\tg\nrule\tg" ++ steps n ++ text "\nstart\ngoal\n"
+
+abbrev goalOf : ℕ → List ℕ
+goalOf n = text "fluent\ta\nstart\ta\ngoal" ++ steps n ++ text "\n"
+
 -- a name of 16 bytes
 abbrev sixteen : List ℕ
 sixteen = text "fluent\tabcdefghijklmnop\nstart\ngoal\n"
@@ -45,8 +57,9 @@ drills =
     ∷ refuses (text "\n") 13 1
     ∷ refuses (text "start\nstart\n") 13 2
     ∷ refuses (text "start\ngoal\nstart\n") 13 3
-    -- 17 steps (D13), and before their fields are judged
-    ∷ refuses (text "fluent\ta\nstart\ngoal\t+a\t+a\t+a\t+a\t+a\t+a\t+a\t+a\t+a\t+a\t+a\t+a\t+a\t+a\t+a\t+a\t+a\n") 17 3
+    -- a rule and a goal of 17 steps (D13), and before their fields are judged
+    ∷ refuses (ruleOf 17) 17 3
+    ∷ refuses (goalOf 17) 17 3
     ∷ refuses (text "goal\t\t\t\t\t\t\t\t\t\t\t\t\t\t\t\t\t\n") 17 1
     -- `goal` and a tab with nothing after (D12); a name of 17 bytes (D13)
     ∷ refuses (text "goal\t\n") 14 1
@@ -61,8 +74,9 @@ drills =
     ∷ refuses [] 18 0
     ∷ refuses (text "goal\n") 18 0
     ∷ record { sheet = example; room = 35; result = refusal 19 0 }
-    -- a body of 16 steps and a name of 16 bytes are read (D13)
-    ∷ reads (text "fluent\ta\nstart\ta\ngoal\t+a\t+a\t+a\t+a\t+a\t+a\t+a\t+a\t+a\t+a\t+a\t+a\t+a\t+a\t+a\t+a\n") 1 1 (replicate 16 256)
+    -- a rule and a goal of 16 steps and a name of 16 bytes are read (D13)
+    ∷ record { sheet = ruleOf 16; room = 18; result = record { refusal = 0; line = 0; fluents = 1; actions = 1; rules = 1; start = 0; «goal_len» = 0; goal = padded [] } }
+    ∷ reads (goalOf 16) 1 1 (replicate 16 256)
     ∷ reads sixteen 1 0 []
     ∷ []
 
@@ -74,6 +88,11 @@ drills-hold = refl
 pub example-rules : rulesAfter (replicate 37 7) (readSheet example) ≡ ruleWords 0 (256 ∷ []) ++ ruleWords 1 (768 ∷ 0 ∷ 257 ∷ 512 ∷ []) ++ (7 ∷ [])
 unfolding readSheet rulesAfter
 example-rules = refl
+
+-- the rule words of a rule of 16 steps
+pub sixteen-steps : rulesAfter (replicate 18 7) (readSheet (ruleOf 16)) ≡ ruleWords 0 (replicate 16 256)
+unfolding readSheet rulesAfter
+sixteen-steps = refl
 
 -- names: of the example's two fluents, of a number too high, of 16 bytes, of a refused sheet
 pub names-hold : nameSpan example 0 ∷ nameSpan example 1 ∷ nameSpan example 2 ∷ nameSpan sixteen 0 ∷ nameSpan (text "fluent\ta\n") 0 ∷ []
