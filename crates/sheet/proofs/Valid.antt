@@ -19,12 +19,12 @@ use Rattle.sheet.specs.Field.{usedName, stepWord, stepWords, stepFrom, n
 use Rattle.sheet.proofs.Verdicts.{followed, required, same-value, not-both}
 use Rattle.sheet.proofs.AcceptedLines.{action, start, goal, judged-accepted}
 
--- step words of a body, where there are so many fluents and actions
+-- the step words of a body are good, where there are so many fluents and actions: at most 16, each of one of the four kinds and with an index below the count
 pub record GoodSteps (fluents actions : ℕ) (steps : List ℕ) : Type 0 where
   pub few : length steps ≤ 16
   pub each : (i : ℕ) → i < length steps → good-step fluents actions (getD steps i 0) ≡ true
 
--- the words of a rule
+-- the words of a rule are good: a head that is an action, the count of its steps, these steps, and zeros
 pub record GoodRule (fluents actions : ℕ) (words : List ℕ) : Type 0 where
   pub head : ℕ
   pub steps : List ℕ
@@ -32,6 +32,7 @@ pub record GoodRule (fluents actions : ℕ) (words : List ℕ) : Type 0 where
   pub action : head < actions
   pub good : GoodSteps fluents actions steps
 
+-- a book that meets none of 20 to 24: counts within their limits, good rules and goal, and a start with bits of the fluents alone
 pub record Valid (b : Book) : Type 0 where
   pub few-fluents : length (b .names .fluents) ≤ 64
   pub few-actions : length (b .names .actions) ≤ 64
@@ -40,7 +41,7 @@ pub record Valid (b : Book) : Type 0 where
   pub goal : GoodSteps (length (b .names .fluents)) (length (b .names .actions)) (b .goal)
   pub start : b .start < 2 ^ length (b .names .fluents)
 
--- more fluents and actions keep what is good
+-- more fluents and actions keep what is good: a step word, the words of a body, the words of a rule
 module _ (f f′ a a′ : ℕ) (p : f ≤ f′) (q : a ≤ a′) where
   step-more : (w : ℕ) → good-step f a w ≡ true → good-step f′ a′ w ≡ true
   unfolding good-step
@@ -65,10 +66,13 @@ used-below names f k e =
     let j = judged-accepted (isName f) true (among f names) (place f names) k e in
     omega (arith, ltb-true (place f names) (length names) (j .is-defined), j .value)
 
+-- accepted steps are good steps, where there are at most 64 fluents and 64 actions
 module _ (y : Symbols) (few-fluents : length (y .fluents) ≤ 64) (few-actions : length (y .actions) ≤ 64) where
+  -- each of the words is a good step
   abbrev Each : List ℕ → Type 0
   Each ws = (i : ℕ) → i < length ws → good-step (length (y .fluents)) (length (y .actions)) (getD ws i 0) ≡ true
 
+  -- an index below the count of its kind's names is below 256 too
   index-below : (kind index : ℕ) → index < length (namesOf y kind) → (index < cond (eqb kind 3) (length (y .actions)) (length (y .fluents))) × (index < 256)
   index-below kind index = by (eqb kind 3)
     where
@@ -76,6 +80,7 @@ module _ (y : Symbols) (few-fluents : length (y .fluents) ≤ 64) (few-actions :
       by true l = (l, omega arith)
       by false l = (l, omega arith)
 
+  -- 256 times kind plus index is a good step
   word-good : (kind index : ℕ) → kind < 4 → index < length (namesOf y kind) → good-step (length (y .fluents)) (length (y .actions)) (256 * kind + index) ≡ true
   unfolding good-step
   word-good kind index k l =
@@ -84,6 +89,7 @@ module _ (y : Symbols) (few-fluents : length (y .fluents) ≤ 64) (few-actions :
       let m : (256 * kind + index) % 256 ≡ index = omega arith in
       rw (d, m, lt-ltb kind 4 k) (lt-ltb index (cond (eqb kind 3) (length (y .actions)) (length (y .fluents))) i)
 
+  -- the word of an accepted step is a good step
   step-good : (f : List ℕ) (w : ℕ) → stepWord y f ≡ accept w → good-step (length (y .fluents)) (length (y .actions)) w ≡ true
   unfolding stepWord
   step-good [] w e = absurd (not-both 14 w e)
@@ -94,10 +100,12 @@ module _ (y : Symbols) (few-fluents : length (y .fluents) ≤ 64) (few-actions :
       let g = word-good kind index (ltb-true kind 4 k) (used-below (namesOf y kind) name index u) in
       subst (λ (x : ℕ). good-step (length (y .fluents)) (length (y .actions)) x ≡ true) (same-value v) g
 
+  -- one good step before others
   each-cons : (w : ℕ) (ws : List ℕ) → good-step (length (y .fluents)) (length (y .actions)) w ≡ true → Each ws → Each (w ∷ ws)
   each-cons w ws g e zero l = g
   each-cons w ws g e (suc i) l = e i (omega arith)
 
+  -- the words of accepted steps are good steps, one for each field
   steps-good : (fs : List (List ℕ)) (ws : List ℕ) → stepWords y fs ≡ accept ws → (length ws ≡ length fs) × Each ws
   unfolding stepWords
   steps-good [] ws e = subst (λ (x : List ℕ). (length x ≡ 0) × Each x) (same-value e) (refl, λ i l. absurd (omega arith))
@@ -107,11 +115,13 @@ module _ (y : Symbols) (few-fluents : length (y .fluents) ≤ 64) (few-actions :
       let (n, g) = steps-good fs us v in
       subst (λ (x : List ℕ). (length x ≡ suc (length fs)) × Each x) (same-value t) (ap suc n, each-cons w us (step-good f w u) g)
 
+  -- the words of at most 16 accepted steps are a good body
   pub body-good : (fs : List (List ℕ)) (ws : List ℕ) → length fs ≤ 16 → stepWords y fs ≡ accept ws → GoodSteps (length (y .fluents)) (length (y .actions)) ws
   body-good fs ws l e = let (n, g) = steps-good fs ws e in record { few = omega arith; each = g }
 
 -- the names of `start` set bits below the count of fluents
 module _ (y : Symbols) where
+  -- one name more
   name-below : (f : List ℕ) (state next : ℕ) → state < 2 ^ length (y .fluents) → startName y state f ≡ accept next → next < 2 ^ length (y .fluents)
   unfolding startName
   name-below f state next l e =
@@ -124,6 +134,7 @@ module _ (y : Symbols) where
       fresh : (t u : Bool) → t ≡ true → not (t && u) ≡ true → u ≡ false
       fresh t u e n = not-true u (rw e at n)
 
+  -- all names of a line
   pub start-below : (fs : List (List ℕ)) (state last : ℕ) → state < 2 ^ length (y .fluents) → startNames y state fs ≡ accept last → last < 2 ^ length (y .fluents)
   unfolding startNames
   start-below [] state last l e = subst (λ (x : ℕ). x < 2 ^ length (y .fluents)) (same-value e) l

@@ -15,10 +15,11 @@ use Rattle.sheet.specs.Reader.{readLines, readSheet, written}
 use Rattle.sheet.proofs.AcceptedLines.{Accepted, fluent, action, rule, start, goal, accepted-text, first-accepted, sheet-accepted, lines-end}
 use Rattle.sheet.proofs.Valid.{Valid, GoodSteps, GoodRule, steps-more, rule-more, used-below, body-good, start-below}
 
+-- one element more makes a list longer by one
 one-more : {A : Type 0} (xs : List A) (x : A) → length (xs ++ (x ∷ [])) ≡ length xs + 1
 one-more xs x = length-append xs (x ∷ [])
 
--- one rule more
+-- good rules and one good rule more are good rules
 rules-more : (f a : ℕ) (rs : List (List ℕ)) (r : List ℕ) → ((i : ℕ) → i < length rs → GoodRule f a (getD rs i [])) → GoodRule f a r → (i : ℕ) → i < length (rs ++ (r ∷ [])) → GoodRule f a (getD (rs ++ (r ∷ [])) i [])
 rules-more f a rs r g h i l = by (decLt i (length rs))
   where
@@ -29,6 +30,7 @@ rules-more f a rs r g h i l = by (decLt i (length rs))
         let e : i ≡ length rs = omega arith in
         rw (e, getD-append-seam rs r [] []) h
 
+-- each accepted line keeps a valid book valid
 module _ (b : Book) (v : Valid b) where
   -- more names keep rules, goal and start good
   module _ (y : Symbols) (p : length (b .names .fluents) ≤ length (y .fluents)) (q : length (b .names .actions) ≤ length (y .actions)) where
@@ -42,16 +44,19 @@ module _ (b : Book) (v : Valid b) where
       start = omega (arith, v .start, pow-mono p);
     }
 
+  -- a fluent more, where there were fewer than 64
   valid-fluent : (name : List ℕ) → length (b .names .fluents) < 64 → Valid (withFluent b name)
   valid-fluent name l =
       let n = one-more (b .names .fluents) name in
       named (withFluent b name .names) (omega arith) (omega arith) 0 (omega arith) (v .few-actions)
 
+  -- an action more, where there were fewer than 64
   valid-action : (name : List ℕ) → length (b .names .actions) < 64 → Valid (withAction b name)
   valid-action name l =
       let n = one-more (b .names .actions) name in
       named (withAction b name .names) (omega arith) (omega arith) 1 (v .few-fluents) (omega arith)
 
+  -- a good rule more, where there were fewer than 256
   valid-rule : (head : ℕ) (steps : List ℕ) → length (b .rules) < 256 → head < length (b .names .actions) → GoodSteps (length (b .names .fluents)) (length (b .names .actions)) steps → Valid (withRule b head steps)
   valid-rule head steps l h g =
       let n = one-more (b .rules) (ruleWords head steps) in
@@ -64,6 +69,7 @@ module _ (b : Book) (v : Valid b) where
         start = v .start;
       }
 
+  -- an accepted line, by its word
   valid-line : (next : Book) (w : Word) (fs : List (List ℕ)) → Accepted b next fs w → Valid next
   valid-line next w fs (fluent l one e) = subst⁻¹ Valid e (valid-fluent (getD fs 0 []) l)
   valid-line next w fs (action l e) = subst⁻¹ Valid e (valid-action (getD fs 0 []) l)
@@ -78,12 +84,14 @@ module _ (b : Book) (v : Valid b) where
       let g = body-good (b .names) (v .few-fluents) (v .few-actions) fs steps n s in
       subst⁻¹ Valid e (record { few-fluents = v .few-fluents; few-actions = v .few-actions; few-rules = v .few-rules; rules = v .rules; goal = g; start = v .start })
 
+-- accepted lines, from the top
 valid-lines : (n : ℕ) (b last : Book) (ls : List (List ℕ)) → Valid b → readLines n b ls ≡ written last → Valid last
 valid-lines n b last [] v e = subst⁻¹ Valid (sym (lines-end n b last e)) v
 valid-lines n b last (l ∷ ls) v e =
     let (next, h, r) = first-accepted n b last l ls e in
     valid-lines (n + 1) next last ls (valid-line b v next (wordOf (getD (fields l) 0 [])) (drop 1 (fields l)) (accepted-text b next l h)) r
 
+-- the book before the first line
 empty-valid : Valid empty
 empty-valid = record { few-fluents = omega arith; few-actions = omega arith; few-rules = omega arith; rules = λ r l. absurd (omega arith); goal = record { few = omega arith; each = λ i l. absurd (omega arith) }; start = omega arith }
 
