@@ -17,7 +17,7 @@ use Rattle.steps.proofs.EachBelow.{each-all}
 use Rattle.sheet.proofs.Valid.{Valid, GoodSteps}
 use Rattle.sheet.proofs.ValidSheets.{sheet-valid}
 
-padded-length : (ws : List ℕ) → length ws ≤ 16 → length (padded ws) ≡ 16
+pub padded-length : (ws : List ℕ) → length ws ≤ 16 → length (padded ws) ≡ 16
 padded-length ws h =
     let a = length-append ws (replicate (16 - length ws) 0) in
     let b = length-replicate {A = ℕ} (16 - length ws) 0 in

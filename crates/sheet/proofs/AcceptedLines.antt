@@ -4,8 +4,10 @@ use mathlib.Core.Bool.{Bool, true, false, cond, not, _&&_}
 use mathlib.Core.List.{List, [], _∷_, _++_}
 use Prim.Native.Nat.{ℕ, _+_, _≤_, _<_}
 use native.Mathlib.Omega.{arith}
-use lib.Dec.{eqb}
+use lib.Dec.{leb, ltb, eqb}
 use lib.ListN.{length, getD, drop}
+use borrow.Author.Tests.{leb-true, ltb-true, eqb-true}
+use Rattle.steps.proofs.EachBelow.{both}
 use Rattle.chars.specs.Bytes.{isName}
 use Rattle.chars.specs.Pieces.{lines, fields}
 use Rattle.chars.specs.Places.{among}
@@ -14,11 +16,11 @@ use Rattle.sheet.specs.declared.lines.Word.the-variants.{Fluent, Action,
 use Rattle.sheet.specs.Verdict.{Verdict, refuse, accept, _>>=_}
 use Rattle.sheet.specs.Book.{Book, Symbols, empty, withFluent, withAction, withRule, withStart, withGoal}
 use Rattle.sheet.specs.Field.{judged, newName, usedName, stepWords, startNames}
-use Rattle.sheet.specs.Line.{lineHead, lineOf, recordLine, line, wordOf}
+use Rattle.sheet.specs.Line.{row, lineHead, lineOf, recordLine, line, wordOf}
 use Rattle.sheet.specs.Reader.{readLines, readSheet, wholeSheet, atEnd, Outcome, refused, written}
 use Rattle.sheet.proofs.Verdicts.{followed, same-value, not-both}
 use Rattle.sheet.proofs.Results.{sheet-fault, sheet-lines}
-use Rattle.sheet.proofs.LineHeads.{fluent-room, action-room, rule-room, goal-room, other-never}
+use Rattle.sheet.proofs.LineHeads.{passed, fluent-room, action-room, rule-room, goal-room, other-never}
 use Rattle.sheet.proofs.LineVerdicts.{line-read, line-refused, lines-read}
 
 -- what an accepted line with this word and these fields made of the book
@@ -37,13 +39,13 @@ at-refused : (k n : ℕ) → atEnd (refused k n) ≡ refused k n
 unfolding atEnd
 at-refused k n = refl
 
-at-written : (a b : Book) → atEnd (written a) ≡ written b → a ≡ b
+at-written : (a b : Book) → atEnd (written a) ≡ written b → (a ≡ b) × (a .stage ≡ 5)
 unfolding atEnd
-at-written a b = by (a .started && eqb (a .stage) 5)
+at-written a b = by (a .started && eqb (a .stage) 5) refl
   where
-    by : (t : Bool) → cond t (written a) (refused 18 0) ≡ written b → a ≡ b
-    by true r = cc
-    by false r = absurd (not-written 18 0 b r)
+    by : (t : Bool) → (a .started && eqb (a .stage) 5) ≡ t → cond t (written a) (refused 18 0) ≡ written b → (a ≡ b) × (a .stage ≡ 5)
+    by true e r = (cc, eqb-true (a .stage) 5 (both (a .started) (eqb (a .stage) 5) e .1))
+    by false e r = absurd (not-written 18 0 b r)
 
 -- an accepted field was formed, no repetition, and defined
 pub record Judged {A : Type 0} (formed fresh defined : Bool) (a v : A) : Type 0 where
@@ -112,6 +114,16 @@ pub accepted-text : (b next : Book) (l : List ℕ) → line b l ≡ accept next 
 unfolding line
 accepted-text b next l e = accepted-line b next (drop 1 (fields l)) (wordOf (getD (fields l) 0 [])) e
 
+-- an accepted line has a record word, and no line above has one later in the row
+pub text-in-order : (b next : Book) (l : List ℕ) → line b l ≡ accept next → (row (wordOf (getD (fields l) 0 [])) < 5) × (b .stage ≤ row (wordOf (getD (fields l) 0 [])))
+unfolding line
+text-in-order b next l e =
+    let w = wordOf (getD (fields l) 0 []) in
+    let fs = drop 1 (fields l) in
+    let (u, h, r) = followed (lineHead b w (length fs)) (λ _. recordLine b w fs) next e in
+    let (i, j) = both (ltb (row w) 5) (leb (b .stage) (row w)) (passed b w (length fs) h .in-order) in
+    (ltb-true (row w) 5 i, leb-true (b .stage) (row w) j)
+
 -- no line, and the first of several accepted lines
 pub lines-end : (n : ℕ) (b last : Book) → readLines n b [] ≡ written last → b ≡ last
 lines-end n b last e = let r = sym (lines-read n b) ∙ e in cc
@@ -123,14 +135,20 @@ first-accepted n b last l ls e = by (line b l) refl
     by (refuse k) q = absurd (not-written k n last (sym (line-refused n b l ls k q) ∙ e))
     by (accept next) q = (next, q, sym (line-read n b l ls next q) ∙ e)
 
--- an accepted sheet's lines were accepted
-pub sheet-accepted : (s : List ℕ) (b : Book) → readSheet s ≡ written b → readLines 1 empty (lines s) ≡ written b
-sheet-accepted s b e = whole (wholeSheet s) refl
+-- an accepted sheet's lines were accepted, and a `goal` was the last of them
+sheet-read : (s : List ℕ) (b : Book) → readSheet s ≡ written b → (readLines 1 empty (lines s) ≡ written b) × (b .stage ≡ 5)
+sheet-read s b e = whole (wholeSheet s) refl
   where
-    end : (o : Outcome) → atEnd o ≡ written b → o ≡ written b
+    end : (o : Outcome) → atEnd o ≡ written b → (o ≡ written b) × (b .stage ≡ 5)
     end (refused k n) r = absurd (not-written k n b (sym (at-refused k n) ∙ r))
-    end (written a) r = ap written (at-written a b r)
+    end (written a) r = let (i, j) = at-written a b r in (ap written i, ap (λ (x : Book). x .stage) (sym i) ∙ j)
 
-    whole : (v : Verdict (Unit {0})) → wholeSheet s ≡ v → readLines 1 empty (lines s) ≡ written b
+    whole : (v : Verdict (Unit {0})) → wholeSheet s ≡ v → (readLines 1 empty (lines s) ≡ written b) × (b .stage ≡ 5)
     whole (refuse k) q = absurd (not-written k 0 b (sym (sheet-fault s k q) ∙ e))
     whole (accept u) q = end (readLines 1 empty (lines s)) (sym (sheet-lines s q) ∙ e)
+
+pub sheet-accepted : (s : List ℕ) (b : Book) → readSheet s ≡ written b → readLines 1 empty (lines s) ≡ written b
+sheet-accepted s b e = sheet-read s b e .0
+
+pub sheet-ended : (s : List ℕ) (b : Book) → readSheet s ≡ written b → b .stage ≡ 5
+sheet-ended s b e = sheet-read s b e .1

@@ -41,7 +41,7 @@ byte-is b (x ∷ xs) l = by (eqb x b) refl (byte-is b xs) l
     by false e h k = h (omega arith)
 
 -- a used name's number is its place
-used-place : (names : List (List ℕ)) (f : List ℕ) (k : ℕ) → usedName names f ≡ accept k → k ≡ place f names
+pub used-place : (names : List (List ℕ)) (f : List ℕ) (k : ℕ) → usedName names f ≡ accept k → k ≡ place f names
 unfolding usedName
 used-place names f k e = sym (judged-accepted (isName f) true (among f names) (place f names) k e .value)
 
@@ -101,7 +101,7 @@ joined-from (x ∷ rs) h (suc r) l =
     ap (λ (k : ℕ). drop k (x ++ joined rs)) e ∙ drop-append-add x (joined rs) (18 * r) ∙ joined-from rs (λ i k. h (suc i) (omega arith)) r (omega arith)
 
 -- the rule of 18 words that stand at rule r
-rule-at : (words : List ℕ) (r head : ℕ) (steps rest : List ℕ) → drop (18 * r) words ≡ ruleWords head steps ++ rest → rule-of words r ≡ record { head = head; body = body-of steps }
+pub rule-at : (words : List ℕ) (r head : ℕ) (steps rest : List ℕ) → drop (18 * r) words ≡ ruleWords head steps ++ rest → rule-of words r ≡ record { head = head; body = body-of steps }
 rule-at words r head steps rest e =
     let z : 18 * r + 0 ≡ 18 * r = omega arith in
     let h : getD words (18 * r) 0 ≡ head = ap (λ (i : ℕ). getD words i 0) (sym z) ∙ sym (getD-drop (18 * r) words 0 0) ∙ ap (λ (l : List ℕ). getD l 0 0) e in

@@ -70,7 +70,7 @@ module _ (b : Book) (v : Valid b) where
       }
 
   -- an accepted line, by its word
-  valid-line : (next : Book) (w : Word) (fs : List (List ℕ)) → Accepted b next fs w → Valid next
+  pub valid-line : (next : Book) (w : Word) (fs : List (List ℕ)) → Accepted b next fs w → Valid next
   valid-line next w fs (fluent l one e) = subst⁻¹ Valid e (valid-fluent (getD fs 0 []) l)
   valid-line next w fs (action l e) = subst⁻¹ Valid e (valid-action (getD fs 0 []) l)
   valid-line next w fs (rule head steps l n u s e) =
@@ -92,7 +92,7 @@ valid-lines n b last (l ∷ ls) v e =
     valid-lines (n + 1) next last ls (valid-line b v next (wordOf (getD (fields l) 0 [])) (drop 1 (fields l)) (accepted-text b next l h)) r
 
 -- the book before the first line
-empty-valid : Valid empty
+pub empty-valid : Valid empty
 empty-valid = record { few-fluents = omega arith; few-actions = omega arith; few-rules = omega arith; rules = λ r l. absurd (omega arith); goal = record { few = omega arith; each = λ i l. absurd (omega arith) }; start = omega arith }
 
 -- the book of an accepted sheet is valid

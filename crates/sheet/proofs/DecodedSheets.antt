@@ -1,0 +1,150 @@
+-- The words that an accepted sheet is read into decode to what its lines write: rule for rule to its `rule` lines, and to the steps of its one `goal` line. Assumes nothing.
+use mathlib.Core.Path.{_≡_, refl, ap, sym, _∙_, subst, subst⁻¹}
+use mathlib.Core.Bool.{cond}
+use mathlib.Core.List.{List, [], _∷_, _++_, append-assoc, append-nil, Forall₂, Forall₂·nil, Forall₂·cons}
+use Prim.Native.Nat.{ℕ, suc, _+_, _*_, _/_, _≤_, _<_}
+use native.Mathlib.Omega.{arith}
+use lib.Dec.{eqb}
+use lib.ListN.{length, getD, drop, length-drop}
+use lib.Seq.{drop-drop, drop-at}
+use Rattle.steps.specs.Step as logic
+use Rattle.steps.specs.Words.{body-of, rules-from, book-of}
+use Rattle.chars.specs.Pieces.{lines, fields}
+use Rattle.chars.specs.Places.{place}
+use Rattle.sheet.specs.declared.lines.Word.{Word}
+use Rattle.sheet.specs.declared.lines.Word.the-variants.{Rule, Goal}
+use Rattle.sheet.specs.Book.{Book, Symbols, empty, ruleWords, joined}
+use Rattle.sheet.specs.Line.{row, wordOf}
+use Rattle.sheet.specs.Reader.{readLines, readSheet, written}
+use Rattle.sheet.proofs.AcceptedLines.{Accepted, fluent, action, rule, start, goal, accepted-text, first-accepted, lines-end, sheet-accepted, sheet-ended}
+use Rattle.sheet.proofs.LaterLines.{stage-after, line-names, names-kept, none-below}
+use Rattle.sheet.proofs.Valid.{Valid, body-good}
+use Rattle.sheet.proofs.ValidSheets.{valid-line, empty-valid, sheet-valid}
+use Rattle.sheet.proofs.Acceptance.{padded-length, words-count}
+use Rattle.sheet.proofs.Decoding.{Writes, used-place, steps-decoded, rule-at}
+
+-- the record of a line with the word v, if that is the word asked for
+abbrev chosen : Word → Word → List (List ℕ) → List (List (List ℕ))
+chosen w v fs = cond (eqb (row v) (row w)) (fs ∷ []) []
+
+-- The records with this word, in order: of each the fields after the word.
+abbrev pub recordsOf : Word → List (List ℕ) → List (List (List ℕ))
+recordsOf w [] = []
+recordsOf w (l ∷ ls) = chosen w (wordOf (getD (fields l) 0 [])) (drop 1 (fields l)) ++ recordsOf w ls
+
+-- The rule that the fields of a `rule` record write: the first names its head, the others are its steps.
+pub record WritesRule (y : Symbols) (fs : List (List ℕ)) (r : logic.Rule) : Type 0 where
+  pub head : r .head ≡ place (getD fs 0 []) (y .actions)
+  pub body : Forall₂ (Writes y) (drop 1 fs) (r .body)
+
+-- ---- the rules
+
+-- the words of the rule that a record writes
+record RuleOf (y : Symbols) (fs : List (List ℕ)) (words : List ℕ) : Type 0 where
+  head : ℕ
+  steps : List ℕ
+  few : length steps ≤ 16
+  is : words ≡ ruleWords head steps
+  named : head ≡ place (getD fs 0 []) (y .actions)
+  body : Forall₂ (Writes y) (drop 1 fs) (body-of steps)
+
+-- the rules that records add
+record Adds (y : Symbols) (before after : List (List ℕ)) (fss : List (List (List ℕ))) : Type 0 where
+  new : List (List ℕ)
+  is : after ≡ before ++ new
+  each : Forall₂ (RuleOf y) fss new
+
+module _ (b next last : Book) (v : Valid b) (fs : List (List ℕ)) (rest : List (List (List ℕ))) where
+  -- the rules that the records below add to those of x
+  abbrev Rest : Book → Type 0
+  Rest x = Adds (last .names) (x .rules) (last .rules) rest
+
+  -- the first line, by its word
+  first-rule : (w : Word) → Accepted b next fs w → (2 ≤ row w → last .names ≡ b .names) → Rest next → Adds (last .names) (b .rules) (last .rules) (chosen Rule w fs ++ rest)
+  first-rule w (fluent l n e) h g = subst Rest e g
+  first-rule w (action l e) h g = subst Rest e g
+  first-rule w (rule head steps l n u t e) h g =
+      let d = length-drop 1 fs in
+      let good = body-good (b .names) (v .few-fluents) (v .few-actions) (drop 1 fs) steps (omega arith) t in
+      let words : RuleOf (b .names) fs (ruleWords head steps) = record {
+        head = head;
+        steps = steps;
+        few = good .few;
+        is = refl;
+        named = used-place (b .names .actions) (getD fs 0 []) head u;
+        body = steps-decoded (b .names) (v .few-fluents) (v .few-actions) (drop 1 fs) steps t;
+      } in
+      record {
+        new = ruleWords head steps ∷ g .new;
+        is = g .is ∙ ap (λ (x : Book). x .rules ++ g .new) e ∙ append-assoc (b .rules) (ruleWords head steps ∷ []) (g .new);
+        each = Forall₂·cons (subst⁻¹ (λ (y : Symbols). RuleOf y fs (ruleWords head steps)) (h (omega arith)) words) (g .each);
+      }
+  first-rule w (start s t e) h g = subst Rest e g
+  first-rule w (goal s n t e) h g = subst Rest e g
+
+-- all lines from the top
+rules-added : (n : ℕ) (b last : Book) (ls : List (List ℕ)) → Valid b → readLines n b ls ≡ written last → Adds (last .names) (b .rules) (last .rules) (recordsOf Rule ls)
+rules-added n b last [] v e = record { new = []; is = ap (λ (x : Book). x .rules) (sym (lines-end n b last e)) ∙ sym (append-nil (b .rules)); each = Forall₂·nil }
+rules-added n b last (l ∷ ls) v e =
+    let (next, t, r) = first-accepted n b last l ls e in
+    let w = wordOf (getD (fields l) 0 []) in
+    let fs = drop 1 (fields l) in
+    let a = accepted-text b next l t in
+    let k = stage-after b next w fs a in
+    let kept : 2 ≤ row w → last .names ≡ b .names = λ h. names-kept (n + 1) next last ls (omega arith) r ∙ line-names b next w fs h a in
+    first-rule b next last v fs (recordsOf Rule ls) w a kept (rules-added (n + 1) next last ls (valid-line b v next w fs a) r)
+
+-- the book of rule words, rule for rule
+book-decoded : (y : Symbols) (words : List ℕ) (fss : List (List (List ℕ))) (rs : List (List ℕ)) (k : ℕ) → drop (18 * k) words ≡ joined rs → Forall₂ (RuleOf y) fss rs → Forall₂ (WritesRule y) fss (rules-from words k (length rs))
+unfolding rules-from
+book-decoded y words [] [] k e Forall₂·nil = Forall₂·nil
+book-decoded y words (fs ∷ fss) (r ∷ rs) k e (Forall₂·cons g gs) =
+    let d = e ∙ ap (λ (x : List ℕ). x ++ joined rs) (g .is) in
+    let n : length (ruleWords (g .head) (g .steps)) ≡ 18 = ap (λ (i : ℕ). suc (suc i)) (padded-length (g .steps) (g .few)) in
+    let i : 18 * suc k ≡ 18 * k + 18 = omega arith in
+    let t = ap (λ (j : ℕ). drop j words) i ∙ sym (drop-drop 18 (18 * k) words) ∙ ap (drop 18) d ∙ drop-at (ruleWords (g .head) (g .steps)) (joined rs) 18 n in
+    let q = rule-at words k (g .head) (g .steps) (joined rs) d in
+    Forall₂·cons (subst⁻¹ (WritesRule y fs) q (record { head = g .named; body = g .body })) (book-decoded y words fss rs (suc k) t gs)
+
+-- ---- the goal
+
+-- the `goal` records of these lines write the goal of the book last read: there is one
+abbrev OneGoal : Book → List (List (List ℕ)) → Type 0
+OneGoal last fss = Forall₂ (Forall₂ (Writes (last .names))) fss (body-of (last .goal) ∷ [])
+
+-- the first line, by its word
+goal-line : (b next last : Book) (v : Valid b) (w : Word) (fs : List (List ℕ)) (rest : List (List (List ℕ))) → Accepted b next fs w → (next .stage < 5 → OneGoal last rest) → (next .stage ≡ 5 → (rest ≡ []) × (last ≡ next)) → OneGoal last (chosen Goal w fs ++ rest)
+goal-line b next last v w fs rest (fluent l n e) more none = let s = ap (λ (x : Book). x .stage) e in more (omega arith)
+goal-line b next last v w fs rest (action l e) more none = let s = ap (λ (x : Book). x .stage) e in more (omega arith)
+goal-line b next last v w fs rest (rule h s l n u t e) more none = let s = ap (λ (x : Book). x .stage) e in more (omega arith)
+goal-line b next last v w fs rest (start s t e) more none = let s = ap (λ (x : Book). x .stage) e in more (omega arith)
+goal-line b next last v w fs rest (goal s n t e) more none =
+    let (i, j) = none (ap (λ (x : Book). x .stage) e) in
+    let body : Forall₂ (Writes (b .names)) fs (body-of s) = steps-decoded (b .names) (v .few-fluents) (v .few-actions) fs s t in
+    rw (i, j ∙ e) (Forall₂·cons body Forall₂·nil)
+
+-- all lines from the top
+goal-written : (n : ℕ) (b last : Book) (ls : List (List ℕ)) → Valid b → b .stage < 5 → last .stage ≡ 5 → readLines n b ls ≡ written last → OneGoal last (recordsOf Goal ls)
+goal-written n b last [] v h k e = let s = ap (λ (x : Book). x .stage) (lines-end n b last e) in absurd (omega arith)
+goal-written n b last (l ∷ ls) v h k e =
+    let (next, t, r) = first-accepted n b last l ls e in
+    let w = wordOf (getD (fields l) 0 []) in
+    let fs = drop 1 (fields l) in
+    let a = accepted-text b next l t in
+    let none : next .stage ≡ 5 → (recordsOf Goal ls ≡ []) × (last ≡ next) = λ q. let (i, j) = none-below (n + 1) next last ls q r in (ap (recordsOf Goal) i, j) in
+    goal-line b next last v w fs (recordsOf Goal ls) a (λ q. goal-written (n + 1) next last ls (valid-line b v next w fs a) q k r) none
+
+-- ---- the sheet
+
+module _ (s : List ℕ) (b : Book) (e : readSheet s ≡ written b) where
+  -- the book decoded from an accepted sheet's rule words has a rule for each `rule` line, in order, and it is the rule that the line writes
+  pub sheet-rules-decoded : Forall₂ (WritesRule (b .names)) (recordsOf Rule (lines s)) (book-of (joined (b .rules)))
+  sheet-rules-decoded =
+      let a = rules-added 1 empty b (lines s) empty-valid (sheet-accepted s b e) in
+      let c = words-count b (sheet-valid s b e) in
+      let n : length (joined (b .rules)) / 18 ≡ length (b .rules) = omega arith in
+      rw n (book-decoded (b .names) (joined (b .rules)) (recordsOf Rule (lines s)) (b .rules) 0 refl (subst⁻¹ (Forall₂ (RuleOf (b .names)) (recordsOf Rule (lines s))) (a .is) (a .each)))
+
+  -- it has one `goal` line, and the goal decoded from its goal words is the one that the line writes
+  pub sheet-goal-decoded : Forall₂ (Forall₂ (Writes (b .names))) (recordsOf Goal (lines s)) (body-of (b .goal) ∷ [])
+  sheet-goal-decoded = goal-written 1 empty b (lines s) empty-valid (omega arith) (sheet-ended s b e) (sheet-accepted s b e)
