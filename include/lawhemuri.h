@@ -113,7 +113,7 @@ extern "C" {
 #define LAWHEMURI_GOAL_RULE 256u
 
 /* Bytes of stack that a call needs, with some to spare. */
-#define LAWHEMURI_STACK_EVALUATE 655360u
+#define LAWHEMURI_STACK_EVALUATE 1835008u
 #define LAWHEMURI_STACK_PATH 1179648u
 #define LAWHEMURI_STACK_READ 65536u
 
@@ -187,8 +187,9 @@ lawhemuri_run lawhemuri_evaluate(uint64_t fluents, uint64_t actions,
 /* Lists the path of an answer record (refusals 20 to 23, then 40 to 43): the call's
  * state, then the state after each update of the execution that the record's evidence
  * unfolds to; equal neighbours are joined into one. The tables may come from anybody:
- * all records counted are checked first. What lawhemuri_evaluate leaves is never
- * refused with 42.
+ * all records counted are checked first. The tables that lawhemuri_evaluate leaves,
+ * with the same counts, rules and goal and with the record counts of its result, are
+ * never refused with 42.
  *
  * states: no refusal, the first result.states words are the states and the list past
  *   them is unchanged; refused, it is unchanged. The tables are only read.

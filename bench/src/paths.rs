@@ -1,6 +1,7 @@
 //! Paths of tables written by hand: chains of answers of one call, each of which uses the one before.
 
 use lawhemuri::{path, Question, Records, ANSWER_WORDS, RULE_WORDS};
+use std::collections::HashMap;
 use std::time::Instant;
 
 const INSERT: u16 = 256;
@@ -42,29 +43,77 @@ fn answers(chain: &Chain, records: usize) -> Vec<u64> {
     words
 }
 
+/// How many states each record adds, by plain recursion over the records with a hash map; saturating.
+fn plain_sizes(chain: &Chain, records: usize) -> HashMap<usize, u64> {
+    let mut sizes = HashMap::new();
+    for n in 0..records {
+        let steps = if n == 0 { chain.first } else { chain.others };
+        let size = steps.iter().map(|&step| if step == CALL { sizes[&(n - 1)] } else { 1 });
+        sizes.insert(n, size.fold(0, u64::saturating_add));
+    }
+    sizes
+}
+
+/// The path as a program with a stack of its own would list it, or nothing where there is no room.
+fn plain_path(chain: &Chain, record: usize, room: u64) -> Option<Vec<u64>> {
+    let sizes = plain_sizes(chain, record + 1);
+    if sizes[&record] >= room {
+        return None;
+    }
+    let mut states = vec![0];
+    let mut left = vec![(record, 0)];
+    while let Some((n, place)) = left.pop() {
+        let steps = if n == 0 { chain.first } else { chain.others };
+        if place == steps.len() || sizes[&n] == 0 {
+            continue;
+        }
+        left.push((n, place + 1));
+        match steps[place] {
+            CALL => left.push((n - 1, 0)),
+            step => states.push(u64::from(step == INSERT)),
+        }
+    }
+    Some(states)
+}
+
+/// The result, and the least time of nine runs.
+fn timed<T>(mut run: impl FnMut() -> T) -> (T, f64) {
+    let mut once = || {
+        let began = Instant::now();
+        let result = run();
+        (result, began.elapsed().as_secs_f64())
+    };
+    let (mut result, mut best) = once();
+    for _ in 1..9 {
+        let (again, time) = once();
+        result = again;
+        best = best.min(time);
+    }
+    (result, best)
+}
+
 fn measure(chain: &Chain, count: usize) {
     let rules = [rule(chain.first), rule(chain.others)].concat();
     let question = Question { fluents: 1, actions: 1, rules: &rules, goal: &[], start: 0 };
     let answers = answers(chain, count);
     let records = Records { calls: &[0, 0], call_count: 1, answers: &answers, answer_count: count };
     let mut states = vec![0; 2 * 65536 + 1];
-    let mut best = f64::INFINITY;
-    let mut result = Ok(0);
-    for _ in 0..9 {
-        let began = Instant::now();
-        result = path(&question, &records, count - 1, &mut states);
-        best = best.min(began.elapsed().as_secs_f64());
-    }
-    let shown = match result {
-        Ok(n) => format!("{n} states"),
-        Err(refusal) => format!("refused {}", refusal.number()),
+    let room = states.len() as u64;
+    let (result, ours) = timed(|| path(&question, &records, count - 1, &mut states));
+    let (plain, theirs) = timed(|| plain_path(chain, count - 1, room));
+    let (shown, same) = match (result, plain) {
+        (Ok(n), Some(list)) => (format!("{n} states"), states[..n] == list),
+        (Err(refusal), None) => (format!("refused {}", refusal.number()), true),
+        (Ok(n), None) => (format!("{n} states"), false),
+        (Err(refusal), Some(_)) => (format!("refused {}", refusal.number()), false),
     };
-    println!("{:<10}{count:>9}{shown:>16}{:>12.3}", chain.name, 1e3 * best);
+    let verdict = if same { "same" } else { "DIFFERENT" };
+    println!("{:<10}{count:>9}{shown:>16}{:>12.3}{:>12.3}{:>10.1}  {verdict}", chain.name, 1e3 * ours, 1e3 * theirs, ours / theirs);
 }
 
 /// A table of chains and sizes.
 pub fn print() {
-    println!("\n{:<10}{:>9}{:>16}{:>12}", "path", "records", "result", "ms");
+    println!("\n{:<10}{:>9}{:>16}{:>12}{:>12}{:>10}", "path", "records", "result", "ms", "plain ms", "ratio");
     for chain in &CHAINS {
         for count in [1024, 16384, 65536] {
             measure(chain, count);

@@ -12,6 +12,7 @@ same [] (y ∷ ys) = false
 same (x ∷ xs) [] = false
 same (x ∷ xs) (y ∷ ys) = eqb x y && same xs ys
 
+-- The place of what is sought: here, or one further than its place among the rest.
 abbrev pub placeAfter : Bool → ℕ → ℕ
 placeAfter true k = 0
 placeAfter false k = suc k

@@ -21,7 +21,7 @@ use Rattle.tabling.proofs.Evidence.{Among, Valid, inside-of}
 use Rattle.tabling.proofs.Walking.{Of}
 use Rattle.tabling.proofs.Adding.{calls-apart, answers-apart}
 use Rattle.tabling.proofs.Numbers.{number-at, proper-of}
-use Rattle.tabling.proofs.Rounds.{Rows, C, A, exact-of}
+use Rattle.tabling.proofs.Rounds.{Whole, C, A, exact-of}
 use Rattle.tabling.proofs.Going.{Kept, in-words}
 use Rattle.tabling.proofs.RunTables.{the-root, exact-run}
 use Rattle.tabling.proofs.Finals.{finals-below}
@@ -31,7 +31,7 @@ use Rattle.evaluator.specs.Finished.{Finished}
 
 module _ {fluents actions : ℕ} (rules goal : List ℕ) (start : State) (acc : AcceptedWords fluents actions rules goal) (calls : List ℕ) (n : ℕ) (answers : List ℕ) (m : ℕ)
     (kept : Kept calls n answers m)
-    (R : Rows (bodies-of rules goal) (Among (the-root rules goal start acc)) (number-at (length rules / 18)) 0 n m n (in-words calls n answers m)) where
+    (R : Whole (bodies-of rules goal) (Among (the-root rules goal start acc)) 0 (in-words calls n answers m)) where
   abbrev t : Tables
   t = in-words calls n answers m
 
@@ -39,7 +39,7 @@ module _ {fluents actions : ℕ} (rules goal : List ℕ) (start : State) (acc : 
   run = run-of rules goal start
 
   exact : Exact run (C t) (A t)
-  exact = exact-run rules goal start acc (exact-of (bodies-of rules goal) (Among (the-root rules goal start acc)) (proper-of rules goal acc) (number-at (length rules / 18)) t R)
+  exact = exact-run rules goal start acc (exact-of (bodies-of rules goal) (Among (the-root rules goal start acc)) (proper-of rules goal acc) t R)
 
   -- answer record x of call record i, which holds (a, D)
   held-answer : {a : ℕ} {D D′ : State} (x : ℕ) → x < m → t .calls .action (t .answers .call x) ≡ a → t .calls .state (t .answers .call x) ≡ D → t .answers .final x ≡ D′ → A t a D D′

@@ -19,7 +19,7 @@ use Rattle.tabling.proofs.Growth.{AnswersOnce}
 use Rattle.tabling.proofs.Marks.{zeros-at}
 use Rattle.tabling.proofs.Evidence.{Among}
 use Rattle.tabling.proofs.Numbers.{number-at}
-use Rattle.tabling.proofs.Rounds.{Rows}
+use Rattle.tabling.proofs.Rounds.{Whole}
 use Rattle.tabling.proofs.Going.{in-words}
 use Rattle.tabling.proofs.RunTables.{outgrown-run}
 use Rattle.tabling.proofs.Filling.{Filled}
@@ -49,27 +49,27 @@ module _ (q : Asked) (before : Lent) (ok : refused-with q ≡ 0) {calls₀ answe
   is-full e = rw (cl, al) at (outgrown-run (q .rules) (q .goal) (q .start) acc (room 2 (length calls₀)) (room 19 (length answers₀)) (F .outgrown e))
 
   module _ (e : full ≡ false) where
-    pub rows : Rows (bodies-of (q .rules) (q .goal)) (Among ((Goal, q .start) ∷ [])) (number-at (length (q .rules) / 18)) 0 n m n (in-words calls n answers m)
-    rows = F .closed e
+    pub whole : Whole (bodies-of (q .rules) (q .goal)) (Among ((Goal, q .start) ∷ [])) 0 (in-words calls n answers m)
+    whole = F .closed e
 
     tabled : (ends : List ℕ) → Tabled q before (lent calls answers ends) n m
-    tabled ends = record { calls-long = F .calls-long ∙ cl; answers-long = F .answers-long ∙ al; finished = finished (q .rules) (q .goal) (q .start) acc calls n answers m (F .kept) rows }
+    tabled ends = record { calls-long = F .calls-long ∙ cl; answers-long = F .answers-long ∙ al; finished = finished (q .rules) (q .goal) (q .start) acc calls n answers m (F .kept) whole }
 
     fits : ¬ Full (run-asked q) (length (before .calls)) (length (before .answers))
-    fits f = not-full (q .rules) (q .goal) (q .start) acc calls n answers m (F .kept) rows (rw (← cl, ← al, ← (F .calls-long), ← (F .answers-long)) at f)
+    fits f = not-full (q .rules) (q .goal) (q .start) acc calls n answers m (F .kept) whole (rw (← cl, ← al, ← (F .calls-long), ← (F .answers-long)) at f)
 
     pub answers-once : AnswersOnce (answers-in 19 answers m)
-    answers-once = rows .valid .answers-once
+    answers-once = whole .valid .answers-once
 
     module _ {row : ℕ} (found : FindCall (calls-in 2 calls n) Goal (q .start) row) where
       -- the record found is the goal's
       goal-row : (row < n) × CallAt (calls-in 2 calls n) row Goal (q .start)
       goal-row =
-          let (i, l, c) = rows .valid .roots Goal (q .start) (List·Memᴰ·head refl) in
+          let (i, l, c) = whole .valid .roots Goal (q .start) (List·Memᴰ·head refl) in
           elim (decLt row n) [ yes h ↦ (h, found .found h) | no k ↦ absurd (found .absent (omega arith) i l c) ]
 
       counted : Counts (End (run-asked q)) (length (finals-below (answers-in 19 answers m) row m))
-      counted = ends-counted (q .rules) (q .goal) (q .start) acc calls n answers m (F .kept) rows row (goal-row .0) (goal-row .1)
+      counted = ends-counted (q .rules) (q .goal) (q .start) acc calls n answers m (F .kept) whole row (goal-row .0) (goal-row .1)
 
       -- 31
       pub is-short : {k : ℕ} → k ≡ length (finals-below (answers-in 19 answers m) row m) → length (before .ends) < k → Evaluated q before (lent calls answers (before .ends)) (told 31 k n m)
@@ -82,6 +82,6 @@ module _ (q : Asked) (before : Lent) (ok : refused-with q ≡ 0) {calls₀ answe
         ends = L .finals;
         rising = L .rising;
         list = L .is;
-        exactly = λ D. (let x = goal-ends (q .rules) (q .goal) (q .start) acc calls n answers m (F .kept) rows row (goal-row .0) (goal-row .1) D in
+        exactly = λ D. (let x = goal-ends (q .rules) (q .goal) (q .start) acc calls n answers m (F .kept) whole row (goal-row .0) (goal-row .1) D in
             (λ k. x .0 (L .members D .0 k), λ d. L .members D .1 (x .1 d)));
       })

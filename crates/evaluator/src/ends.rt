@@ -1,5 +1,5 @@
 // The final states of one call record's answers: how many, and in rising order.
-use walk::tables;
+use storage::tables;
 ghost use mathlib.Core.Path.{_≡_};
 ghost use mathlib.Core.List.{_++_};
 ghost use Prim.Native.Nat.{_+_, _*_, _≤_};

@@ -1,17 +1,20 @@
 // Tabled evaluation of a goal over rule words (serial-Horn Transaction Logic, figure 4 of source document 000).
 //
 // Rounds: a round walks every body of every call record that stood when it began, with only the answers that stood then, and adds what it
-// finds; a round that adds nothing is the last. A walk is a depth-first search over answers in rising order (crate `walk`). Tables that a
-// round adds nothing to are closed, and every record in them is reached or justified: so they hold exactly the run's calls and answers.
+// finds; a round that adds nothing is the last. A record whose callees have gained no answer since it was walked has nothing to add, and is
+// passed. A walk is a depth-first search over answers in rising order (crate `walk`). Tables that a round adds nothing to are closed, and
+// every record in them is reached or justified: so they hold exactly the run's calls and answers.
 mod ends;
 
 use steps::accept;
 use steps::state::Call;
+use storage::index;
+use storage::marks;
+use storage::tables;
+use storage::uses;
 use walk::Job;
 use walk::Next;
 use walk::bodies;
-use walk::marks;
-use walk::tables;
 ghost use mathlib.Core.Path.{_≡_};
 ghost use mathlib.Core.List.{List, [], _∷_};
 ghost use Prim.Native.Nat.{ℕ, _+_, _<_, _≤_};
@@ -20,7 +23,7 @@ ghost use Rattle.steps.proofs.AcceptanceLaws.{AcceptedWords};
 ghost use Rattle.tabling.specs.Records.{bodies-of};
 ghost use Rattle.tabling.proofs.Evidence.{Among, Valid};
 ghost use Rattle.tabling.proofs.Marks.{Stamped};
-ghost use Rattle.tabling.proofs.Going.{Kept, in-words};
+ghost use Rattle.tabling.proofs.Going.{Kept, Indexed, in-words};
 ghost use Rattle.tabling.proofs.Filling.{Filled};
 ghost use Rattle.evaluator.specs.Evaluated.{Evaluated, asked, lent, told};
 
@@ -51,12 +54,16 @@ fn fill<'a>(
     goal: &'a [u16],
     calls: &mut [u64],
     n0: usize,
+    call_index: &mut [u16],
     answers: &mut [u64],
     m0: usize,
+    answer_index: &mut [u16],
     first: usize,
     marks: &mut [u64],
+    uses: &mut [u32],
 ) -> Counted
-    requires { ⌜ Kept (now calls) n0 (now answers) m0 × Stamped (now marks) 0 × (first ≤ n0) ⌝ }
+    requires { ⌜ Kept (now calls) n0 (now answers) m0 × Indexed (now calls) n0 (now «call_index») (now answers) m0 (now «answer_index»)
+        × Stamped (now marks) 0 × (first ≤ n0) × (length (now uses) ≡ 65536) ⌝ }
     requires { ⌜ ((fluents : ℕ) × (actions : ℕ) × AcceptedWords fluents actions (now rules) (now goal)) ⌝ }
     requires { ⌜ ((roots : List (ℕ × ℕ)) × Valid (bodies-of (now rules) (now goal)) (Among roots) (in-words (now calls) n0 (now answers) m0)) ⌝ }
     ensures { λ r. ⌜ ((roots : List (ℕ × ℕ)) → Valid (bodies-of (now (rules .entry)) (now (goal .entry))) (Among roots) (in-words (now (calls .entry)) n0 (now (answers .entry)) m0)
@@ -66,10 +73,18 @@ fn fill<'a>(
     let mut n = n0;
     let mut m = m0;
     let mut walk: u64 = 0;
+    let mut walked = first;
+    let mut seen = 0;
     'run: loop {
         let rows = n;
         let known = m;
+        let news = uses::gained(answers, seen, known);
         for row in first..rows {
+            if row < walked {
+                if uses::is_apart(uses, row, news) {
+                    continue;
+                }
+            }
             for rule in 0..count + 1 {
                 let number = bodies::number_of(rule, count);
                 if !bodies::is_of(rules, goal, number, tables::action_of(calls, row)) {
@@ -93,9 +108,12 @@ fn fill<'a>(
                         job,
                         calls,
                         n,
+                        call_index,
                         answers,
                         m,
+                        answer_index,
                         marks,
+                        uses,
                         &mut chosen,
                         state,
                     );
@@ -128,6 +146,8 @@ fn fill<'a>(
                 answers: m,
             };
         }
+        walked = rows;
+        seen = known;
     }
     Counted {
         full: true,
@@ -148,7 +168,8 @@ fn tabulate<'a>(
     requires { ⌜ (now calls ≡ replicate (length (now calls)) 0) × (now answers ≡ replicate (length (now answers)) 0) ⌝ }
     ensures { λ r. ⌜ Filled (now (rules .entry)) (now (goal .entry)) ((64, start) ∷ []) 0 (now (calls .entry)) (now (answers .entry)) (now (calls .exit)) (now (answers .exit)) (r .full) (r .calls) (r .answers) ⌝ }
 {
-    let put = tables::add_call(calls, 0, Call::goal(start));
+    let mut call_index = [0u16; 131072];
+    let put = index::add_call(calls, 0, &mut call_index, Call::goal(start));
     let count = put.count;
     if put.full {
         return Counted {
@@ -157,8 +178,22 @@ fn tabulate<'a>(
             answers: 0,
         };
     }
+    let mut answer_index = [0u16; 327680];
     let mut marks = [0u64; 65536];
-    fill(rules, goal, calls, count, answers, 0, 0, &mut marks)
+    let mut uses = [0u32; 65536];
+    fill(
+        rules,
+        goal,
+        calls,
+        count,
+        &mut call_index,
+        answers,
+        0,
+        &mut answer_index,
+        0,
+        &mut marks,
+        &mut uses,
+    )
 }
 
 // Evaluates the goal from the start: fills the tables with its calls and answers, and lists its ends in rising order.

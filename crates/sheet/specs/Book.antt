@@ -20,6 +20,7 @@ pub record Book : Type 0 where
   pub start : State
   pub goal : List ℕ
 
+-- Before the first line nothing is said.
 abbrev pub empty : Book
 empty = record { stage = 0; names = record { fluents = []; actions = [] }; rules = []; started = false; start = 0; goal = [] }
 

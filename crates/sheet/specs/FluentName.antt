@@ -18,6 +18,7 @@ partOf s p = take (p .len) (drop (p .at) s)
 abbrev pub addressOf : ℕ × ℕ → Span → ℕ × ℕ
 addressOf sheet p = (sheet .0, p .at + sheet .1)
 
+-- The empty part, at the sheet's first byte.
 abbrev pub nowhere : Span
 nowhere = record { at = 0; len = 0 }
 

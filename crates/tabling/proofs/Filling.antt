@@ -20,56 +20,60 @@ use Rattle.tabling.proofs.Evidence.{Among, Valid}
 use Rattle.tabling.proofs.Marks.{Stamped}
 use Rattle.tabling.proofs.Numbers.{number-at}
 use Rattle.tabling.proofs.Turn.{Outgrown, Given}
-use Rattle.tabling.proofs.Rounds.{Rows, Rules}
-use Rattle.tabling.proofs.Going.{Kept, Going, in-words}
+use Rattle.tabling.proofs.Uses.{UsesGrew}
+use Rattle.tabling.proofs.Rounds.{Round, Rows, Rules, Whole}
+use Rattle.tabling.proofs.Going.{Kept, Indexed, Going, in-words}
 
--- The words of both tables keep their lengths and their order.
-pub record Words (calls₀ answers₀ calls : List ℕ) (n : ℕ) (answers : List ℕ) (m : ℕ) : Type 0 where
+-- The words of both tables keep their lengths, they and the indexes their order, and no use is forgotten.
+pub record Words (calls₀ answers₀ uses₀ calls : List ℕ) (n : ℕ) (call-index answers : List ℕ) (m : ℕ) (answer-index uses : List ℕ) : Type 0 where
   pub calls-long : length calls ≡ length calls₀
   pub answers-long : length answers ≡ length answers₀
   pub kept : Kept calls n answers m
+  pub indexed : Indexed calls n call-index answers m answer-index
+  pub uses-more : UsesGrew uses₀ uses
 
-module _ (rules goal : List ℕ) (first : ℕ) (calls₀ : List ℕ) (n₀ : ℕ) (answers₀ : List ℕ) (m₀ : ℕ) where
+module _ (rules goal : List ℕ) (first : ℕ) (calls₀ : List ℕ) (n₀ : ℕ) (answers₀ : List ℕ) (m₀ : ℕ) (uses₀ : List ℕ) where
   -- the rounds
-  pub record Rounding (calls : List ℕ) (n : ℕ) (answers : List ℕ) (m : ℕ) (marks : List ℕ) (walk : ℕ) : Type 0 where
-    pub words : Words calls₀ answers₀ calls n answers m
+  pub record Rounding (walked seen : ℕ) (calls : List ℕ) (n : ℕ) (call-index answers : List ℕ) (m : ℕ) (answer-index marks uses : List ℕ) (walk : ℕ) : Type 0 where
+    pub words : Words calls₀ answers₀ uses₀ calls n call-index answers m answer-index uses
     pub stamped : Stamped marks walk
     pub first-in : first ≤ n
-    pub valid : (roots : List (ℕ × State)) → Valid (bodies-of rules goal) (Among roots) (in-words calls₀ n₀ answers₀ m₀) → Valid (bodies-of rules goal) (Among roots) (in-words calls n answers m)
+    pub seen-in : seen ≤ m
+    pub round : (roots : List (ℕ × State)) → Valid (bodies-of rules goal) (Among roots) (in-words calls₀ n₀ answers₀ m₀) → Round (bodies-of rules goal) (Among roots) first walked seen (in-words calls n answers m) uses
 
   -- the call records of a round
-  pub record RowsDone (rows known row : ℕ) (calls : List ℕ) (n : ℕ) (answers : List ℕ) (m : ℕ) (marks : List ℕ) (walk : ℕ) : Type 0 where
-    pub words : Words calls₀ answers₀ calls n answers m
+  pub record RowsDone (walked seen classes rows known row : ℕ) (calls : List ℕ) (n : ℕ) (call-index answers : List ℕ) (m : ℕ) (answer-index marks uses : List ℕ) (walk : ℕ) : Type 0 where
+    pub words : Words calls₀ answers₀ uses₀ calls n call-index answers m answer-index uses
     pub stamped : Stamped marks walk
     pub row-low : first ≤ row
     pub row-in : row ≤ rows
     pub rows-in : rows ≤ n
     pub known-in : known ≤ m
-    pub closed : (roots : List (ℕ × State)) → Valid (bodies-of rules goal) (Among roots) (in-words calls₀ n₀ answers₀ m₀)
-        → Rows (bodies-of rules goal) (Among roots) (number-at (length rules / 18)) first rows known row (in-words calls n answers m)
+    pub closed : (roots : List (ℕ × State)) → Round (bodies-of rules goal) (Among roots) first walked seen (in-words calls₀ n₀ answers₀ m₀) uses₀
+        → Rows (bodies-of rules goal) (Among roots) first walked seen classes rows known row (in-words calls n answers m) uses
 
   -- the rules of a call record
-  pub record RulesDone (rows known row rule : ℕ) (calls : List ℕ) (n : ℕ) (answers : List ℕ) (m : ℕ) (marks : List ℕ) (walk : ℕ) : Type 0 where
-    pub words : Words calls₀ answers₀ calls n answers m
+  pub record RulesDone (walked seen classes rows known row rule : ℕ) (calls : List ℕ) (n : ℕ) (call-index answers : List ℕ) (m : ℕ) (answer-index marks uses : List ℕ) (walk : ℕ) : Type 0 where
+    pub words : Words calls₀ answers₀ uses₀ calls n call-index answers m answer-index uses
     pub stamped : Stamped marks walk
     pub rule-in : rule ≤ length rules / 18 + 1
     pub rows-in : rows ≤ n
     pub known-in : known ≤ m
-    pub closed : (roots : List (ℕ × State)) → Rows (bodies-of rules goal) (Among roots) (number-at (length rules / 18)) first rows known row (in-words calls₀ n₀ answers₀ m₀)
-        → Rules (bodies-of rules goal) (Among roots) (number-at (length rules / 18)) first rows known row rule (in-words calls n answers m)
+    pub closed : (roots : List (ℕ × State)) → Rows (bodies-of rules goal) (Among roots) first walked seen classes rows known row (in-words calls₀ n₀ answers₀ m₀) uses₀
+        → Rules (bodies-of rules goal) (Among roots) (number-at (length rules / 18)) first walked seen classes rows known row rule (in-words calls n answers m) uses
 
   -- the walk of a body
-  pub record Walked (known number row walk : ℕ) (body : List ℕ) (calls : List ℕ) (n : ℕ) (answers : List ℕ) (m : ℕ) (marks chosen rest : List ℕ) (s : State) : Type 0 where
-    pub words : Words calls₀ answers₀ calls n answers m
+  pub record Walked (known number row walk : ℕ) (body : List ℕ) (calls : List ℕ) (n : ℕ) (call-index answers : List ℕ) (m : ℕ) (answer-index marks uses chosen rest : List ℕ) (s : State) : Type 0 where
+    pub words : Words calls₀ answers₀ uses₀ calls n call-index answers m answer-index uses
     pub going : (roots : List (ℕ × State)) → Given (bodies-of rules goal) (Among roots) (in-words calls₀ n₀ answers₀ m₀) known number row body
-        → Going (bodies-of rules goal) (Among roots) (in-words calls₀ n₀ answers₀ m₀) known number row walk body (in-words calls n answers m) marks chosen rest s
+        → Going (bodies-of rules goal) (Among roots) (in-words calls₀ n₀ answers₀ m₀) known number row walk body (in-words calls n answers m) marks uses chosen rest s
 
 -- Every record from `first` on is closed under all answers, or there are more calls or answers than places.
 pub record Filled (rules goal : List ℕ) (roots : List (ℕ × State)) (first : ℕ) (calls answers calls′ answers′ : List ℕ) (full : Bool) (n m : ℕ) : Type 0 where
   pub calls-long : length calls′ ≡ length calls
   pub answers-long : length answers′ ≡ length answers
   pub kept : Kept calls′ n answers′ m
-  pub closed : full ≡ false → Rows (bodies-of rules goal) (Among roots) (number-at (length rules / 18)) first n m n (in-words calls′ n answers′ m)
+  pub closed : full ≡ false → Whole (bodies-of rules goal) (Among roots) first (in-words calls′ n answers′ m)
   pub outgrown : full ≡ true → Outgrown (bodies-of rules goal) (Among roots) (room 2 (length calls)) (room 19 (length answers))
 
 -- ---- the first table: the root's call alone

@@ -9,6 +9,7 @@ use Rattle.steps.specs.State.{State}
 use Rattle.tabling.specs.Records.{Calls, Answers, Bodies, calls-in, answers-in}
 use Rattle.tabling.proofs.Storage.{Stored, NextAnswer}
 use Rattle.tabling.proofs.Growth.{Tables, tables}
+use Rattle.tabling.proofs.Index.{CallIndex, AnswerIndex}
 use Rattle.tabling.proofs.Measure.{left, left-on, left-back}
 use Rattle.tabling.proofs.Turn.{RetreatRow, Turning, Turned, Over, turned-over, turned-take}
 
@@ -19,6 +20,11 @@ in-words calls n answers m = tables (calls-in 2 calls n) (answers-in 19 answers 
 pub record Kept (calls : List ℕ) (n : ℕ) (answers : List ℕ) (m : ℕ) : Type 0 where
   pub calls-stored : Stored 2 calls n
   pub answers-stored : Stored 19 answers m
+
+-- Their indexes are in order.
+pub record Indexed (calls : List ℕ) (n : ℕ) (call-index answers : List ℕ) (m : ℕ) (answer-index : List ℕ) : Type 0 where
+  pub of-calls : CallIndex (calls-in 2 calls n) call-index
+  pub of-answers : AnswerIndex (answers-in 19 answers m) answer-index
 
 -- how many records are counted is of no account to a search among those known
 pub next-among : (words : List ℕ) {k known row from r : ℕ} (m : ℕ) → NextAnswer (answers-in 19 words k) known row from r → NextAnswer (answers-in 19 words m) known row from r
@@ -50,50 +56,50 @@ whole-tail body p e = e ∙ take-all (length body - p) (drop p body) (omega (ari
 
 module _ (bodies : Bodies) (Root : ℕ → State → Type 0) (b : Tables) (known rule row walk : ℕ) (body : List ℕ) where
   -- The walk whose steps still to do are `rest`.
-  pub record Going (t : Tables) (marks chosen rest : List ℕ) (s : State) : Type 0 where
+  pub record Going (t : Tables) (marks uses chosen rest : List ℕ) (s : State) : Type 0 where
     pub tail : rest ≡ drop (length body - length rest) body
-    pub turning : Turning bodies Root b known rule row walk body t marks chosen (length body - length rest) s
+    pub turning : Turning bodies Root b known rule row walk body t marks uses chosen (length body - length rest) s
 
-  pub going-start : {t : Tables} {marks chosen : List ℕ} {s : State} → Turning bodies Root b known rule row walk body t marks chosen 0 s → Going t marks chosen body s
+  pub going-start : {t : Tables} {marks uses chosen : List ℕ} {s : State} → Turning bodies Root b known rule row walk body t marks uses chosen 0 s → Going t marks uses chosen body s
   going-start T = let z : length body - length body ≡ 0 = omega arith in record { tail = rw z refl; turning = rw z T }
 
-  module _ {t : Tables} {marks chosen rest : List ℕ} {s : State} where
-    pub going-fits : Going t marks chosen rest s → length rest ≤ length body
+  module _ {t : Tables} {marks uses chosen rest : List ℕ} {s : State} where
+    pub going-fits : Going t marks uses chosen rest s → length rest ≤ length body
     going-fits g = omega (arith, ap length (g .tail), length-drop (length body - length rest) body)
 
     -- the place at which a tail begins
-    place-of : (p : ℕ) → Turning bodies Root b known rule row walk body t marks chosen p s → rest ≡ drop p body → length body - length rest ≡ p
+    place-of : (p : ℕ) → Turning bodies Root b known rule row walk body t marks uses chosen p s → rest ≡ drop p body → length body - length rest ≡ p
     place-of p T e = let i : p ≤ length body = T .walking .inside in omega (arith, ap length e, length-drop p body)
 
-    going-at : (p : ℕ) → Turning bodies Root b known rule row walk body t marks chosen p s → rest ≡ drop p body → Going t marks chosen rest s
+    going-at : (p : ℕ) → Turning bodies Root b known rule row walk body t marks uses chosen p s → rest ≡ drop p body → Going t marks uses chosen rest s
     going-at p T e = let z = place-of p T e in record { tail = rw z e; turning = rw z T }
 
     -- `&body[p..]`
-    pub going-back : (p : ℕ) → Turning bodies Root b known rule row walk body t marks chosen p s → rest ≡ take (length body - p) (drop p body) → Going t marks chosen rest s
+    pub going-back : (p : ℕ) → Turning bodies Root b known rule row walk body t marks uses chosen p s → rest ≡ take (length body - p) (drop p body) → Going t marks uses chosen rest s
     going-back p T e = going-at p T (whole-tail body p e)
 
-    pub back-less : {l : ℕ} (p : ℕ) → Turning bodies Root b known rule row walk body t marks chosen p s → rest ≡ take (length body - p) (drop p body) → left known chosen p < l → left known chosen (length body - length rest) < l
+    pub back-less : {l : ℕ} (p : ℕ) → Turning bodies Root b known rule row walk body t marks uses chosen p s → rest ≡ take (length body - p) (drop p body) → left known chosen p < l → left known chosen (length body - length rest) < l
     back-less p T e h = rw (place-of p T (whole-tail body p e)) h
 
   -- `&rest[1..]`
-  module _ {t u : Tables} {marks chosen marks′ chosen′ rest rest′ : List ℕ} {s s′ : State} (g : Going t marks chosen rest s)
-      (T : Turning bodies Root b known rule row walk body u marks′ chosen′ (length body - length rest + 1) s′) (e : rest′ ≡ take (length rest - 1) (drop 1 rest)) where
+  module _ {t u : Tables} {marks uses chosen marks′ uses′ chosen′ rest rest′ : List ℕ} {s s′ : State} (g : Going t marks uses chosen rest s)
+      (T : Turning bodies Root b known rule row walk body u marks′ uses′ chosen′ (length body - length rest + 1) s′) (e : rest′ ≡ take (length rest - 1) (drop 1 rest)) where
     next-tail : rest′ ≡ drop (length body - length rest + 1) body
     next-tail = e ∙ take-all (length rest - 1) (drop 1 rest) (omega (arith, length-drop 1 rest)) ∙ ap (drop 1) (g .tail) ∙ drop-drop 1 (length body - length rest) body
 
-    pub going-on : Going u marks′ chosen′ rest′ s′
+    pub going-on : Going u marks′ uses′ chosen′ rest′ s′
     going-on = going-at (length body - length rest + 1) T next-tail
 
     pub on-less : {l : ℕ} → left known chosen′ (length body - length rest + 1) < l → left known chosen′ (length body - length rest′) < l
     on-less h = rw (place-of (length body - length rest + 1) T next-tail) h
 
   -- ---- back
-  module _ (calls : List ℕ) (n : ℕ) (answers : List ℕ) (m : ℕ) {marks chosen chosen′ : List ℕ} {at r : ℕ} {s s′ : State} (T : Turned bodies Root b known rule row walk body (in-words calls n answers m) marks chosen at s)
+  module _ (calls : List ℕ) (n : ℕ) (answers : List ℕ) (m : ℕ) {marks uses chosen chosen′ : List ℕ} {at r : ℕ} {s s′ : State} (T : Turned bodies Root b known rule row walk body (in-words calls n answers m) marks uses chosen at s)
       (w : WentBack body answers known chosen at chosen′ r s′) where
-    pub went-over : r ≡ 0 → Over bodies Root b known rule row walk body (in-words calls n answers m) marks
+    pub went-over : r ≡ 0 → Over bodies Root b known rule row walk body (in-words calls n answers m) marks uses
     went-over e = turned-over bodies Root b known rule row walk body T (rw e at (retreat-among answers m (w .row)))
 
-    pub went-on : (p : ℕ) → r ≡ p + 1 → Turning bodies Root b known rule row walk body (in-words calls n answers m) marks chosen′ r s′ × (left known chosen′ r < left known chosen at)
+    pub went-on : (p : ℕ) → r ≡ p + 1 → Turning bodies Root b known rule row walk body (in-words calls n answers m) marks uses chosen′ r s′ × (left known chosen′ r < left known chosen at)
     went-on p e =
         let (c, f) = w .taken p e in
         let R = retreat-among answers m (w .row) in

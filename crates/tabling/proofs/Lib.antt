@@ -6,6 +6,7 @@ pub mod Graph
 pub mod Marks
 pub mod Measure
 pub mod Growth
+pub mod Uses
 pub mod Justification
 pub mod Walking
 pub mod Evidence
@@ -14,6 +15,7 @@ pub mod Turn
 pub mod Rounds
 pub mod Going
 pub mod StorageLaws
+pub mod Index
 pub mod FinalsLaws
 pub mod Numbers
 pub mod RunTables

@@ -1,11 +1,13 @@
 -- Rounds, rows and rules: what is closed so far, and what a round that added nothing leaves. Assumes nothing.
 use Prim.Native.Nat.{ℕ, zero, suc, _+_, _/_, _%_, _<_, _≤_}
 use native.Mathlib.Omega.{arith}
+use native.Mathlib.Decide.{decLt}
 use mathlib.Core.Path.{_≡_, refl, sym, subst, ap, _∙_}
 use mathlib.Core.Bool.{true}
 use mathlib.Core.List.{List, [], _∷_, List·Memᴰ, List·Memᴰ·head, List·Memᴰ·tail}
 use mathlib.Core.Logic.{_⊎_, inl, inr, ⊎-elim}
 use lib.ListN.{length, getD}
+use lib.Bits.{bitAnd}
 use Rattle.steps.specs.State.{State}
 use Rattle.steps.specs.Step.{Step, call, Body}
 use Rattle.steps.specs.Words.{step-of, body-of}
@@ -14,11 +16,12 @@ use Rattle.steps.proofs.Deductions.{Does}
 use Rattle.steps.proofs.Tables.{Walk, stands, walks, takes, Closed, Sound, Exact, exact}
 use Rattle.tabling.specs.Records.{Bodies}
 use Rattle.tabling.proofs.Storage.{CallAt, AnswerAt}
-use Rattle.tabling.proofs.Growth.{Tables, HeldCall, Held, Grew, Inside, held-call-up, held-up}
+use Rattle.tabling.proofs.Growth.{Tables, HeldCall, Held, Grew, Inside, held-up, row-once}
+use Rattle.tabling.proofs.Uses.{Used, UsesGrew, HeldUsed, Gained, held-used, held-used-up, apart}
 use Rattle.tabling.proofs.Justification.{Has, Proper}
 use Rattle.tabling.proofs.Evidence.{Valid, inside-of}
 use Rattle.tabling.proofs.Adding.{last-one, answer-true}
-use Rattle.tabling.proofs.Sweep.{Swept, swept-back}
+use Rattle.tabling.proofs.Sweep.{Swept, Reach, here, more, swept-back}
 use Rattle.tabling.proofs.Graph.{Front, goes, calls, Leads, Known, closed-ends, closed-calls}
 use Rattle.tabling.proofs.Graph as graph
 use Rattle.tabling.proofs.Walking.{Of, final, move, move-call, move-on, EdgeT, GoodT}
@@ -26,8 +29,27 @@ use Rattle.tabling.proofs.Turn.{Over}
 
 -- ---- a call record and a rule that are closed: nothing more comes of them, with the answers below `known`
 
+abbrev ClosedFor : (ℕ × State → Type 0) → List ℕ → Tables → ℕ → ℕ → Type 0
+ClosedFor C body t known row = Swept (EdgeT t known body) (GoodT t known body C (Held t row)) 0 (t .calls .state row)
+
 abbrev pub ClosedAt : List ℕ → Tables → ℕ → ℕ → Type 0
-ClosedAt body t known row = Swept (EdgeT t known body) (GoodT t known body (HeldCall t) (Held t row)) 0 (t .calls .state row)
+ClosedAt body t known row = ClosedFor (HeldCall t) body t known row
+
+-- and the calls that they come to are noted
+abbrev pub NotedAt : List ℕ → Tables → List ℕ → ℕ → ℕ → Type 0
+NotedAt body t uses known row = ClosedFor (HeldUsed t uses row) body t known row
+
+module _ (body : List ℕ) {C C′ : ℕ × State → Type 0} (upC : (c : ℕ × State) → C c → C′ c) where
+  known-up : (f : Front State (ℕ × State)) → Known C f → Known C′ f
+  known-up graph.stuck k = k
+  known-up (goes t) k = k
+  known-up (calls c) k = upC c k
+
+  good-at : (t u : Tables) (known known′ : ℕ) {A A′ : State → Type 0} → ((s : State) → A s → A′ s) → (q : ℕ) (s : State) → GoodT t known body C A q s → GoodT u known′ body C′ A′ q s
+  good-at t u known known′ upA q s w = record { ends = λ e. upA s (w .ends e); called = λ h. known-up (move (getD body q 0) s) (w .called h) }
+
+noted-closed : (body : List ℕ) (t : Tables) (uses : List ℕ) (known row : ℕ) → NotedAt body t uses known row → ClosedAt body t known row
+noted-closed body t uses known row k = swept-back (λ q s x u e. e) (good-at body (held-used t uses row) t t known known (λ s h. h)) k
 
 -- and they stay so in grown tables
 module _ {b u : Tables} (g : Grew b u) (known : ℕ) (enough : known ≤ b .answers .count) (inside : Inside b (b .answers .count)) (body : List ℕ) where
@@ -40,94 +62,162 @@ module _ {b u : Tables} (g : Grew b u) (known : ℕ) (enough : known ≤ b .answ
       let z : u .answers .call x ≡ b .answers .call x = g .call-same h in
       (record { below = o .below; action = sym (g .action-same i) ∙ ap (u .calls .action) (sym z) ∙ o .action; state = sym (g .state-same i) ∙ ap (u .calls .state) (sym z) ∙ o .state }, sym (g .final-same h) ∙ e)
 
-  known-up : {C C′ : ℕ × State → Type 0} → ((c : ℕ × State) → C c → C′ c) → (f : Front State (ℕ × State)) → Known C f → Known C′ f
-  known-up up graph.stuck k = k
-  known-up up (goes t) k = k
-  known-up up (calls c) k = up c k
-
   sweep-up : {C C′ : ℕ × State → Type 0} {A A′ : State → Type 0} (D : State) → ((c : ℕ × State) → C c → C′ c) → ((s : State) → A s → A′ s)
       → Swept (EdgeT b known body) (GoodT b known body C A) 0 D → Swept (EdgeT u known body) (GoodT u known body C′ A′) 0 D
-  sweep-up D upC upA k = swept-back (λ q s x t e. (e .0, leads-old (move (getD body q 0) s) x t (e .1)))
-      (λ q s w. record { ends = λ e. upA s (w .ends e); called = λ h. known-up upC (move (getD body q 0) s) (w .called h) }) k
+  sweep-up D upC upA k = swept-back (λ q s x t e. (e .0, leads-old (move (getD body q 0) s) x t (e .1))) (good-at body upC b u known known upA) k
 
-  closed-up : (row : ℕ) → row < b .calls .count → ClosedAt body b known row → ClosedAt body u known row
-  closed-up row l k = rw (g .state-same l) (sweep-up (b .calls .state row) (held-call-up g) (held-up g row) k)
+  noted-up : {uses uses′ : List ℕ} → UsesGrew uses uses′ → (row : ℕ) → row < b .calls .count → NotedAt body b uses known row → NotedAt body u uses′ known row
+  noted-up w row l k = rw (g .state-same l) (sweep-up (b .calls .state row) (held-used-up g w row) (held-up g row) k)
 
-  closed-over : {bodies : Bodies} {Root : ℕ → State → Type 0} {rule row walk : ℕ} {marks : List ℕ} → row < b .calls .count → Over bodies Root b known rule row walk body u marks → ClosedAt body u known row
-  closed-over {row = row} l o = rw (g .state-same l) (sweep-up (b .calls .state row) (λ c h. h) (λ s h. h) (o .swept))
+  noted-over : {bodies : Bodies} {Root : ℕ → State → Type 0} {rule row walk : ℕ} {marks uses : List ℕ} → row < b .calls .count → Over bodies Root b known rule row walk body u marks uses → NotedAt body u uses known row
+  noted-over {row = row} l o = rw (g .state-same l) (sweep-up (b .calls .state row) (λ c h. h) (λ s h. h) (o .swept))
+
+-- and under answers of calls that they have not come to
+module _ {bodies : Bodies} {Root : ℕ → State → Type 0} {t : Tables} (v : Valid bodies Root t) (uses : List ℕ) (seen known row : ℕ) (enough : known ≤ t .answers .count)
+    (none : (x : ℕ) → seen ≤ x → x < known → Used uses row (t .answers .call x) → ⊥) (body : List ℕ) where
+  of-seen : (c : ℕ × State) (x : ℕ) → HeldUsed t uses row c → Of t known c x → Of t seen c x
+  of-seen c x (i, l, k, used) o = record { below = by (decLt x seen); action = o .action; state = o .state }
+    where
+      by : Dec (x < seen) → x < seen
+      by (yes h) = h
+      by (no n) =
+          let h : x < t .answers .count = omega (arith, o .below) in
+          let z : i ≡ t .answers .call x = row-once (t .calls) (v .calls-once) i (t .answers .call x) (c .0) (c .1) l (inside-of v x h) k (record { has-action = o .action; has-state = o .state }) in
+          absurd (none x (omega arith) (o .below) (rw z at used))
+
+  leads-seen : (f : Front State (ℕ × State)) (x : ℕ) (s : State) → Known (HeldUsed t uses row) f → Leads (Of t known) (final t) f x s → Leads (Of t seen) (final t) f x s
+  leads-seen graph.stuck x s k e = e
+  leads-seen (goes u) x s k e = e
+  leads-seen (calls c) x s k (o, e) = (of-seen c x k o, e)
+
+  reach-seen : {A : State → Type 0} {q p : ℕ} {s u : State} → Swept (EdgeT t seen body) (GoodT t seen body (HeldUsed t uses row) A) q s → Reach (EdgeT t known body) q s p u → Reach (EdgeT t seen body) q s p u
+  reach-seen k here = here
+  reach-seen {q = q} {s = s} k (more {x = x} {u = u} e r) =
+      let e′ : EdgeT t seen body q s x u = (e .0, leads-seen (move (getD body q 0) s) x u (k q s here .called (e .0)) (e .1)) in
+      more e′ (reach-seen (λ p w r. k p w (more e′ r)) r)
+
+  noted-later : NotedAt body t uses seen row → NotedAt body t uses known row
+  noted-later k p s r = good-at body (λ c h. h) t t seen known (λ s h. h) p s (k p s (reach-seen k r))
 
 -- ---- the loops' invariants; the rules have the numbers `number 0`, `number 1`, .. below `total`
-module _ (bodies : Bodies) (Root : ℕ → State → Type 0) (number : ℕ → ℕ) where
-  abbrev pub Closing : Tables → ℕ → ℕ → ℕ → Type 0
-  Closing t known row i = bodies .fits i (t .calls .action row) ≡ true → ClosedAt (bodies .words i) t known row
+module _ (bodies : Bodies) (Root : ℕ → State → Type 0) where
+  abbrev pub Closing : Tables → List ℕ → ℕ → ℕ → ℕ → Type 0
+  Closing t uses known row i = bodies .fits i (t .calls .action row) ≡ true → NotedAt (bodies .words i) t uses known row
 
-  -- The records from `first` up to `row` are closed under every rule.
-  pub record Rows (first rows known row : ℕ) (t : Tables) : Type 0 where
+  -- At a round's start: the records from `first` up to `walked` were walked before, with the answers below `seen`.
+  pub record Round (first walked seen : ℕ) (t : Tables) (uses : List ℕ) : Type 0 where
     pub valid : Valid bodies Root t
+    pub walked-in : walked ≤ t .calls .count
+    pub seen-in : seen ≤ t .answers .count
+    pub earlier : (r : ℕ) → first ≤ r → r < walked → (i : ℕ) → Closing t uses seen r i
+
+  -- In it: the records from `first` up to `row` are closed under every rule, with the answers below `known`; the new ones among these are of
+  -- records of the classes given.
+  pub record Rows (first walked seen classes rows known row : ℕ) (t : Tables) (uses : List ℕ) : Type 0 where
+    pub round : Round first walked seen t uses
+    pub news : Gained (t .answers) seen known classes
     pub rows-in : rows ≤ t .calls .count
     pub known-in : known ≤ t .answers .count
-    pub closed : (r : ℕ) → first ≤ r → r < row → (i : ℕ) → Closing t known r i
+    pub closed : (r : ℕ) → first ≤ r → r < row → (i : ℕ) → Closing t uses known r i
 
-  -- And record `row` is under the rules below `rule`.
-  pub record Rules (first rows known row rule : ℕ) (t : Tables) : Type 0 where
-    pub rows-closed : Rows first rows known row t
-    pub rules-closed : (k : ℕ) → k < rule → Closing t known row (number k)
+  closing-up : {b u : Tables} {uses uses′ : List ℕ} {known : ℕ} → Grew b u → UsesGrew uses uses′ → known ≤ b .answers .count → Inside b (b .answers .count) → (row i : ℕ) → row < b .calls .count
+      → Closing b uses known row i → Closing u uses′ known row i
+  closing-up {known = known} g w enough inside row i l c e = noted-up g known enough inside (bodies .words i) w row l (c (rw (g .action-same l) at e))
 
-  closing-up : {b u : Tables} {known : ℕ} → Grew b u → known ≤ b .answers .count → Inside b (b .answers .count) → (row i : ℕ) → row < b .calls .count → Closing b known row i → Closing u known row i
-  closing-up {known = known} g enough inside row i l c e = closed-up g known enough inside (bodies .words i) row l (c (rw (g .action-same l) at e))
-
-  rows-up : {first rows known row : ℕ} {b u : Tables} → Grew b u → Valid bodies Root u → row ≤ rows → Rows first rows known row b → Rows first rows known row u
-  rows-up g v l R = record {
-    valid = v;
-    rows-in = omega (arith, R .rows-in, g .calls-more);
-    known-in = omega (arith, R .known-in, g .answers-more);
-    closed = λ r f h i. closing-up g (R .known-in) (inside-of (R .valid)) r i (omega (arith, R .rows-in)) (R .closed r f h i);
-  }
-
-  pub rows-start : (first : ℕ) {t : Tables} → Valid bodies Root t → Rows first (t .calls .count) (t .answers .count) first t
-  rows-start first v = record { valid = v; rows-in = omega arith; known-in = omega arith; closed = λ r f h. absurd (omega arith) }
-
-  pub rules-start : {first rows known row : ℕ} {t : Tables} → Rows first rows known row t → Rules first rows known row 0 t
-  rules-start R = record { rows-closed = R; rules-closed = λ k h. absurd (omega arith) }
-
-  -- a rule of another action
-  pub rules-skip : {first rows known row rule : ℕ} {t : Tables} → Rules first rows known row rule t → (bodies .fits (number rule) (t .calls .action row) ≡ true → ⊥) → Rules first rows known row (rule + 1) t
-  rules-skip {row = row} {rule} {t} R n = record { rows-closed = R .rows-closed; rules-closed = λ k h. ⊎-elim (λ l. R .rules-closed k l) (λ (z : k ≡ rule). λ e. absurd (n (rw z at e))) (last-one h) }
-
-  -- a walk that is over
-  pub rules-next : {first rows known row rule walk i : ℕ} {b u : Tables} {body marks : List ℕ} → Rules first rows known row rule b → row < rows → i ≡ number rule → body ≡ bodies .words i
-      → Over bodies Root b known i row walk body u marks → Rules first rows known row (rule + 1) u
-  rules-next {known = known} {row} {rule} {b = b} {u} {body} R l e w o =
-      let S = R .rows-closed in
-      let g = o .grew in
-      let i = inside-of (S .valid) in
-      let h : row < b .calls .count = omega (arith, S .rows-in) in
+  rows-up : {first walked seen classes rows known row : ℕ} {b u : Tables} {uses uses′ : List ℕ} → Grew b u → UsesGrew uses uses′ → Valid bodies Root u → row ≤ rows
+      → Rows first walked seen classes rows known row b uses → Rows first walked seen classes rows known row u uses′
+  rows-up g w v l R =
+      let S = R .round in
+      let inside = inside-of (S .valid) in
       record {
-        rows-closed = rows-up g (o .valid) (omega arith) S;
-        rules-closed = λ k j. ⊎-elim (λ m. closing-up g (S .known-in) i row (number k) h (R .rules-closed k m))
-            (λ (z : k ≡ rule). λ f. rw (z, ← e, ← w) (closed-over g known (S .known-in) i body h o)) (last-one j);
+        round = record {
+          valid = v;
+          walked-in = omega (arith, S .walked-in, g .calls-more);
+          seen-in = omega (arith, S .seen-in, g .answers-more);
+          earlier = λ r f h i. closing-up g w (S .seen-in) inside r i (omega (arith, S .walked-in)) (S .earlier r f h i);
+        };
+        news = λ x a l. rw (g .call-same {x = x} (omega (arith, R .known-in))) (R .news x a l);
+        rows-in = omega (arith, R .rows-in, g .calls-more);
+        known-in = omega (arith, R .known-in, g .answers-more);
+        closed = λ r f h i. closing-up g w (R .known-in) inside r i (omega (arith, R .rows-in)) (R .closed r f h i);
       }
 
-  -- all rules have been walked
-  pub rows-next : {first rows known row rule : ℕ} {t : Tables} → ((i a : ℕ) → bodies .fits i a ≡ true → (k : ℕ) × (k < rule) × (number k ≡ i)) → Rules first rows known row rule t → Rows first rows known (row + 1) t
-  rows-next {known = known} {row} {rule} {t} all R = record {
-    valid = R .rows-closed .valid;
-    rows-in = R .rows-closed .rows-in;
-    known-in = R .rows-closed .known-in;
-    closed = λ r f l i. ⊎-elim (λ m. R .rows-closed .closed r f m i) (λ (z : r ≡ row). rw z (last i)) (last-one l);
+  -- before the first round
+  pub round-start : (first : ℕ) {t : Tables} (uses : List ℕ) → Valid bodies Root t → first ≤ t .calls .count → Round first first 0 t uses
+  round-start first uses v l = record { valid = v; walked-in = l; seen-in = omega arith; earlier = λ r f h. absurd (omega arith) }
+
+  pub rows-start : {first walked seen classes : ℕ} {t : Tables} {uses : List ℕ} → Round first walked seen t uses → Gained (t .answers) seen (t .answers .count) classes → Rows first walked seen classes (t .calls .count) (t .answers .count) first t uses
+  rows-start S g = record { round = S; news = g; rows-in = omega arith; known-in = omega arith; closed = λ r f h. absurd (omega arith) }
+
+  -- after a round
+  pub rows-round : {first walked seen classes rows known row : ℕ} {t : Tables} {uses : List ℕ} → Rows first walked seen classes rows known row t uses → rows ≤ row → Round first rows known t uses
+  rows-round R h = record { valid = R .round .valid; walked-in = R .rows-in; seen-in = R .known-in; earlier = λ r f l i. R .closed r f (omega arith) i }
+
+  -- a record that was walked, and whose callees have gained no answer since
+  pub rows-settled : {first walked seen classes rows known row : ℕ} {t : Tables} {uses : List ℕ} → Rows first walked seen classes rows known row t uses → first ≤ row → row < walked
+      → bitAnd (getD uses row 0) classes ≡ 0 → Rows first walked seen classes rows known (row + 1) t uses
+  rows-settled {seen = seen} {classes} {known = known} {row} {t} {uses} R f l none = record {
+    round = R .round;
+    news = R .news;
+    rows-in = R .rows-in;
+    known-in = R .known-in;
+    closed = λ r g h i. ⊎-elim (λ m. R .closed r g m i) (λ (z : r ≡ row). rw z (last i)) (last-one h);
   }
     where
-      last : (i : ℕ) → Closing t known row i
-      last i e = let (k, l, z) = all i (t .calls .action row) e in rw z at (R .rules-closed k l (rw z e))
+      last : (i : ℕ) → Closing t uses known row i
+      last i e = noted-later (R .round .valid) uses seen known row (R .known-in) (λ x a h u. apart (t .answers .call x % 32) (getD uses row 0) classes none u (R .news x a h)) (bodies .words i) (R .round .earlier row f l i e)
 
-  -- a round that added nothing: every record from `first` on is closed under all answers
-  pub rows-finished : {first rows known row : ℕ} {t : Tables} → Rows first rows known row t → rows ≤ row → row ≤ rows → t .calls .count + t .answers .count ≡ rows + known
-      → Rows first (t .calls .count) (t .answers .count) (t .calls .count) t
-  rows-finished {first} {rows} {known} {row} {t} R h k e =
-      let a : rows ≡ t .calls .count = omega (arith, R .rows-in, R .known-in) in
+  module _ (number : ℕ → ℕ) where
+    -- And record `row` is under the rules below `rule`.
+    pub record Rules (first walked seen classes rows known row rule : ℕ) (t : Tables) (uses : List ℕ) : Type 0 where
+      pub rows-closed : Rows first walked seen classes rows known row t uses
+      pub rules-closed : (k : ℕ) → k < rule → Closing t uses known row (number k)
+
+    pub rules-start : {first walked seen classes rows known row : ℕ} {t : Tables} {uses : List ℕ} → Rows first walked seen classes rows known row t uses → Rules first walked seen classes rows known row 0 t uses
+    rules-start R = record { rows-closed = R; rules-closed = λ k h. absurd (omega arith) }
+
+    -- a rule of another action
+    pub rules-skip : {first walked seen classes rows known row rule : ℕ} {t : Tables} {uses : List ℕ} → Rules first walked seen classes rows known row rule t uses → (bodies .fits (number rule) (t .calls .action row) ≡ true → ⊥)
+        → Rules first walked seen classes rows known row (rule + 1) t uses
+    rules-skip {rule = rule} R n = record { rows-closed = R .rows-closed; rules-closed = λ k h. ⊎-elim (λ l. R .rules-closed k l) (λ (z : k ≡ rule). λ e. absurd (n (rw z at e))) (last-one h) }
+
+    -- a walk that is over
+    pub rules-next : {first walked seen classes rows known row rule walk i : ℕ} {b u : Tables} {body marks uses uses′ : List ℕ} → Rules first walked seen classes rows known row rule b uses → row < rows → i ≡ number rule → body ≡ bodies .words i
+        → UsesGrew uses uses′ → Over bodies Root b known i row walk body u marks uses′ → Rules first walked seen classes rows known row (rule + 1) u uses′
+    rules-next {known = known} {row} {rule} {b = b} {u} {body} R l e w g o =
+        let S = R .rows-closed in
+        let i = inside-of (S .round .valid) in
+        let h : row < b .calls .count = omega (arith, S .rows-in) in
+        record {
+          rows-closed = rows-up (o .grew) g (o .valid) (omega arith) S;
+          rules-closed = λ k j. ⊎-elim (λ m. closing-up (o .grew) g (S .known-in) i row (number k) h (R .rules-closed k m))
+              (λ (z : k ≡ rule). λ f. rw (z, ← e, ← w) (noted-over (o .grew) known (S .known-in) i body h o)) (last-one j);
+        }
+
+    -- all rules have been walked
+    pub rows-next : {first walked seen classes rows known row rule : ℕ} {t : Tables} {uses : List ℕ} → ((i a : ℕ) → bodies .fits i a ≡ true → (k : ℕ) × (k < rule) × (number k ≡ i)) → Rules first walked seen classes rows known row rule t uses
+        → Rows first walked seen classes rows known (row + 1) t uses
+    rows-next {known = known} {row} {rule} {t} {uses} all R = record {
+      round = R .rows-closed .round;
+      news = R .rows-closed .news;
+      rows-in = R .rows-closed .rows-in;
+      known-in = R .rows-closed .known-in;
+      closed = λ r f l i. ⊎-elim (λ m. R .rows-closed .closed r f m i) (λ (z : r ≡ row). rw z (last i)) (last-one l);
+    }
+      where
+        last : (i : ℕ) → Closing t uses known row i
+        last i e = let (k, l, z) = all i (t .calls .action row) e in rw z at (R .rules-closed k l (rw z e))
+
+  -- Every record from `first` on is closed under all answers.
+  pub record Whole (first : ℕ) (t : Tables) : Type 0 where
+    pub valid : Valid bodies Root t
+    pub closed : (r : ℕ) → first ≤ r → r < t .calls .count → (i : ℕ) → bodies .fits i (t .calls .action r) ≡ true → ClosedAt (bodies .words i) t (t .answers .count) r
+
+  -- a round that added nothing
+  pub rows-finished : {first walked seen classes rows known row : ℕ} {t : Tables} {uses : List ℕ} → Rows first walked seen classes rows known row t uses → rows ≤ row → t .calls .count + t .answers .count ≡ rows + known → Whole first t
+  rows-finished {first} {rows = rows} {known} {row} {t} {uses} R h e =
       let b : known ≡ t .answers .count = omega (arith, R .rows-in, R .known-in) in
-      let c : row ≡ t .calls .count = omega arith in
-      rw (a, b, c) at R
+      record { valid = R .round .valid; closed = λ r f l i z. noted-closed (bodies .words i) t uses (t .answers .count) r (rw b at (R .closed r f (omega (arith, R .rows-in, R .known-in)) i z)) }
 
 -- ---- all records closed: the tables are closed and sound
 
@@ -185,8 +275,7 @@ module _ (t : Tables) (body : List ℕ) where
         let (x, h, an) = closed-ends move (Of t (t .answers .count)) (final t) 0 body swept-at v in
         (x, record { below = h; action = ap (t .calls .action) (an .has-call) ∙ c .has-action; state = ap (t .calls .state) (an .has-call) ∙ c .has-state }, an .has-final)
 
-module _ (bodies : Bodies) (Root : ℕ → State → Type 0) (proper : Proper bodies) (number : ℕ → ℕ) (t : Tables)
-    (R : Rows bodies Root number 0 (t .calls .count) (t .answers .count) (t .calls .count) t) where
+module _ (bodies : Bodies) (Root : ℕ → State → Type 0) (proper : Proper bodies) (t : Tables) (R : Whole bodies Root 0 t) where
   closed-of : Closed Does (Has bodies) Root (C t) (A t)
   closed-of = record {
     roots = λ a D r. R .valid .roots a D r;

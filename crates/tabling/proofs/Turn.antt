@@ -18,7 +18,8 @@ use Rattle.steps.proofs.Execution.{Ends}
 use Rattle.steps.proofs.Tables.{Reached}
 use Rattle.tabling.specs.Records.{Calls, Answers, Bodies}
 use Rattle.tabling.proofs.Storage.{CallAt, AnswerAt, NextAnswer, CallPut, call-stood, call-added, call-no-room, AnswerPut, answer-stood, answer-added, answer-no-room, AnswerAdded}
-use Rattle.tabling.proofs.Growth.{Tables, tables, HeldCall, Held, Grew, Inside, grew-refl, grew-trans, grew-call, grew-answer, call-up, held-call-up, held-up, row-once}
+use Rattle.tabling.proofs.Growth.{Tables, tables, Held, Grew, Inside, grew-refl, grew-trans, grew-call, grew-answer, call-up, held-up, row-once}
+use Rattle.tabling.proofs.Uses.{Used, with-use, UsesGrew, uses-refl, use-grew, HeldUsed, held-used-up}
 use Rattle.tabling.proofs.Justification.{Has, Proper, Justified}
 use Rattle.tabling.proofs.Evidence.{Valid, inside-of, come-reached, way-ends, way-follows}
 use Rattle.tabling.proofs.Adding.{valid-call, valid-answer, full-calls, full-answers}
@@ -96,26 +97,26 @@ module _ (bodies : Bodies) (Root : ℕ → State → Type 0) (b : Tables) (known
   from = b .calls .state row
 
   -- The search in tables t that have grown from b.
-  pub record Turning (t : Tables) (marks chosen : List ℕ) (at : ℕ) (s : State) : Type 0 where
+  pub record Turning (t : Tables) (marks uses chosen : List ℕ) (at : ℕ) (s : State) : Type 0 where
     pub given : Given bodies Root b known rule row body
     pub valid : Valid bodies Root t
     pub grew : Grew b t
     pub stamped : Stamped marks walk
     pub chosen-long : length chosen ≡ 16
     pub unused : (q : ℕ) → length body ≤ q → getD chosen q 0 ≡ 0
-    pub walking : Walking body b known walk (HeldCall t) (Held t row) from marks chosen at at s
+    pub walking : Walking body b known walk (HeldUsed t uses row) (Held t row) from marks chosen at at s
 
   -- Where the walk has to go back: nothing is left from the present place on.
-  pub record Turned (t : Tables) (marks chosen : List ℕ) (at : ℕ) (s : State) : Type 0 where
-    pub turning : Turning t marks chosen at s
-    pub done : Done body b known walk (HeldCall t) (Held t row) from at s
+  pub record Turned (t : Tables) (marks uses chosen : List ℕ) (at : ℕ) (s : State) : Type 0 where
+    pub turning : Turning t marks uses chosen at s
+    pub done : Done body b known walk (HeldUsed t uses row) (Held t row) from at s
 
   -- The walk is over.
-  pub record Over (t : Tables) (marks : List ℕ) : Type 0 where
+  pub record Over (t : Tables) (marks uses : List ℕ) : Type 0 where
     pub valid : Valid bodies Root t
     pub grew : Grew b t
     pub stamped : Stamped marks walk
-    pub swept : Swept (EdgeT b known body) (GoodT b known body (HeldCall t) (Held t row)) 0 from
+    pub swept : Swept (EdgeT b known body) (GoodT b known body (HeldUsed t uses row) (Held t row)) 0 from
 
   has-body : Given bodies Root b known rule row body → Has bodies (b .calls .action row) (body-of body)
   has-body G = (rule, G .fits, ap body-of (G .words))
@@ -123,31 +124,31 @@ module _ (bodies : Bodies) (Root : ℕ → State → Type 0) (b : Tables) (known
   pub body-short : Given bodies Root b known rule row body → length body ≤ 16
   body-short G = rw (G .words) (G .proper .short rule _ (G .fits))
 
-  turning-up : {t u : Tables} {marks chosen : List ℕ} {at : ℕ} {s : State} → Turning t marks chosen at s → Grew t u → Valid bodies Root u → Turning u marks chosen at s
-  turning-up T g v = record {
+  turning-up : {t u : Tables} {marks uses uses′ chosen : List ℕ} {at : ℕ} {s : State} → Turning t marks uses chosen at s → Grew t u → UsesGrew uses uses′ → Valid bodies Root u → Turning u marks uses′ chosen at s
+  turning-up T g w v = record {
     given = T .given;
     valid = v;
     grew = grew-trans (T .grew) g;
     stamped = T .stamped;
     chosen-long = T .chosen-long;
     unused = T .unused;
-    walking = walking-up body b known walk from (held-call-up g) (held-up g row) (T .walking);
+    walking = walking-up body b known walk from (held-used-up g w row) (held-up g row) (T .walking);
   }
 
   -- the first turn
-  pub turn-start : {marks chosen : List ℕ} → Given bodies Root b known rule row body → Stamped marks walk → ((q r : ℕ) → ¬ Mark marks walk q r) → length chosen ≡ 16 → ((q : ℕ) → length body ≤ q → getD chosen q 0 ≡ 0)
-      → Turning b marks chosen 0 from
-  turn-start G s none long unused = record {
+  pub turn-start : {marks chosen : List ℕ} (uses : List ℕ) → Given bodies Root b known rule row body → Stamped marks walk → ((q r : ℕ) → ¬ Mark marks walk q r) → length chosen ≡ 16 → ((q : ℕ) → length body ≤ q → getD chosen q 0 ≡ 0)
+      → Turning b marks uses chosen 0 from
+  turn-start uses G s none long unused = record {
     given = G;
     valid = G .valid;
     grew = grew-refl b;
     stamped = s;
     chosen-long = long;
     unused = unused;
-    walking = walk-start body b known walk (HeldCall b) (Held b row) from none;
+    walking = walk-start body b known walk (HeldUsed b uses row) (Held b row) from none;
   }
 
-  module _ {t : Tables} {marks chosen : List ℕ} {at : ℕ} {s : State} (T : Turning t marks chosen at s) where
+  module _ {t : Tables} {marks uses chosen : List ℕ} {at : ℕ} {s : State} (T : Turning t marks uses chosen at s) where
     chosen-far : (p j : ℕ) → p < length body → (q : ℕ) → length body ≤ q → getD (set chosen p j) q 0 ≡ 0
     chosen-far p j h q l = getD-set-other chosen p q j 0 (omega arith) ∙ T .unused q l
 
@@ -155,7 +156,7 @@ module _ (bodies : Bodies) (Root : ℕ → State → Type 0) (b : Tables) (known
     place-low h = omega (arith, body-short (T .given))
 
     -- ---- an elementary step
-    pub turn-forward : {u : State} → at < length body → elementary (step-of (getD body at 0)) s ≡ on u → Turning t marks (set chosen at 0) (at + 1) u
+    pub turn-forward : {u : State} → at < length body → elementary (step-of (getD body at 0)) s ≡ on u → Turning t marks uses (set chosen at 0) (at + 1) u
     turn-forward h e = record {
       given = T .given;
       valid = T .valid;
@@ -163,11 +164,11 @@ module _ (bodies : Bodies) (Root : ℕ → State → Type 0) (b : Tables) (known
       stamped = T .stamped;
       chosen-long = simp length-set (T .chosen-long);
       unused = chosen-far at 0 h;
-      walking = walk-forward body b known walk (HeldCall t) (Held t row) from (T .walking) h (omega (arith, T .chosen-long, place-low h)) e;
+      walking = walk-forward body b known walk (HeldUsed t uses row) (Held t row) from (T .walking) h (omega (arith, T .chosen-long, place-low h)) e;
     }
 
-    pub turn-stuck : at < length body → getD body at 0 / 256 ≤ 2 → elementary (step-of (getD body at 0)) s ≡ stuck → Turned t marks chosen at s
-    turn-stuck h l e = record { turning = T; done = done-stuck body b known walk (HeldCall t) (Held t row) from (T .walking) h l e }
+    pub turn-stuck : at < length body → getD body at 0 / 256 ≤ 2 → elementary (step-of (getD body at 0)) s ≡ stuck → Turned t marks uses chosen at s
+    turn-stuck h l e = record { turning = T; done = done-stuck body b known walk (HeldUsed t uses row) (Held t row) from (T .walking) h l e }
 
     -- ---- a call
     module _ (h : at < length body) (e : 2 < getD body at 0 / 256) where
@@ -175,13 +176,13 @@ module _ (bodies : Bodies) (Root : ℕ → State → Type 0) (b : Tables) (known
       came : Reached Does (Has bodies) Root (getD body at 0 % 256) s
       came =
           let G = T .given in
-          come-reached b known body (G .valid) (G .enough) (G .valid .reached row (G .row-in)) (has-body G) h e (walk-way body b known walk (HeldCall t) (Held t row) from (T .walking))
+          come-reached b known body (G .valid) (G .enough) (G .valid .reached row (G .row-in)) (has-body G) h e (walk-way body b known walk (HeldUsed t uses row) (Held t row) from (T .walking))
 
       -- it stands in the table
       pub turn-called : {calls′ : Calls} {r places : ℕ} {full : Bool} → CallPut places (t .calls) (getD body at 0 % 256) s calls′ r full → full ≡ false
-          → Turning (tables calls′ (t .answers)) marks chosen at s × (r < calls′ .count) × CallAt calls′ r (getD body at 0 % 256) s
+          → Turning (tables calls′ (t .answers)) marks uses chosen at s × (r < calls′ .count) × CallAt calls′ r (getD body at 0 % 256) s
       turn-called (call-stood f l k z) n = rw z (T, l, k)
-      turn-called (call-added f i l none p) n = (turning-up T (grew-call t p) (valid-call (T .valid) (T .given .proper) p none came), omega (arith, p .count), rw i (p .new))
+      turn-called (call-added f i l none p) n = (turning-up T (grew-call t p) (uses-refl uses) (valid-call (T .valid) (T .given .proper) p none came), omega (arith, p .count), rw i (p .new))
       turn-called (call-no-room f i none z) n = absurd (true-not-false (sym f ∙ n))
 
       -- or there is no room for it
@@ -190,10 +191,14 @@ module _ (bodies : Bodies) (Root : ℕ → State → Type 0) (b : Tables) (known
       turn-calls-full m (call-added f i l none p) n = absurd (true-not-false (sym n ∙ f))
       turn-calls-full m (call-no-room f i none z) n = inl (rw i at (full-calls (T .valid) none came))
 
-      module _ {r : ℕ} (l : r < t .calls .count) (k : CallAt (t .calls) r (getD body at 0 % 256) s) where
+      -- and is noted
+      pub turn-noted : (r : ℕ) → row < length uses → Turning t marks (with-use uses row r) chosen at s
+      turn-noted r i = turning-up T (grew-refl t) (use-grew uses row r i) (T .valid)
+
+      module _ {r : ℕ} (l : r < t .calls .count) (k : CallAt (t .calls) r (getD body at 0 % 256) s) (used : Used uses row r) where
         -- nothing is left from here on where the call has no answer yet
-        none-done : NextAnswer (t .answers) known r 0 known → Done body b known walk (HeldCall t) (Held t row) from at s
-        none-done n = done-call body b known walk (HeldCall t) (Held t row) from (T .walking) h e (r, l, k)
+        none-done : NextAnswer (t .answers) known r 0 known → Done body b known walk (HeldUsed t uses row) (Held t row) from at s
+        none-done n = done-call body b known walk (HeldUsed t uses row) (Held t row) from (T .walking) h e (r, l, k, used)
             (none-old (T .valid) (T .grew) (T .given .enough) (inside-of (T .given .valid)) (getD body at 0 % 256, s) l k n)
 
         -- a call recorded since the round began has no answer that may be used
@@ -212,15 +217,15 @@ module _ (bodies : Bodies) (Root : ℕ → State → Type 0) (b : Tables) (known
         at-start i = record { has-action = sym (T .grew .action-same i) ∙ k .has-action; has-state = sym (T .grew .state-same i) ∙ k .has-state }
 
         -- the node has been searched before
-        pub turn-seen : Mark marks walk at r → Turned t marks chosen at s
+        pub turn-seen : Mark marks walk at r → Turned t marks uses chosen at s
         turn-seen m = record { turning = T; done = by (decLt r (b .calls .count)) }
           where
-            by : Dec (r < b .calls .count) → Done body b known walk (HeldCall t) (Held t row) from at s
-            by (yes i) = done-seen body b known walk (HeldCall t) (Held t row) from (T .walking) (r, i, at-start i, m)
+            by : Dec (r < b .calls .count) → Done body b known walk (HeldUsed t uses row) (Held t row) from at s
+            by (yes i) = done-seen body b known walk (HeldUsed t uses row) (Held t row) from (T .walking) (r, i, at-start i, m)
             by (no n) = none-done (none-new (omega arith))
 
         -- the call has no answer yet: its node is marked
-        pub turn-none : r < 65536 → ¬ Mark marks walk at r → NextAnswer (t .answers) known r 0 known → Turned t (with-mark marks walk at r) chosen at s
+        pub turn-none : r < 65536 → ¬ Mark marks walk at r → NextAnswer (t .answers) known r 0 known → Turned t (with-mark marks walk at r) uses chosen at s
         turn-none room free n =
             let long : r < length marks = omega (arith, T .stamped .long) in
             let done = none-done n in
@@ -232,14 +237,14 @@ module _ (bodies : Bodies) (Root : ℕ → State → Type 0) (b : Tables) (known
                 stamped = mark-stamped marks walk at r (place-low h) long free (T .stamped);
                 chosen-long = T .chosen-long;
                 unused = T .unused;
-                walking = mark-done body b known walk (HeldCall t) (Held t row) from (T .walking) done
+                walking = mark-done body b known walk (HeldUsed t uses row) (Held t row) from (T .walking) done
                     (λ q u (y, a, d, x). ⊎-elim (λ x′. inl (y, a, d, x′)) (λ (z, w). inr (z, sym (d .has-state) ∙ ap (b .calls .state) w ∙ at-start (omega arith) .has-state)) (mark-new marks walk at r (place-low h) long free q y x));
               };
               done = done;
             }
 
         -- its first answer is taken
-        pub turn-take : {j : ℕ} → r < 65536 → ¬ Mark marks walk at r → j < known → NextAnswer (t .answers) known r 0 j → Turning t (with-mark marks walk at r) (set chosen at j) (at + 1) (t .answers .final j)
+        pub turn-take : {j : ℕ} → r < 65536 → ¬ Mark marks walk at r → j < known → NextAnswer (t .answers) known r 0 j → Turning t (with-mark marks walk at r) uses (set chosen at j) (at + 1) (t .answers .final j)
         turn-take {j} room free i n =
             let G = T .given in
             let c : ℕ × State = (getD body at 0 % 256, s) in
@@ -257,7 +262,7 @@ module _ (bodies : Bodies) (Root : ℕ → State → Type 0) (b : Tables) (known
               stamped = mark-stamped marks walk at r (place-low h) long free (T .stamped);
               chosen-long = simp length-set (T .chosen-long);
               unused = chosen-far at j h;
-              walking = rw (T .grew .final-same x) (take-first body b known walk (HeldCall t) (Held t row) from (T .walking) h e (r, l, k) (place-low h) (omega (arith, T .chosen-long, place-low h)) long old at-b free o
+              walking = rw (T .grew .final-same x) (take-first body b known walk (HeldUsed t uses row) (Held t row) from (T .walking) h e (r, l, k, used) (place-low h) (omega (arith, T .chosen-long, place-low h)) long old at-b free o
                   (none-old (T .valid) (T .grew) (G .enough) inside c l k n));
             }
 
@@ -266,7 +271,7 @@ module _ (bodies : Bodies) (Root : ℕ → State → Type 0) (b : Tables) (known
       end-way : Way (EdgeT b known body) (λ q. getD chosen q 0) from (length body) s
       end-way =
           let z : at ≡ length body = omega (arith, T .walking .inside) in
-          subst (λ (n : ℕ). Way (EdgeT b known body) (λ q. getD chosen q 0) from n s) z (walk-way body b known walk (HeldCall t) (Held t row) from (T .walking))
+          subst (λ (n : ℕ). Way (EdgeT b known body) (λ q. getD chosen q 0) from n s) z (walk-way body b known walk (HeldUsed t uses row) (Held t row) from (T .walking))
 
       end-final : Ends Does (Has bodies) (t .calls .action row) (t .calls .state row) s
       end-final =
@@ -286,12 +291,12 @@ module _ (bodies : Bodies) (Root : ℕ → State → Type 0) (b : Tables) (known
             followed = rw (p .new-rule, p .new .has-call, T .grew .state-same (G .row-in), ← (G .words)) w;
           }
 
-      pub turn-ended : {answers′ : Answers} {places : ℕ} {full : Bool} → AnswerPut places (t .answers) row s rule chosen answers′ full → full ≡ false → Turned (tables (t .calls) answers′) marks chosen at s
-      turn-ended (answer-stood f k z) n = rw z (record { turning = T; done = done-end body b known walk (HeldCall t) (Held t row) from (T .walking) h k })
+      pub turn-ended : {answers′ : Answers} {places : ℕ} {full : Bool} → AnswerPut places (t .answers) row s rule chosen answers′ full → full ≡ false → Turned (tables (t .calls) answers′) marks uses chosen at s
+      turn-ended (answer-stood f k z) n = rw z (record { turning = T; done = done-end body b known walk (HeldUsed t uses row) (Held t row) from (T .walking) h k })
       turn-ended {answers′} (answer-added f l none p) n =
           let u : Tables = tables (t .calls) answers′ in
-          let w : Turning u marks chosen at s = turning-up T (grew-answer t p) (valid-answer (T .valid) (T .given .proper) p none (end-justified p)) in
-          record { turning = w; done = done-end body b known walk (HeldCall u) (Held u row) from (w .walking) h (t .answers .count, omega (arith, p .count), p .new) }
+          let w : Turning u marks uses chosen at s = turning-up T (grew-answer t p) (uses-refl uses) (valid-answer (T .valid) (T .given .proper) p none (end-justified p)) in
+          record { turning = w; done = done-end body b known walk (HeldUsed u uses row) (Held u row) from (w .walking) h (t .answers .count, omega (arith, p .count), p .new) }
       turn-ended (answer-no-room f i none z) n = absurd (true-not-false (sym f ∙ n))
 
       pub turn-answers-full : {answers′ : Answers} {places : ℕ} {full : Bool} (call-places : ℕ) → AnswerPut places (t .answers) row s rule chosen answers′ full → full ≡ true → Outgrown bodies Root call-places places
@@ -300,18 +305,18 @@ module _ (bodies : Bodies) (Root : ℕ → State → Type 0) (b : Tables) (known
       turn-answers-full c (answer-no-room f i none z) n = inr (rw i at (full-answers (T .valid) (omega (arith, T .given .row-in, T .grew .calls-more)) none end-final))
 
   -- ---- back
-  module _ {t : Tables} {marks chosen : List ℕ} {at : ℕ} {s : State} (T : Turned t marks chosen at s) where
+  module _ {t : Tables} {marks uses chosen : List ℕ} {at : ℕ} {s : State} (T : Turned t marks uses chosen at s) where
     old : {r j : ℕ} → RetreatRow body (t .answers) known chosen at r j → Retreat body b known chosen at r j
     old R =
         let U = T .turning in
-        retreat-old (U .valid) (U .grew) (U .given .enough) (inside-of (U .given .valid)) (chosen-of body b known walk (HeldCall t) (Held t row) from (U .walking)) R
+        retreat-old (U .valid) (U .grew) (U .given .enough) (inside-of (U .given .valid)) (chosen-of body b known walk (HeldUsed t uses row) (Held t row) from (U .walking)) R
 
-    pub turned-over : {j : ℕ} → RetreatRow body (t .answers) known chosen at 0 j → Over t marks
+    pub turned-over : {j : ℕ} → RetreatRow body (t .answers) known chosen at 0 j → Over t marks uses
     turned-over R =
         let U = T .turning in
-        record { valid = U .valid; grew = U .grew; stamped = U .stamped; swept = back-over body b known walk (HeldCall t) (Held t row) from (U .walking) (T .done) (old R) }
+        record { valid = U .valid; grew = U .grew; stamped = U .stamped; swept = back-over body b known walk (HeldUsed t uses row) (Held t row) from (U .walking) (T .done) (old R) }
 
-    pub turned-take : {j : ℕ} (p : ℕ) → RetreatRow body (t .answers) known chosen at (p + 1) j → Turning t marks (set chosen p j) (p + 1) (t .answers .final j)
+    pub turned-take : {j : ℕ} (p : ℕ) → RetreatRow body (t .answers) known chosen at (p + 1) j → Turning t marks uses (set chosen p j) (p + 1) (t .answers .final j)
     turned-take {j} p R =
         let U = T .turning in
         let G = U .given in
@@ -326,5 +331,5 @@ module _ (bodies : Bodies) (Root : ℕ → State → Type 0) (b : Tables) (known
           chosen-long = simp length-set (U .chosen-long);
           unused = chosen-far U p j (omega arith);
           walking = rw (U .grew .final-same {x = j} (omega (arith, G .enough)))
-              (back-take body b known walk (HeldCall t) (Held t row) from (U .walking) (T .done) p (omega (arith, U .chosen-long, body-short G)) (old R));
+              (back-take body b known walk (HeldUsed t uses row) (Held t row) from (U .walking) (T .done) p (omega (arith, U .chosen-long, body-short G)) (old R));
         }

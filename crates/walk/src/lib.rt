@@ -4,24 +4,28 @@
 // found or added, and its answers are taken in turn; a call step that the walk comes to again in the same state has been searched already,
 // so it is marked and never entered twice. At the body's end the state is added as an answer, with the answers on the way as its evidence.
 pub mod bodies;
-pub mod marks;
-pub mod tables;
 
 use steps::state::Call;
 use steps::state::State;
 use steps::word;
+use storage::index;
+use storage::marks;
+use storage::tables;
+use storage::uses;
 ghost use mathlib.Core.Path.{_≡_};
 ghost use mathlib.Core.List.{List};
 ghost use Prim.Native.Nat.{ℕ, _+_, _-_, _*_, _/_, _<_, _≤_};
 ghost use lib.ListN.{length, getD, drop};
-ghost use Rattle.tabling.specs.Records.{Bodies, answers-in};
+ghost use Rattle.tabling.specs.Records.{Bodies, calls-in, answers-in};
 ghost use Rattle.tabling.proofs.Storage.{Stored};
 ghost use Rattle.tabling.proofs.Growth.{Tables};
 ghost use Rattle.tabling.proofs.Marks.{Stamped};
+ghost use Rattle.tabling.proofs.Uses.{UsesGrew};
+ghost use Rattle.tabling.proofs.Index.{CallIndex, AnswerIndex};
 ghost use Rattle.tabling.proofs.Walking.{Chosen};
 ghost use Rattle.tabling.proofs.Evidence.{Among};
 ghost use Rattle.tabling.proofs.Turn.{RetreatRow, Turning};
-ghost use Rattle.tabling.proofs.Going.{Kept, WentBack, Going, in-words};
+ghost use Rattle.tabling.proofs.Going.{Kept, Indexed, WentBack, Going, in-words};
 ghost use Rattle.walk.specs.Outcome.{Stepped, Outcome, Stays};
 
 // What does not change while a body is walked: its rule's number, the call record that it is of, how many answers may serve, and the
@@ -53,17 +57,19 @@ fn finish(
     n: usize,
     answers: &mut [u64],
     m: usize,
+    answer_index: &mut [u16],
     chosen: &[u64; 16],
     state: State,
 ) -> Advanced
-    requires { ⌜ Stored 19 (now answers) m ⌝ }
+    requires { ⌜ Stored 19 (now answers) m × AnswerIndex (answers-in 19 (now answers) m) (now «answer_index») × (job .row < 65536) ⌝ }
     ensures { λ r. ⌜ (length (now (answers .exit)) ≡ length (now (answers .entry))) × Stored 19 (now (answers .exit)) (r .answers) × (r .calls ≡ n) ⌝ }
-    ensures { λ r. ⌜ ((bodies : Bodies) (roots : List (ℕ × ℕ)) (b : Tables) (body calls marks : List ℕ) (at : ℕ) → length body ≤ at
-        → Turning bodies (Among roots) b (job .known) (job .rule) (job .row) (job .walk) body (in-words calls n (now (answers .entry)) m) marks (now (chosen .entry)) at (state .0)
+    ensures { λ r. ⌜ AnswerIndex (answers-in 19 (now (answers .exit)) (r .answers)) (now («answer_index» .exit)) ⌝ }
+    ensures { λ r. ⌜ ((bodies : Bodies) (roots : List (ℕ × ℕ)) (b : Tables) (body calls marks uses : List ℕ) (at : ℕ) → length body ≤ at
+        → Turning bodies (Among roots) b (job .known) (job .rule) (job .row) (job .walk) body (in-words calls n (now (answers .entry)) m) marks uses (now (chosen .entry)) at (state .0)
         → Stepped (r .front) bodies (Among roots) b job body (length calls) (length (now (answers .entry))) (now (chosen .entry)) at (state .0)
-        (in-words calls n (now (answers .exit)) (r .answers)) marks (now (chosen .entry))) ⌝ }
+        (in-words calls n (now (answers .exit)) (r .answers)) marks uses (now (chosen .entry))) ⌝ }
 {
-    let put = tables::add_answer(answers, m, job.row, state, job.rule, chosen);
+    let put = index::add_answer(answers, m, answer_index, job.row, state, job.rule, chosen);
     if put.full {
         return Advanced {
             calls: n,
@@ -85,24 +91,29 @@ fn enter(
     job: Job,
     calls: &mut [u64],
     n: usize,
+    call_index: &mut [u16],
     answers: &[u64],
     m: usize,
+    answer_index: &[u16],
     marks: &mut [u64],
+    uses: &mut [u32],
     chosen: &mut [u64; 16],
     state: State,
 ) -> Advanced
-    requires { ⌜ Kept (now calls) n (now answers) m × Stamped (now marks) (job .walk) × (at < 16) × (job .known ≤ m) ⌝ }
-    ensures { λ r. ⌜ (length (now (calls .exit)) ≡ length (now (calls .entry))) × Stored 2 (now (calls .exit)) (r .calls) × (r .answers ≡ m) ⌝ }
+    requires { ⌜ Kept (now calls) n (now answers) m × Stamped (now marks) (job .walk) × (at < 16) × (job .known ≤ m) × (job .row < 65536) × (length (now uses) ≡ 65536) ⌝ }
+    requires { ⌜ Indexed (now calls) n (now «call_index») (now answers) m (now «answer_index») ⌝ }
+    ensures { λ r. ⌜ (length (now (calls .exit)) ≡ length (now (calls .entry))) × Stored 2 (now (calls .exit)) (r .calls) × (r .answers ≡ m) × UsesGrew (now (uses .entry)) (now (uses .exit)) ⌝ }
+    ensures { λ r. ⌜ CallIndex (calls-in 2 (now (calls .exit)) (r .calls)) (now («call_index» .exit)) ⌝ }
     ensures { λ r. ⌜ ((bodies : Bodies) (roots : List (ℕ × ℕ)) (b : Tables) (body : List ℕ) → at < length body → 2 < getD body at 0 / 256 → getD body at 0 ≡ step
-        → Turning bodies (Among roots) b (job .known) (job .rule) (job .row) (job .walk) body (in-words (now (calls .entry)) n (now (answers .entry)) m) (now (marks .entry)) (now (chosen .entry)) at (state .0)
+        → Turning bodies (Among roots) b (job .known) (job .rule) (job .row) (job .walk) body (in-words (now (calls .entry)) n (now (answers .entry)) m) (now (marks .entry)) (now (uses .entry)) (now (chosen .entry)) at (state .0)
         → Stepped (r .front) bodies (Among roots) b job body (length (now (calls .entry))) (length (now (answers .entry))) (now (chosen .entry)) at (state .0)
-        (in-words (now (calls .exit)) (r .calls) (now (answers .entry)) m) (now (marks .exit)) (now (chosen .exit))) ⌝ }
+        (in-words (now (calls .exit)) (r .calls) (now (answers .entry)) m) (now (marks .exit)) (now (uses .exit)) (now (chosen .exit))) ⌝ }
 {
     let call = Call {
         action: word::index(step),
         state: state,
     };
-    let put = tables::add_call(calls, n, call);
+    let put = index::add_call(calls, n, call_index, call);
     let row = put.row;
     let count = put.count;
     if put.full {
@@ -112,6 +123,7 @@ fn enter(
             front: Front::Full,
         };
     }
+    uses::note(uses, job.row, row);
     if marks::is_marked(marks, job.walk, at, row) {
         return Advanced {
             calls: count,
@@ -120,7 +132,7 @@ fn enter(
         };
     }
     marks::mark(marks, job.walk, at, row);
-    let first = tables::next_answer(answers, job.known, row as u64, 0);
+    let first = index::first_answer(answers, job.known, answer_index, row);
     if first == job.known {
         return Advanced {
             calls: count,
@@ -143,25 +155,43 @@ fn advance(
     job: Job,
     calls: &mut [u64],
     n: usize,
+    call_index: &mut [u16],
     answers: &mut [u64],
     m: usize,
+    answer_index: &mut [u16],
     marks: &mut [u64],
+    uses: &mut [u32],
     chosen: &mut [u64; 16],
     state: State,
 ) -> Advanced
-    requires { ⌜ Kept (now calls) n (now answers) m × Stamped (now marks) (job .walk) × (at + length (now rest) ≤ 16) × (job .known ≤ m) ⌝ }
-    ensures { λ r. ⌜ Stays (now (calls .entry)) (now (answers .entry)) (now (calls .exit)) (r .calls) (now (answers .exit)) (r .answers) ⌝ }
+    requires { ⌜ Kept (now calls) n (now answers) m × Stamped (now marks) (job .walk) × (at + length (now rest) ≤ 16) × (job .known ≤ m) × (job .row < 65536) × (length (now uses) ≡ 65536) ⌝ }
+    requires { ⌜ Indexed (now calls) n (now «call_index») (now answers) m (now «answer_index») ⌝ }
+    ensures { λ r. ⌜ Stays (now (calls .entry)) (now (answers .entry)) (now (uses .entry)) (now (calls .exit)) (r .calls) (now («call_index» .exit)) (now (answers .exit)) (r .answers) (now («answer_index» .exit)) (now (uses .exit)) ⌝ }
     ensures { λ r. ⌜ ((bodies : Bodies) (roots : List (ℕ × ℕ)) (b : Tables) (body : List ℕ) → now (rest .entry) ≡ drop at body
-        → Turning bodies (Among roots) b (job .known) (job .rule) (job .row) (job .walk) body (in-words (now (calls .entry)) n (now (answers .entry)) m) (now (marks .entry)) (now (chosen .entry)) at (state .0)
+        → Turning bodies (Among roots) b (job .known) (job .rule) (job .row) (job .walk) body (in-words (now (calls .entry)) n (now (answers .entry)) m) (now (marks .entry)) (now (uses .entry)) (now (chosen .entry)) at (state .0)
         → Stepped (r .front) bodies (Among roots) b job body (length (now (calls .entry))) (length (now (answers .entry))) (now (chosen .entry)) at (state .0)
-        (in-words (now (calls .exit)) (r .calls) (now (answers .exit)) (r .answers)) (now (marks .exit)) (now (chosen .exit))) ⌝ }
+        (in-words (now (calls .exit)) (r .calls) (now (answers .exit)) (r .answers)) (now (marks .exit)) (now (uses .exit)) (now (chosen .exit))) ⌝ }
 {
     if rest.len() == 0 {
-        return finish(job, n, answers, m, chosen, state);
+        return finish(job, n, answers, m, answer_index, chosen, state);
     }
     let step = rest[0];
     if word::is_call(step) {
-        return enter(step, at, job, calls, n, answers, m, marks, chosen, state);
+        return enter(
+            step,
+            at,
+            job,
+            calls,
+            n,
+            call_index,
+            answers,
+            m,
+            answer_index,
+            marks,
+            uses,
+            chosen,
+            state,
+        );
     }
     let next = word::elementary(step, state);
     match next {
@@ -188,8 +218,16 @@ pub struct Later {
 }
 
 // The place after the latest call step with an answer left, and that answer; place 0 where there is none.
-fn retreat(body: &[u16], answers: &[u64], known: usize, chosen: &[u64; 16], at: usize) -> Later
-    requires { ⌜ (19 * known ≤ length (now answers)) × (known ≤ 65536) × (at ≤ length (now body)) × (at ≤ 16) × Chosen (now body) known (now chosen) at ⌝ }
+fn retreat(
+    body: &[u16],
+    answers: &[u64],
+    known: usize,
+    index: &[u16],
+    chosen: &[u64; 16],
+    at: usize,
+) -> Later
+    requires { ⌜ (known ≤ 65536) × (at ≤ length (now body)) × (at ≤ 16) × Chosen (now body) known (now chosen) at ⌝ }
+    requires { ⌜ ((m : ℕ) × (known ≤ m) × (19 * m ≤ length (now answers)) × AnswerIndex (answers-in 19 (now answers) m) (now index)) ⌝ }
     ensures { λ r. ⌜ RetreatRow (now (body .entry)) (answers-in 19 (now (answers .entry)) known) known (now (chosen .entry)) at (r .at) (r .answer) ⌝ }
 {
     let mut place = at;
@@ -197,8 +235,7 @@ fn retreat(body: &[u16], answers: &[u64], known: usize, chosen: &[u64; 16], at: 
         place -= 1;
         if word::is_call(body[place]) {
             let last = chosen[place] as usize;
-            let row = tables::call_of(answers, last);
-            let later = tables::next_answer(answers, known, row, last + 1);
+            let later = index::later_answer(answers, known, index, last);
             if later < known {
                 return Later {
                     at: place + 1,
@@ -217,11 +254,19 @@ pub struct Went {
 }
 
 // Takes the next answer of the latest call step that has one left: the place after it and its final state; place 0 where there is none.
-fn go_back(body: &[u16], answers: &[u64], known: usize, chosen: &mut [u64; 16], at: usize) -> Went
-    requires { ⌜ (19 * known ≤ length (now answers)) × (known ≤ 65536) × (at ≤ length (now body)) × (at ≤ 16) × Chosen (now body) known (now chosen) at ⌝ }
+fn go_back(
+    body: &[u16],
+    answers: &[u64],
+    known: usize,
+    index: &[u16],
+    chosen: &mut [u64; 16],
+    at: usize,
+) -> Went
+    requires { ⌜ (known ≤ 65536) × (at ≤ length (now body)) × (at ≤ 16) × Chosen (now body) known (now chosen) at ⌝ }
+    requires { ⌜ ((m : ℕ) × (known ≤ m) × (19 * m ≤ length (now answers)) × AnswerIndex (answers-in 19 (now answers) m) (now index)) ⌝ }
     ensures { λ r. ⌜ WentBack (now (body .entry)) (now (answers .entry)) known (now (chosen .entry)) at (now (chosen .exit)) (r .at) (r .state .0) ⌝ }
 {
-    let back = retreat(body, answers, known, chosen, at);
+    let back = retreat(body, answers, known, index, chosen, at);
     let after = back.at;
     let answer = back.answer;
     if after == 0 {
@@ -259,23 +304,40 @@ pub fn turn(
     job: Job,
     calls: &mut [u64],
     n: usize,
+    call_index: &mut [u16],
     answers: &mut [u64],
     m: usize,
+    answer_index: &mut [u16],
     marks: &mut [u64],
+    uses: &mut [u32],
     chosen: &mut [u64; 16],
     state: State,
 ) -> Moved
-    requires { ⌜ Kept (now calls) n (now answers) m ⌝ }
+    requires { ⌜ Kept (now calls) n (now answers) m × Indexed (now calls) n (now «call_index») (now answers) m (now «answer_index») × (length (now uses) ≡ 65536) ⌝ }
     requires { ⌜ ((bodies : Bodies) × (roots : List (ℕ × ℕ)) × (b : Tables)
-        × Going bodies (Among roots) b (job .known) (job .rule) (job .row) (job .walk) (now body) (in-words (now calls) n (now answers) m) (now marks) (now chosen) (now rest) (state .0)) ⌝ }
-    ensures { λ r. ⌜ Stays (now (calls .entry)) (now (answers .entry)) (now (calls .exit)) (r .calls) (now (answers .exit)) (r .answers) ⌝ }
+        × Going bodies (Among roots) b (job .known) (job .rule) (job .row) (job .walk) (now body) (in-words (now calls) n (now answers) m) (now marks) (now uses) (now chosen) (now rest) (state .0)) ⌝ }
+    ensures { λ r. ⌜ Stays (now (calls .entry)) (now (answers .entry)) (now (uses .entry)) (now (calls .exit)) (r .calls) (now («call_index» .exit)) (now (answers .exit)) (r .answers) (now («answer_index» .exit)) (now (uses .exit)) ⌝ }
     ensures { λ r. ⌜ ((bodies : Bodies) (roots : List (ℕ × ℕ)) (b : Tables)
-        → Going bodies (Among roots) b (job .known) (job .rule) (job .row) (job .walk) (now (body .entry)) (in-words (now (calls .entry)) n (now (answers .entry)) m) (now (marks .entry)) (now (chosen .entry)) (now (rest .entry)) (state .0)
+        → Going bodies (Among roots) b (job .known) (job .rule) (job .row) (job .walk) (now (body .entry)) (in-words (now (calls .entry)) n (now (answers .entry)) m) (now (marks .entry)) (now (uses .entry)) (now (chosen .entry)) (now (rest .entry)) (state .0)
         → Outcome (r .next) bodies (Among roots) b job (now (body .entry)) (length (now (calls .entry))) (length (now (answers .entry))) (now (chosen .entry)) (length (now (body .entry)) - length (now (rest .entry)))
-        (in-words (now (calls .exit)) (r .calls) (now (answers .exit)) (r .answers)) (now (marks .exit)) (now (chosen .exit))) ⌝ }
+        (in-words (now (calls .exit)) (r .calls) (now (answers .exit)) (r .answers)) (now (marks .exit)) (now (uses .exit)) (now (chosen .exit))) ⌝ }
 {
     let at = body.len() - rest.len();
-    let a = advance(rest, at, job, calls, n, answers, m, marks, chosen, state);
+    let a = advance(
+        rest,
+        at,
+        job,
+        calls,
+        n,
+        call_index,
+        answers,
+        m,
+        answer_index,
+        marks,
+        uses,
+        chosen,
+        state,
+    );
     let front = a.front;
     match front {
         Front::On(after) => Moved {
@@ -289,7 +351,7 @@ pub fn turn(
             next: Next::Full,
         },
         Front::Spent => {
-            let back = go_back(body, answers, job.known, chosen, at);
+            let back = go_back(body, answers, job.known, answer_index, chosen, at);
             let place = back.at;
             let there = back.state;
             if place == 0 {

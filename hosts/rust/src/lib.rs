@@ -1,7 +1,8 @@
 //! Safe functions over the proved library: read a rehearsal sheet, evaluate its goal, list the path of an answer.
 //!
 //! The caller lends all memory as slices. What each slice holds afterwards, for every
-//! refusal, is said at each function. [`evaluate`] needs some 640 KiB of stack, [`path`] some 1.1 MiB.
+//! refusal, is said at each function. [`evaluate`] needs 1.75 MiB of stack, [`path`] some 1.1 MiB: a thread of the
+//! standard library has 2 MiB.
 //!
 //! ```
 //! let text = b"fluent\ta\nfluent\tb\naction\tg\nrule\tg\t!g\t?a\t+b\nrule\tg\t+a\nstart\ngoal\t!g\n";

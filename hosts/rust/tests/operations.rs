@@ -59,6 +59,7 @@ fn refused_sheets() {
     assert_eq!(refusal(b"start\ngoal\t\n"), unread(Refusal::BadField, 2));
     assert_eq!(refusal(b"fluent\ta\naction\ta\n"), unread(Refusal::Repeated, 2));
     assert_eq!(refusal(b"start\ta\n"), unread(Refusal::Undefined, 1));
+    assert_eq!(refusal(&[b"start\ngoal".as_slice(), &b"\t+a".repeat(17), b"\n"].concat()), unread(Refusal::TooMany, 2));
     assert_eq!(refusal(b""), unread(Refusal::Incomplete, 0));
     assert!(rules.iter().all(|&w| w == 7));
     assert_eq!(read(EXAMPLE, &mut [7; 35]), Err(unread(Refusal::NoRoom, 0)));
@@ -140,9 +141,15 @@ fn path_of_the_goals_answer() {
     let mut states = [MARK; 5];
     assert_eq!(path(&question, &records, goal, &mut states), Ok(4));
     assert_eq!(states, [0, 1, 3, 2, MARK]);
+    states = [MARK; 5];
+    let bad_goal = Question { goal: &[770], ..question };
+    assert_eq!(path(&Question { fluents: 65, ..question }, &records, goal, &mut states), Err(Refusal::BadCounts));
+    assert_eq!(path(&Question { rules: &rules[..35], ..question }, &records, goal, &mut states), Err(Refusal::BadLength));
+    assert_eq!(path(&Question { actions: 1, ..question }, &records, goal, &mut states), Err(Refusal::BadRule));
+    assert_eq!(path(&bad_goal, &records, goal, &mut states), Err(Refusal::BadGoal));
     assert_eq!(path(&question, &records, goal, &mut states[..3]), Err(Refusal::StatesShort));
     assert_eq!(path(&question, &records, 3, &mut states), Err(Refusal::NoRecord));
     assert_eq!(path(&question, &Records { call_count: 9, ..records }, goal, &mut states), Err(Refusal::BadRecordCount));
     assert_eq!(path(&question, &Records { call_count: 0, ..records }, goal, &mut states), Err(Refusal::BadRecord));
-    assert_eq!(states, [0, 1, 3, 2, MARK]);
+    assert_eq!(states, [MARK; 5]);
 }

@@ -4,37 +4,45 @@ use native.Mathlib.Omega.{arith}
 use mathlib.Core.Path.{_≡_, refl, sym, ap, subst, _∙_}
 use mathlib.Core.Bool.{false, true}
 use mathlib.Core.List.{List, [], _∷_}
-use lib.ListN.{length}
+use lib.ListN.{length, length-replicate}
 use borrow.Author.Needs.{needs}
 use Rattle.steps.proofs.EachBelow.{true-not-false}
 use Rattle.tabling.specs.Records.{bodies-of, room, calls-in, answers-in}
 use Rattle.tabling.proofs.Storage.{CallPut}
 use Rattle.tabling.proofs.Evidence.{Among, Valid}
 use Rattle.tabling.proofs.Marks.{zeros-stamped}
+use Rattle.tabling.proofs.Index.{call-index-none, answer-index-none}
 use Rattle.tabling.proofs.Going.{in-words}
 use Rattle.tabling.proofs.Filling.{Filled, first-valid, first-full}
 use Rattle.evaluator.proofs.Outcomes.{zeros-stored}
 use Rattle.evaluator.proofs.tabulate.Statement.{statement}
 use Rattle.evaluator.proofs.tabulate.Tie as tie
 
+-- where the function begins, and what it is asked
+abbrev start : tie.After-add-call → tie.Start
+start c = c .before .before .before .before .before .before .before .before
+
+slice-aggregate-add-call : tie.Need-slice-aggregate-add-call
+slice-aggregate-add-call c = search needs
+
 goal-requires : tie.Need-goal-requires
 goal-requires c κs = search needs
 
 add-call-requires : tie.Need-add-call-requires
-add-call-requires c κs = zeros-stored 2 _ (c .before .before .before .before .before .before .pre .1 .0)
+add-call-requires c κs = let i = c .before .before .before .before .before .before .before in (zeros-stored 2 _ (i .pre .1 .0), call-index-none (calls-in 2 (i .args .calls .now) 0) _ refl (length-replicate {A = ℕ} 131072 0))
 
 -- the goal's call
-put-at : (c : tie.After-add-call) → CallPut (room 2 (length (c .before .before .before .before .before .before .before .args .calls .now))) (calls-in 2 (c .before .before .before .before .before .before .before .args .calls .now) 0) 64 (c .before .before .before .before .before .before .before .args .start) (calls-in 2 (c .add-call .last .0) (c .add-call .result .count)) (c .add-call .result .row) (c .add-call .result .full)
-put-at c = rw (← c .before .goal .ensures .0, ← c .before .goal .ensures .1) (c .add-call .ensures .put)
+put-at : (c : tie.After-add-call) → CallPut (room 2 (length (c .before .before .before .before .before .before .before .before .args .calls .now))) (calls-in 2 (c .before .before .before .before .before .before .before .before .args .calls .now) 0) 64 (c .before .before .before .before .before .before .before .before .args .start) (calls-in 2 (c .add-call .last .0) (c .add-call .result .count)) (c .add-call .result .row) (c .add-call .result .full)
+put-at c = rw (← c .before .goal .ensures .0, ← c .before .goal .ensures .1) (c .add-call .ensures .0 .put)
 
 same-length : tie.Need-same-length
-same-length c = search needs
+same-length c = c .before .before .before .before .add-call .ensures .0 .long
 
 returns : tie.Need-returns
 returns c =
-    let p = c .before .before .before in
-    let i = p .before .before .before .before .before .before .before in
-    let s = p .add-call .ensures in
+    let p = c .before .before .before .before in
+    let i = start p in
+    let s = p .add-call .ensures .0 in
     record {
       calls-long = s .long;
       answers-long = refl;
@@ -44,46 +52,68 @@ returns c =
     }
 
 -- the first table is valid
-first : (c : tie.Else1) → Valid (bodies-of (c .before .before .before .before .before .before .before .before .before .before .args .rules .now) (c .before .before .before .before .before .before .before .before .before .before .args .goal .now)) (Among ((64, c .before .before .before .before .before .before .before .before .before .before .args .start) ∷ []))
-    (in-words (c .before .before .before .add-call .last .0) (c .before .before .before .add-call .result .count) (c .before .before .before .before .before .before .before .before .before .before .args .answers .now) 0)
+first : (c : tie.Else1) → Valid (bodies-of (start (c .before .before .before .before) .args .rules .now) (start (c .before .before .before .before) .args .goal .now)) (Among ((64, start (c .before .before .before .before) .args .start) ∷ []))
+    (in-words (c .before .before .before .before .add-call .last .0) (c .before .before .before .before .add-call .result .count) (start (c .before .before .before .before) .args .answers .now) 0)
 first c =
-    let p = c .before .before .before in
-    let i = p .before .before .before .before .before .before .before in
+    let p = c .before .before .before .before in
+    let i = start p in
     first-valid (bodies-of (i .args .rules .now) (i .args .goal .now)) 64 (i .args .start) _ (calls-in 2 (i .args .calls .now) 0) (calls-in 2 (p .add-call .last .0) (p .add-call .result .count)) (answers-in 19 (i .args .answers .now) 0) _ _ (put-at p) (c .if1 .left) refl refl
 
 slice-aggregate-fill : tie.Need-slice-aggregate-fill
 slice-aggregate-fill c = search needs
 
+slice-aggregate-fill-2 : tie.Need-slice-aggregate-fill-2
+slice-aggregate-fill-2 c = search needs
+
+slice-aggregate-fill-3 : tie.Need-slice-aggregate-fill-3
+slice-aggregate-fill-3 c = search needs
+
+slice-aggregate-fill-4 : tie.Need-slice-aggregate-fill-4
+slice-aggregate-fill-4 c = search needs
+
 fill-requires : tie.Need-fill-requires
 fill-requires c κs =
-    let e = c .before .before .before in
-    let i = e .before .before .before .before .before .before .before .before .before .before in
-    ((record { calls-stored = e .before .before .before .add-call .ensures .stored; answers-stored = zeros-stored 19 _ (i .pre .1 .1) }, zeros-stamped 65536 0 refl (omega arith), omega arith), (i .pre .0, ((64, i .args .start) ∷ [], first e)))
+    let e = c .before .before .before .before .before .before in
+    let p = e .before .before .before .before in
+    let i = start p in (
+      (
+        record { calls-stored = p .add-call .ensures .0 .stored; answers-stored = zeros-stored 19 _ (i .pre .1 .1) },
+        record { of-calls = p .add-call .ensures .1; of-answers = answer-index-none (answers-in 19 (i .args .answers .now) 0) _ refl (length-replicate {A = ℕ} 327680 0) },
+        zeros-stamped 65536 0 refl (omega arith),
+        omega arith,
+        length-replicate {A = ℕ} 65536 0,
+      ),
+      (i .pre .0, ((64, i .args .start) ∷ [], first e)),
+    )
 
 same-length-2 : tie.Need-same-length-2
-same-length-2 c = search needs
+same-length-2 c = let f = c .before .before .before .before .before .before .before .before in let e = c .before .before .before .before .before .before .before .before .before .before .before .before .before .before .before in let i = start (e .before .before .before .before) in f .fill .ensures ((64, i .args .start) ∷ []) (first e) .calls-long ∙ e .before .before .before .before .add-call .ensures .0 .long
 
 same-length-3 : tie.Need-same-length-3
-same-length-3 c = search needs
+same-length-3 c = let f = c .before .before .before .before .before .before .before .before in let e = c .before .before .before .before .before .before .before .before .before .before .before .before .before .before .before in let i = start (e .before .before .before .before) in f .fill .ensures ((64, i .args .start) ∷ []) (first e) .answers-long
 
 returns-2 : tie.Need-returns-2
 returns-2 c =
-    let f = c .before .before .before .before .before in
-    let e = f .before .before .before .before in
-    let i = e .before .before .before .before .before .before .before .before .before .before in
+    let f = c .before .before .before .before .before .before .before .before in
+    let e = c .before .before .before .before .before .before .before .before .before .before .before .before .before .before .before in
+    let i = start (e .before .before .before .before) in
     let F = f .fill .ensures ((64, i .args .start) ∷ []) (first e) in
-    let long = e .before .before .before .add-call .ensures .long in
+    let long = e .before .before .before .before .add-call .ensures .0 .long in
     record { calls-long = F .calls-long ∙ long; answers-long = F .answers-long; kept = F .kept; closed = F .closed; outgrown = λ z. rw long at (F .outgrown z) }
 
 pub tabulate-spec : {M : Type 1} → statement M
 tabulate-spec =
     tie.close
     (tie.spec
+    slice-aggregate-add-call
     goal-requires
     add-call-requires
     same-length
     returns
     slice-aggregate-fill
+    slice-aggregate-fill-2
+    slice-aggregate-fill-3
+    slice-aggregate-fill-4
     fill-requires
     same-length-2
     same-length-3

@@ -10,26 +10,40 @@ use Rattle.steps.specs.Words.{step-of}
 use Rattle.steps.specs.Elementary.{on, stuck, elementary}
 use Rattle.steps.specs.Next.{onward}
 use Rattle.tabling.proofs.Evidence.{Among}
+use Rattle.tabling.proofs.Uses.{uses-refl}
 use Rattle.tabling.proofs.Measure.{left-on}
 use Rattle.tabling.proofs.Turn.{turn-forward, turn-stuck}
 use Rattle.tabling.proofs.Going.{tail-some, tail-none, tail-word}
 use Rattle.walk.proofs.advance.Statement.{statement}
 use Rattle.walk.proofs.advance.Tie as tie
 
+-- where the function begins, and what it is asked
+abbrev start : tie.After-slice-known6 → tie.Start
+start c = c .before .before .before .before .before .before .before
+
 finish-requires : tie.Need-finish-requires
-finish-requires c κs = search needs
+finish-requires c κs = let i = start (c .before .before .before .before) in (i .pre .0 .0 .answers-stored, i .pre .1 .of-answers, i .pre .0 .4)
 
 same-length : tie.Need-same-length
 same-length c = search needs
 
+same-length-2 : tie.Need-same-length-2
+same-length-2 c = search needs
+
 returns : tie.Need-returns
 returns c =
-    let f = c .before .before .finish .ensures in
-    let t = c .before .before .before .before .before in
-    let i = t .before .before .before .before .before in
+    let f = c .before .before .before .before .finish .ensures in
+    let t = c .before .before .before .before .before .before .before .before in
+    let i = start (t .before) in
     let a = i .args in (
-      record { calls-long = refl; answers-long = f .0 .0; kept = record { calls-stored = rw (f .0 .2) (i .pre .0 .calls-stored); answers-stored = f .0 .1 } },
-      λ bodies roots b body q T. rw (f .0 .2) (f .1 bodies roots b body (a .calls .now) (a .marks .now) (a .at) (tail-none (a .rest .now) body (a .at) q (omega (arith, t .if1 .taken))) T),
+      record {
+        calls-long = refl;
+        answers-long = f .0 .0;
+        kept = record { calls-stored = rw (f .0 .2) (i .pre .0 .0 .calls-stored); answers-stored = f .0 .1 };
+        indexed = record { of-calls = rw (f .0 .2) (i .pre .1 .of-calls); of-answers = f .1 .0 };
+        uses-more = uses-refl _;
+      },
+      λ bodies roots b body q T. rw (f .0 .2) (f .1 .1 bodies roots b body (a .calls .now) (a .marks .now) (a .uses .now) (a .at) (tail-none (a .rest .now) body (a .at) q (omega (arith, t .if1 .taken))) T),
     )
 
 shared-slice-read-step : tie.Need-shared-slice-read-step
@@ -39,10 +53,10 @@ is-call-requires : tie.Need-is-call-requires
 is-call-requires c κs = search needs
 
 enter-requires : tie.Need-enter-requires
-enter-requires c κs = search needs
-
-same-length-2 : tie.Need-same-length-2
-same-length-2 c = search needs
+enter-requires c κs =
+    let d = c .before .before .before .before .before .before .before .before .before .before in
+    let i = start (d .before) in
+    ((i .pre .0 .0, i .pre .0 .1, omega (arith, i .pre .0 .2, d .if1 .left), i .pre .0 .3, i .pre .0 .4, i .pre .0 .5), i .pre .1)
 
 same-length-3 : tie.Need-same-length-3
 same-length-3 c = search needs
@@ -50,19 +64,36 @@ same-length-3 c = search needs
 same-length-4 : tie.Need-same-length-4
 same-length-4 c = search needs
 
+same-length-5 : tie.Need-same-length-5
+same-length-5 c = search needs
+
+same-length-6 : tie.Need-same-length-6
+same-length-6 c = search needs
+
+same-length-7 : tie.Need-same-length-7
+same-length-7 c = search needs
+
+same-length-8 : tie.Need-same-length-8
+same-length-8 c = search needs
+
 returns-2 : tie.Need-returns-2
 returns-2 c =
-    let n = c .before .before .before .before in
-    let f = n .enter .ensures in
-    let t = n .before .before .before .before .before in
-    let d = t .before .before .before in
-    let i = d .before .before .before .before .before in
+    let f = c .before .before .before .before .before .before .before .before .enter .ensures in
+    let t = c .before .before .before .before .before .before .before .before .before .before .before .before .before .before .before .before in
+    let d = c .before .before .before .before .before .before .before .before .before .before .before .before .before .before .before .before .before .before .before in
+    let i = start (d .before) in
     let a = i .args in
     let yes : 2 < getD (a .rest .now) 0 0 / 256 = ltb-true 2 _ (sym (t .before .is-call .ensures) ∙ t .if2 .taken) in (
-      record { calls-long = f .0 .0; answers-long = refl; kept = record { calls-stored = f .0 .1; answers-stored = rw (f .0 .2) (i .pre .0 .answers-stored) } },
+      record {
+        calls-long = f .0 .0;
+        answers-long = refl;
+        kept = record { calls-stored = f .0 .1; answers-stored = rw (f .0 .2) (i .pre .0 .0 .answers-stored) };
+        indexed = record { of-calls = f .1 .0; of-answers = rw (f .0 .2) (i .pre .1 .of-answers) };
+        uses-more = f .0 .3;
+      },
       λ bodies roots b body q T.
           (let w = tail-word (a .rest .now) body (a .at) q in
-          rw (f .0 .2) (f .1 bodies roots b body (tail-some (a .rest .now) body (a .at) q (omega (arith, d .if1 .left))) (rw w at yes) (sym w) T)),
+          rw (f .0 .2) (f .1 .1 bodies roots b body (tail-some (a .rest .now) body (a .at) q (omega (arith, d .if1 .left))) (rw w at yes) (sym w) T)),
     )
 
 elementary-requires : tie.Need-elementary-requires
@@ -84,16 +115,16 @@ returns-3 : tie.Need-returns-3
 unfolding onward
 returns-3 c =
     let e = c .before .before .before in
-    let d = e .before .before .before .before in
-    let i = d .before .before .before .before .before in
+    let d = c .before .before .before .before .before .before .before in
+    let i = start (d .before) in
     let a = i .args in
     let j = a .job in
     let went = sym (e .elementary .ensures) ∙ ap onward (c .before .next .given .1) in (
-      record { calls-long = refl; answers-long = refl; kept = i .pre .0 },
+      record { calls-long = refl; answers-long = refl; kept = i .pre .0 .0; indexed = i .pre .1; uses-more = uses-refl _ },
       λ bodies roots b body q T.
           (let h = tail-some (a .rest .now) body (a .at) q (omega (arith, d .if1 .left)) in (
             turn-forward bodies (Among roots) b (j .known) (j .rule) (j .row) (j .walk) body T h (rw (tail-word (a .rest .now) body (a .at) q) at went),
-            left-on (j .known) (a .chosen .now) (set (a .chosen .now) (a .at) 0) (a .at) (a .at) (λ q l. getD-set-other (a .chosen .now) (a .at) q 0 0 (omega arith)) (omega (arith, i .pre .2, d .if1 .left)) refl,
+            left-on (j .known) (a .chosen .now) (set (a .chosen .now) (a .at) 0) (a .at) (a .at) (λ q l. getD-set-other (a .chosen .now) (a .at) q 0 0 (omega arith)) (omega (arith, i .pre .0 .2, d .if1 .left)) refl,
           )),
     )
 
@@ -102,13 +133,13 @@ unfolding onward
 returns-4 c =
     let e = c .before .before in
     let l = e .before in
-    let d = l .before .before .before in
-    let i = d .before .before .before .before .before in
+    let d = c .before .before .before .before .before .before in
+    let i = start (d .before) in
     let a = i .args in
     let j = a .job in
     let went = sym (e .elementary .ensures) ∙ ap onward (c .enum-told .given .1) in
     let no : getD (a .rest .now) 0 0 / 256 ≤ 2 = ltb-false 2 _ (sym (l .before .is-call .ensures) ∙ l .if2 .left) in (
-      record { calls-long = refl; answers-long = refl; kept = i .pre .0 },
+      record { calls-long = refl; answers-long = refl; kept = i .pre .0 .0; indexed = i .pre .1; uses-more = uses-refl _ },
       λ bodies roots b body q T.
           (let w = tail-word (a .rest .now) body (a .at) q in
           (turn-stuck bodies (Among roots) b (j .known) (j .rule) (j .row) (j .walk) body T (tail-some (a .rest .now) body (a .at) q (omega (arith, d .if1 .left))) (rw w at no) (rw w at went), refl)),
@@ -120,13 +151,17 @@ advance-spec =
     (tie.spec
     finish-requires
     same-length
+    same-length-2
     returns
     shared-slice-read-step
     is-call-requires
     enter-requires
-    same-length-2
     same-length-3
     same-length-4
+    same-length-5
+    same-length-6
+    same-length-7
+    same-length-8
     returns-2
     elementary-requires
     enum-known-next

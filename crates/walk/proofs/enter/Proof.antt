@@ -6,141 +6,198 @@ use mathlib.Core.Bool.{false}
 use lib.ListN.{length, getD, set}
 use lib.Seq.{getD-set-other}
 use borrow.Author.Needs.{needs}
-use Rattle.tabling.specs.Records.{room, calls-in}
-use Rattle.tabling.proofs.Storage.{CallPut}
+use mathlib.Core.List.{List}
+use Rattle.tabling.specs.Records.{Bodies, room, calls-in}
+use Rattle.tabling.proofs.Growth.{Tables}
+use Rattle.tabling.proofs.Storage.{CallPut, CallAt}
 use Rattle.tabling.proofs.StorageLaws.{put-row}
 use Rattle.tabling.proofs.Evidence.{Among}
+use Rattle.tabling.proofs.Uses.{uses-refl, use-new, use-grew}
 use Rattle.tabling.proofs.Measure.{left-on}
-use Rattle.tabling.proofs.Turn.{turn-called, turn-calls-full, turn-seen, turn-none, turn-take}
+use Rattle.tabling.proofs.Turn.{Turning, turn-called, turn-calls-full, turn-noted, turn-seen, turn-none, turn-take}
 use Rattle.tabling.proofs.Going.{next-among}
 use Rattle.walk.proofs.enter.Statement.{statement}
 use Rattle.walk.proofs.enter.Tie as tie
+
+-- where the function begins, and what it is asked
+abbrev start : tie.After-add-call → tie.Start
+start c = c .before .before .before .before .before .before .before .before .before .before
+
+-- where the call has been put, from where its mark has been looked at
+abbrev put : tie.After-is-marked → tie.After-add-call
+put c = c .before .before .before .before .before .before .before .before .before .before .before
+
+-- the call put is that of the step in front
+put-at : (c : tie.After-add-call) {a : ℕ} → a ≡ start c .args .step
+    → CallPut (room 2 (length (start c .args .calls .now))) (calls-in 2 (start c .args .calls .now) (start c .args .n)) (a % 256)
+    (start c .args .state .0) (calls-in 2 (c .add-call .last .0) (c .add-call .result .count)) (c .add-call .result .row) (c .add-call .result .full)
+put-at c z = rw (z, ← c .before .before .before .index .ensures) (c .add-call .ensures .0 .put)
+
+row-small : (c : tie.After-add-call) → c .add-call .result .full ≡ false → c .add-call .result .row < 65536
+row-small c f = let s = c .add-call .ensures .0 in omega (arith, s .stored .most, put-row 2 _ _ _ _ _ _ _ _ s f)
+
+-- the words of uses are long enough for the record that is walked
+use-room : (c : tie.After-add-call) → start c .args .job .row < length (start c .args .uses .now)
+use-room c = let i = start c in omega (arith, i .pre .0 .4, i .pre .0 .5)
 
 index-requires : tie.Need-index-requires
 index-requires c κs = search needs
 
 add-call-requires : tie.Need-add-call-requires
-add-call-requires c κs = search needs
-
--- the call put is that of the step in front
-put-at : (c : tie.After-add-call) {a : ℕ} → a ≡ c .before .before .before .before .before .before .args .step
-    → CallPut (room 2 (length (c .before .before .before .before .before .before .args .calls .now))) (calls-in 2 (c .before .before .before .before .before .before .args .calls .now) (c .before .before .before .before .before .before .args .n)) (a % 256)
-    (c .before .before .before .before .before .before .args .state .0) (calls-in 2 (c .add-call .last .0) (c .add-call .result .count)) (c .add-call .result .row) (c .add-call .result .full)
-put-at c z = rw (z, ← c .before .before .index .ensures) (c .add-call .ensures .put)
-
-row-small : (c : tie.After-add-call) → c .add-call .result .full ≡ false → c .add-call .result .row < 65536
-row-small c f = let s = c .add-call .ensures in omega (arith, s .stored .most, put-row 2 _ _ _ _ _ _ _ _ s f)
+add-call-requires c κs = let i = c .before .before .before .before .before .before .before .before .before in (i .pre .0 .0 .calls-stored, i .pre .1 .of-calls)
 
 same-length : tie.Need-same-length
-same-length c = search needs
+same-length c = c .before .before .before .before .before .add-call .ensures .0 .long
+
+same-length-2 : tie.Need-same-length-2
+same-length-2 c = c .before .before .before .before .before .add-call .ensures .1 .long ∙ sym (start (c .before .before .before .before .before) .pre .1 .of-calls .long)
 
 returns : tie.Need-returns
 returns c =
-    let p = c .before .before .before in
+    let p = c .before .before .before .before .before in
     let s = p .add-call .ensures in
-    let i = p .before .before .before .before .before .before in
+    let i = start p in
     let j = i .args .job in (
-      (s .long, s .stored, refl),
-      λ bodies roots b body h e z T. turn-calls-full bodies (Among roots) b (j .known) (j .rule) (j .row) (j .walk) body T h e (room 19 (length (i .args .answers .now))) (put-at p z) (c .if1 .taken),
+      (s .0 .long, s .0 .stored, refl, uses-refl _),
+      (s .1, λ bodies roots b body h e z T. turn-calls-full bodies (Among roots) b (j .known) (j .rule) (j .row) (j .walk) body T h e (room 19 (length (i .args .answers .now))) (put-at p z) (c .if1 .taken)),
     )
+
+note-requires : tie.Need-note-requires
+note-requires c κs = use-room (c .before .before .before .before .before .before)
 
 is-marked-requires : tie.Need-is-marked-requires
 is-marked-requires c κs =
-    let p = c .before .before .before .before in
-    let i = p .before .before .before .before .before .before in
-    (i .pre .1, row-small p (c .before .if1 .left), i .pre .2)
-
-same-length-2 : tie.Need-same-length-2
-same-length-2 c = search needs
+    let p = c .before .before .before .before .before .before .before .before .before .before in
+    let i = start p in
+    (i .pre .0 .1, row-small p (c .before .before .before .before .before .if1 .left), i .pre .0 .2)
 
 same-length-3 : tie.Need-same-length-3
-same-length-3 c = search needs
-
-returns-2 : tie.Need-returns-2
-returns-2 c =
-    let d = c .before .before .before in
-    let p = d .before .before .before in
-    let s = p .add-call .ensures in
-    let i = p .before .before .before .before .before .before in
-    let j = i .args .job in (
-      (s .long, s .stored, refl),
-      λ bodies roots b body h e z T.
-          (let (U, l, k) = turn-called bodies (Among roots) b (j .known) (j .rule) (j .row) (j .walk) body T h e (put-at p z) (d .if1 .left) in
-          (turn-seen bodies (Among roots) b (j .known) (j .rule) (j .row) (j .walk) body U h e l k (rw (c .if2 .taken) at (c .before .is-marked .ensures)), refl)),
-    )
-
-mark-requires : tie.Need-mark-requires
-mark-requires c κs =
-    let k = c .before in
-    let d = k .before .before .before in
-    let p = d .before .before .before in
-    let i = p .before .before .before .before .before .before in
-    (i .pre .1, row-small p (d .if1 .left), i .pre .2, rw (k .if2 .left) at (k .before .is-marked .ensures))
-
-next-answer-requires : tie.Need-next-answer-requires
-next-answer-requires c κs = search needs
+same-length-3 c = c .before .before .before .before .before .before .before .before .before .before .before .before .add-call .ensures .0 .long
 
 same-length-4 : tie.Need-same-length-4
-same-length-4 c = search needs
+same-length-4 c = c .before .before .before .before .before .before .before .before .before .before .before .before .add-call .ensures .1 .long ∙ sym (start (c .before .before .before .before .before .before .before .before .before .before .before .before) .pre .1 .of-calls .long)
 
 same-length-5 : tie.Need-same-length-5
 same-length-5 c = search needs
 
+same-length-6 : tie.Need-same-length-6
+same-length-6 c = rw (c .before .before .before .before .before .note .ensures) (use-grew _ _ _ (use-room (c .before .before .before .before .before .before .before .before .before .before .before .before)) .long)
+
+returns-2 : tie.Need-returns-2
+returns-2 c =
+    let m = c .before in
+    let p = put m in
+    let s = p .add-call .ensures in
+    let i = start p in
+    let j = i .args .job in (
+      (s .0 .long, s .0 .stored, refl, rw (m .before .before .before .before .note .ensures) (use-grew _ _ _ (use-room p))),
+      (
+        s .1,
+        λ bodies roots b body h e z T.
+            (let (U, l, k) = turn-called bodies (Among roots) b (j .known) (j .rule) (j .row) (j .walk) body T h e (put-at p z) (m .before .before .before .before .before .before .if1 .left) in
+            let N = turn-noted bodies (Among roots) b (j .known) (j .rule) (j .row) (j .walk) body U h e (p .add-call .result .row) (use-room p) in
+            rw (m .before .before .before .before .note .ensures) (turn-seen bodies (Among roots) b (j .known) (j .rule) (j .row) (j .walk) body N h e l k (use-new _ _ _ (use-room p)) (rw (c .if2 .taken) at (m .is-marked .ensures)), refl)),
+      ),
+    )
+
+mark-requires : tie.Need-mark-requires
+mark-requires c κs =
+    let m = c .before .before in
+    let p = put m in
+    let i = start p in
+    (i .pre .0 .1, row-small p (m .before .before .before .before .before .before .if1 .left), i .pre .0 .2, rw (c .before .if2 .left) at (m .is-marked .ensures))
+
+first-answer-requires : tie.Need-first-answer-requires
+first-answer-requires c κs =
+    let m = c .before .before .before .before .before in
+    let i = start (put m) in
+    let k = i .pre .0 .0 .answers-stored in
+    ((row-small (put m) (m .before .before .before .before .before .before .if1 .left), omega (arith, k .most, i .pre .0 .3)), (i .args .m, i .pre .0 .3, k .fits, i .pre .1 .of-answers))
+
+same-length-7 : tie.Need-same-length-7
+same-length-7 c = c .before .before .before .before .before .before .before .before .before .before .before .before .before .before .before .before .before .before .before .add-call .ensures .0 .long
+
+same-length-8 : tie.Need-same-length-8
+same-length-8 c = c .before .before .before .before .before .before .before .before .before .before .before .before .before .before .before .before .before .before .before .add-call .ensures .1 .long ∙ sym (start (c .before .before .before .before .before .before .before .before .before .before .before .before .before .before .before .before .before .before .before) .pre .1 .of-calls .long)
+
+same-length-9 : tie.Need-same-length-9
+same-length-9 c = search needs
+
+same-length-10 : tie.Need-same-length-10
+same-length-10 c = rw (c .before .before .before .before .before .before .before .before .before .before .before .before .note .ensures) (use-grew _ _ _ (use-room (c .before .before .before .before .before .before .before .before .before .before .before .before .before .before .before .before .before .before .before)) .long)
+
 returns-3 : tie.Need-returns-3
 returns-3 c =
     let n = c .before .before in
-    let m = n .before .before .before in
-    let k = m .before .before in
-    let d = k .before .before .before in
-    let p = d .before .before .before in
+    let k = c .before .before .before .before .before in
+    let m = c .before .before .before .before .before .before .before .before in
+    let p = put m in
     let s = p .add-call .ensures in
-    let i = p .before .before .before .before .before .before in
+    let i = start p in
     let j = i .args .job in (
-      (s .long, s .stored, refl),
-      λ bodies roots b body h e z T.
-          (let (U, l, r) = turn-called bodies (Among roots) b (j .known) (j .rule) (j .row) (j .walk) body T h e (put-at p z) (d .if1 .left) in (
-            rw (m .mark .ensures) (turn-none bodies (Among roots) b (j .known) (j .rule) (j .row) (j .walk) body U h e l r (row-small p (d .if1 .left)) (rw (k .if2 .left) at (k .before .is-marked .ensures))
-                (next-among (i .args .answers .now) (i .args .m) (rw (c .if3 .taken) at (n .next-answer .ensures)))),
-            refl,
-          )),
+      (s .0 .long, s .0 .stored, refl, rw (m .before .before .before .before .note .ensures) (use-grew _ _ _ (use-room p))),
+      (
+        s .1,
+        λ bodies roots b body h e z T.
+            (let (U, l, r) = turn-called bodies (Among roots) b (j .known) (j .rule) (j .row) (j .walk) body T h e (put-at p z) (m .before .before .before .before .before .before .if1 .left) in
+            let N = turn-noted bodies (Among roots) b (j .known) (j .rule) (j .row) (j .walk) body U h e (p .add-call .result .row) (use-room p) in (
+              rw (m .before .before .before .before .note .ensures, k .mark .ensures)
+                  (turn-none bodies (Among roots) b (j .known) (j .rule) (j .row) (j .walk) body N h e l r (use-new _ _ _ (use-room p)) (row-small p (m .before .before .before .before .before .before .if1 .left)) (rw (c .before .before .before .before .before .before .before .if2 .left) at (m .is-marked .ensures))
+                  (next-among (i .args .answers .now) (i .args .m) (rw (c .if3 .taken) at (n .first-answer .ensures)))),
+              refl,
+            )),
+      ),
     )
 
 mul-chosen : tie.Need-mul-chosen
-mul-chosen c = search needs
+mul-chosen c = let i = start (put (c .before .before .before .before .before .before .before .before)) in omega (arith, i .pre .0 .2)
 
 element-write-chosen : tie.Need-element-write-chosen
-element-write-chosen c = search needs
+element-write-chosen c = let i = start (put (c .before .before .before .before .before .before .before .before)) in omega (arith, i .pre .0 .2)
 
 final-of-requires : tie.Need-final-of-requires
-final-of-requires c κs = search needs
+final-of-requires c κs =
+    let i = start (put (c .before .before .before .before .before .before .before .before)) in
+    let n = c .before .before .first-answer .ensures in
+    omega (arith, i .pre .0 .0 .answers-stored .fits, i .pre .0 .3, n .high, c .if3 .left)
 
-same-length-6 : tie.Need-same-length-6
-same-length-6 c = search needs
+same-length-11 : tie.Need-same-length-11
+same-length-11 c = c .before .before .before .before .before .before .before .before .before .before .before .before .before .before .before .before .before .before .before .before .add-call .ensures .0 .long
 
-same-length-7 : tie.Need-same-length-7
-same-length-7 c = search needs
+same-length-12 : tie.Need-same-length-12
+same-length-12 c = c .before .before .before .before .before .before .before .before .before .before .before .before .before .before .before .before .before .before .before .before .add-call .ensures .1 .long ∙ sym (start (c .before .before .before .before .before .before .before .before .before .before .before .before .before .before .before .before .before .before .before .before) .pre .1 .of-calls .long)
+
+same-length-13 : tie.Need-same-length-13
+same-length-13 c = search needs
+
+same-length-14 : tie.Need-same-length-14
+same-length-14 c = rw (c .before .before .before .before .before .before .before .before .before .before .before .before .before .note .ensures) (use-grew _ _ _ (use-room (c .before .before .before .before .before .before .before .before .before .before .before .before .before .before .before .before .before .before .before .before)) .long)
 
 returns-4 : tie.Need-returns-4
 returns-4 c =
     let o = c .before in
-    let n = o .before .before in
-    let m = n .before .before .before in
-    let k = m .before .before in
-    let d = k .before .before .before in
-    let p = d .before .before .before in
+    let n = c .before .before .before in
+    let k = c .before .before .before .before .before .before in
+    let m = c .before .before .before .before .before .before .before .before .before in
+    let p = put m in
     let s = p .add-call .ensures in
-    let i = p .before .before .before .before .before .before in
+    let i = start p in
     let j = i .args .job in
     let at = i .args .at in
-    let first = n .next-answer .result in
-    let below : first < j .known = omega (arith, n .next-answer .ensures .high, o .if3 .left) in (
-      (s .long, s .stored, refl),
-      λ bodies roots b body h e z T.
-          (let (U, l, r) = turn-called bodies (Among roots) b (j .known) (j .rule) (j .row) (j .walk) body T h e (put-at p z) (d .if1 .left) in (
-            rw (c .final-of .ensures, m .mark .ensures) (turn-take bodies (Among roots) b (j .known) (j .rule) (j .row) (j .walk) body U h e l r (row-small p (d .if1 .left)) (rw (k .if2 .left) at (k .before .is-marked .ensures)) below
-                (next-among (i .args .answers .now) (i .args .m) (n .next-answer .ensures))),
-            left-on (j .known) (i .args .chosen .now) (set (i .args .chosen .now) at first) at at (λ q l. getD-set-other (i .args .chosen .now) at q first 0 (omega arith)) (i .pre .2) refl,
-          )),
+    let first = n .first-answer .result in
+    let below : first < j .known = omega (arith, n .first-answer .ensures .high, o .if3 .left) in (
+      (s .0 .long, s .0 .stored, refl, rw (m .before .before .before .before .note .ensures) (use-grew _ _ _ (use-room p))),
+      (
+        s .1,
+        λ bodies roots b body h e z T.
+            (let (U, l, r) = turn-called bodies (Among roots) b (j .known) (j .rule) (j .row) (j .walk) body T h e (put-at p z) (m .before .before .before .before .before .before .if1 .left) in
+            let N = turn-noted bodies (Among roots) b (j .known) (j .rule) (j .row) (j .walk) body U h e (p .add-call .result .row) (use-room p) in (
+              rw (c .final-of .ensures, m .before .before .before .before .note .ensures, k .mark .ensures)
+                  (turn-take bodies (Among roots) b (j .known) (j .rule) (j .row) (j .walk) body N h e l r (use-new _ _ _ (use-room p)) (row-small p (m .before .before .before .before .before .before .if1 .left)) (rw (c .before .before .before .before .before .before .before .before .if2 .left) at (m .is-marked .ensures)) below
+                  (next-among (i .args .answers .now) (i .args .m) (n .first-answer .ensures))),
+              left-on (j .known) (i .args .chosen .now) (set (i .args .chosen .now) at first) at at (λ q l. getD-set-other (i .args .chosen .now) at q first 0 (omega arith)) (i .pre .0 .2) refl,
+            )),
+      ),
     )
 
 pub enter-spec : {M : Type 1} → statement M
@@ -150,19 +207,27 @@ enter-spec =
     index-requires
     add-call-requires
     same-length
-    returns
-    is-marked-requires
     same-length-2
+    returns
+    note-requires
+    is-marked-requires
     same-length-3
-    returns-2
-    mark-requires
-    next-answer-requires
     same-length-4
     same-length-5
+    same-length-6
+    returns-2
+    mark-requires
+    first-answer-requires
+    same-length-7
+    same-length-8
+    same-length-9
+    same-length-10
     returns-3
     mul-chosen
     element-write-chosen
     final-of-requires
-    same-length-6
-    same-length-7
+    same-length-11
+    same-length-12
+    same-length-13
+    same-length-14
     returns-4)

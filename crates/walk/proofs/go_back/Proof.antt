@@ -24,11 +24,11 @@ element-write-chosen : tie.Need-element-write-chosen
 element-write-chosen c = search needs
 
 -- the answer is one of those known
-answer-below : (c : tie.Else1) → c .before .retreat .result .answer < c .before .before .before .before .before .args .known
+answer-below : (c : tie.Else1) → c .before .retreat .result .answer < c .before .before .before .before .before .before .args .known
 answer-below c = let r = c .before .retreat in let e : r .result .at ≡ (r .result .at - 1) + 1 = omega arith in r .ensures .found (r .result .at - 1) e .1
 
 final-of-requires : tie.Need-final-of-requires
-final-of-requires c κs = omega (arith, answer-below c)
+final-of-requires c κs = let (m, l, f, x) = c .before .before .before .before .before .before .pre .1 in omega (arith, answer-below c)
 
 returns-2 : tie.Need-returns-2
 returns-2 c =

@@ -13,10 +13,10 @@ use Rattle.walk.proofs.retreat.Statement.{statement}
 use Rattle.walk.proofs.retreat.Tie as tie
 
 abbrev Inv-loop : tie.InvT-loop
-Inv-loop body answers known chosen at place₀ place = (place ≤ at) × ((q : ℕ) → place ≤ q → q < at → SpentRow body (answers-in 19 answers known) known chosen q)
+Inv-loop body answers known index chosen at place₀ place = (place ≤ at) × ((q : ℕ) → place ≤ q → q < at → SpentRow body (answers-in 19 answers known) known chosen q)
 
 abbrev μ-loop : tie.MeasureT-loop
-μ-loop body answers known chosen at place₀ place = place
+μ-loop body answers known index chosen at place₀ place = place
 
 loop-holds : tie.Need-loop-holds Inv-loop μ-loop
 loop-holds c = (omega arith, λ q a b. absurd (omega arith))
@@ -34,12 +34,11 @@ is-call-requires : tie.Need-is-call-requires Inv-loop μ-loop
 is-call-requires c κs = search needs
 
 -- at a call step: the step is a call, and its chosen answer is one
-a-call : (c : tie.Then1 Inv-loop μ-loop) → 2 < getD (c .before .before .before .before .before .before .before .args .body .now) (c .before .before .before .before .loop .place - 1) 0 / 256
+a-call : (c : tie.Then1 Inv-loop μ-loop) → 2 < getD (c .before .before .before .before .before .before .before .before .args .body .now) (c .before .before .before .before .loop .place - 1) 0 / 256
 a-call c = ltb-true 2 _ (sym (c .before .is-call .ensures) ∙ c .if1 .taken)
 
-chosen-below : (c : tie.Then1 Inv-loop μ-loop)
-    → getD (c .before .before .before .before .before .before .before .args .chosen .now) (c .before .before .before .before .loop .place - 1) 0 < c .before .before .before .before .before .before .before .args .known
-chosen-below c = c .before .before .before .before .before .before .before .pre .4 (c .before .before .before .before .loop .place - 1) (omega arith) (a-call c)
+chosen-below : (c : tie.Then1 Inv-loop μ-loop) → getD (c .before .before .before .before .before .before .before .before .args .chosen .now) (c .before .before .before .before .loop .place - 1) 0 < c .before .before .before .before .before .before .before .before .args .known
+chosen-below c = c .before .before .before .before .before .before .before .before .pre .0 .3 (c .before .before .before .before .loop .place - 1) (omega arith) (a-call c)
 
 mul-last : tie.Need-mul-last Inv-loop μ-loop
 mul-last c = omega arith
@@ -47,27 +46,19 @@ mul-last c = omega arith
 element-copy-out-last : tie.Need-element-copy-out-last Inv-loop μ-loop
 element-copy-out-last c = omega arith
 
-call-of-requires : tie.Need-call-of-requires Inv-loop μ-loop
-call-of-requires c κs = omega (arith, chosen-below (c .before))
-
-add-next-answer : tie.Need-add-next-answer Inv-loop μ-loop
-add-next-answer c = omega (arith, chosen-below (c .before .before))
-
-next-answer-requires : tie.Need-next-answer-requires Inv-loop μ-loop
-next-answer-requires c κs = omega (arith, chosen-below (c .before .before))
+later-answer-requires : tie.Need-later-answer-requires Inv-loop μ-loop
+later-answer-requires c κs = let i = c .before .before .before .before .before .before .before .before .before in ((chosen-below (c .before), i .pre .0 .0), i .pre .1)
 
 add-t20 : tie.Need-add-t20 Inv-loop μ-loop
 add-t20 c = omega arith
 
 returns : tie.Need-returns Inv-loop μ-loop
 returns c =
-    let l = c .before .before .before .before .before .before .before .before in
-    let n = c .before .next-answer .ensures in
+    let l = c .before .before .before .before .before .before .before in
     record {
       low = omega arith;
       spent = λ q a b. l .loop .inv .1 q (omega arith) b;
-      found = λ p e. (let z : l .loop .place - 1 ≡ p = omega arith in
-          rw (← z) (a-call (c .before .before .before .before), c .if2 .taken, rw (c .before .before .call-of .ensures) at n));
+      found = λ p e. (let z : l .loop .place - 1 ≡ p = omega arith in rw (← z) (a-call (c .before .before .before), c .if2 .taken, c .before .later-answer .ensures));
     }
 
 loop-less : tie.Need-loop-less Inv-loop μ-loop
@@ -75,11 +66,11 @@ loop-less c = omega arith
 
 loop-again : tie.Need-loop-again Inv-loop μ-loop
 loop-again c =
-    let l = c .before .before .before .before .before .before .before .before in
-    let a = l .before .before .before .args in
-    let n = c .before .next-answer .ensures in
-    let e : c .before .next-answer .result ≡ a .known = omega arith in
-    (omega arith, from-here (SpentRow (a .body .now) (answers-in 19 (a .answers .now) (a .known)) (a .known) (a .chosen .now)) (λ q b d. l .loop .inv .1 q (omega arith) d) (λ k y b d f. n .skipped y b (rw e d) (f ∙ sym (c .before .before .call-of .ensures))))
+    let l = c .before .before .before .before .before .before .before in
+    let a = l .before .before .before .before .args in
+    let n = c .before .later-answer .ensures in
+    let e : c .before .later-answer .result ≡ a .known = omega (arith, n .high, c .if2 .left) in
+    (omega arith, from-here (SpentRow (a .body .now) (answers-in 19 (a .answers .now) (a .known)) (a .known) (a .chosen .now)) (λ q b d. l .loop .inv .1 q (omega arith) d) (λ k y b d f. n .skipped y b (rw e d) f))
 
 loop-less-2 : tie.Need-loop-less-2 Inv-loop μ-loop
 loop-less-2 c = omega arith
@@ -87,7 +78,7 @@ loop-less-2 c = omega arith
 loop-again-2 : tie.Need-loop-again-2 Inv-loop μ-loop
 loop-again-2 c =
     let l = c .before .before .before .before in
-    let a = l .before .before .before .args in
+    let a = l .before .before .before .before .args in
     let no : getD (a .body .now) (l .loop .place - 1) 0 / 256 ≤ 2 = ltb-false 2 _ (sym (c .before .is-call .ensures) ∙ c .if1 .left) in
     (omega arith, from-here (SpentRow (a .body .now) (answers-in 19 (a .answers .now) (a .known)) (a .known) (a .chosen .now)) (λ q b d. l .loop .inv .1 q (omega arith) d) (λ k. absurd (omega arith)))
 
@@ -107,9 +98,7 @@ retreat-spec =
     is-call-requires
     mul-last
     element-copy-out-last
-    call-of-requires
-    add-next-answer
-    next-answer-requires
+    later-answer-requires
     add-t20
     returns
     loop-less
