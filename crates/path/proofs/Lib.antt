@@ -1,3 +1,2 @@
 -- Laws of the path's answer.
 pub mod OutcomeLaws
-pub mod Drills

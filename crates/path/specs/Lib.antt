@@ -1,3 +1,2 @@
--- What the path answers, and the paths of document 01's drills.
+-- What the path answers.
 pub mod Outcome
-pub mod Drills

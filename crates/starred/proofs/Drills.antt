@@ -1,4 +1,4 @@
--- The starred drills hold: for each row, tables found by rounds pass the test that they prove it. Assumes nothing.
+-- The starred drills hold: for each row, tables found by rounds pass the test that they prove it, and its paths are computed. Assumes nothing.
 use Prim.Native.Nat.{ℕ, zero, suc, _<_}
 use mathlib.Core.Path.{_≡_, refl}
 use mathlib.Core.Bool.{Bool, true, false, cond, not, _&&_, _||_}
@@ -11,10 +11,11 @@ use Rattle.steps.specs.State.{State, holds, added, removed}
 use Rattle.steps.specs.Step.{query, insert, delete, call, Body}
 use Rattle.steps.specs.Run.{Run, Goal}
 use Rattle.steps.specs.Counting.{Rising, rising-nil, rising-cons}
-use Rattle.starred.specs.Drills.{Drill, run, Holds, AllHold, word, drills, drill, _⟵_}
+use Rattle.starred.specs.Drills.{Shown, Drill, run, Shows, Holds, AllHold, word, drills, drill, path, _⟵_}
 use Rattle.steps.specs.Words.{step-by, rules-from}
 use Rattle.steps.specs.Acceptance.{each-below, good-step, good-word, good-rule, bad-counts, bad-length, bad-rules, bad-goal, bad-start, words-refusal, refusal-of}
 use Rattle.starred.proofs.ListTests.{both, both-l, both-r, both-in, either, holds-true, every, any, every-at, any-at, distinct, distinct-of}
+use Rattle.starred.proofs.Paths.{paths-show}
 use Rattle.starred.proofs.Certified.{CallRow, AnswerRow, Place, places, bodies, next, certified, certified-exact, separate, closed, justified, reached, owned, kept, apart, some-place, every-place, ends-at, comes-at, call-row, answer-row, has-answer}
 
 -- ---- tables by rounds, newest row first
@@ -83,9 +84,9 @@ proves d C A =
     eqb (refusal-of (d .fluents) (d .actions) (d .rules) (d .goal) (d .start)) 0 && certified (run d) C A && distinct call-row C && distinct answer-row A && eqb (length C) (d .calls) && eqb (length A) (d .answers)
     && rising (d .ends) && every (answered d A) (d .ends) && every (listed d) A
 
-proved : (d : Drill) (C : List CallRow) (A : List AnswerRow) → T (proves d C A) → Holds d
+proved : (d : Drill) (C : List CallRow) (A : List AnswerRow) → T (proves d C A) → ((p : Shown) → List·Memᴰ p (d .paths) → Shows d p) → Holds d
 unfolding proves answered listed
-proved d C A t =
+proved d C A t shows =
     let ok : T (eqb (refusal-of (d .fluents) (d .actions) (d .rules) (d .goal) (d .start)) 0) = search (both-l, both-r) depth 10 in
     let c : T (certified (run d) C A) = search (both-l, both-r) depth 10 in
     let dC : T (distinct call-row C) = search (both-l, both-r) depth 10 in
@@ -102,6 +103,7 @@ proved d C A t =
       ends = λ D. (λ m. x .ends D .0 (from-list D (every-at (answered d A) all m)), λ f. in-list D (x .ends D .1 f) only);
       calls = (C, distinct-of call-row call-row-refl C dC, (λ k. x .calls (k .0) (k .1)), eqb→eq (length C) (d .calls) nC);
       answers = (A, distinct-of answer-row answer-row-refl A dA, (λ k. x .answers (k .0) (k .1) (k .2)), eqb→eq (length A) (d .answers) nA);
+      paths = shows;
     }
   where
     from-list : (D : State) → T (answered d A D) → List·Memᴰ {A = AnswerRow} (Goal, d .start, D) A
@@ -117,10 +119,10 @@ passes : Drill → Bool
 passes d = let t = tables (run d) in proves d (t .0) (t .1)
 
 pass : T (every passes drills)
-unfolding passes proves listed answered tables certified drills drill _⟵_ separate apart closed every-place kept justified some-place ends-at reached comes-at owned call-row answer-row word step-by rules-from refusal-of words-refusal bad-counts bad-length bad-rules bad-goal bad-start each-below good-step good-word good-rule
+unfolding passes proves listed answered tables certified drills drill path _⟵_ separate apart closed every-place kept justified some-place ends-at reached comes-at owned call-row answer-row word step-by rules-from refusal-of words-refusal bad-counts bad-length bad-rules bad-goal bad-start each-below good-step good-word good-rule
 pass = tt
 
 -- Every row holds.
 pub drills-hold : AllHold
 unfolding passes drills
-drills-hold = (refl, λ d m. proved d (tables (run d) .0) (tables (run d) .1) (every-at passes pass m))
+drills-hold = (refl, λ d m. proved d (tables (run d) .0) (tables (run d) .1) (every-at passes pass m) (paths-show d m))

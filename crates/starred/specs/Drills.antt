@@ -1,4 +1,4 @@
--- The starred drills D1 to D10 of document 01, ten rows of one table, and what a row says of its run. Assumes nothing.
+-- The starred drills D1 to D10 of document 01, ten rows of one table, and what a row says of its run and its paths. Assumes nothing.
 use Prim.Native.Nat.{ℕ, _+_, _-_, _*_}
 use mathlib.Core.Path.{_≡_}
 use mathlib.Core.List.{List, [], _∷_, _++_, map, List·Memᴰ}
@@ -10,9 +10,21 @@ use Rattle.steps.specs.Run.{Run, Call, Answer, End}
 use Rattle.steps.specs.Counting.{Counts, Rising}
 use Rattle.steps.specs.Words.{run-of}
 use Rattle.steps.specs.Acceptance.{Accepted}
+use Rattle.path.specs.Outcome.{Lent, refusal-of, count-of, list-after}
 
--- A row: counts of fluents and actions, rule words, start and goal words as they are lent; the ends in rising order, and how many calls and
--- answers there are. (The path of a row is a field more.)
+-- A path of a row: the words of both tables, the answer record asked for and the list lent; then the refusal, the count of states and the list
+-- afterwards.
+pub record Shown : Type 0 where
+  pub calls : List ℕ
+  pub answers : List ℕ
+  pub asked : ℕ
+  pub list : List ℕ
+  pub refusal : ℕ
+  pub count : ℕ
+  pub after : List ℕ
+
+-- A row: counts of fluents and actions, rule words, start and goal words as they are lent; the ends in rising order, how many calls and
+-- answers there are, and the paths.
 pub record Drill : Type 0 where
   pub fluents : ℕ
   pub actions : ℕ
@@ -22,17 +34,38 @@ pub record Drill : Type 0 where
   pub ends : List State
   pub calls : ℕ
   pub answers : ℕ
+  pub paths : List Shown
 
 abbrev pub run : Drill → Run
 run d = run-of (d .rules) (d .goal) (d .start)
 
--- What a row says: no refusal of 20 to 24, and the ends, calls and answers of its run.
+-- The tables of a path are lent with the row's counts, rules and goal, and have as many records as its run.
+abbrev pub lent : Drill → Shown → Lent
+lent d p = record {
+  fluents = d .fluents;
+  actions = d .actions;
+  rules = d .rules;
+  goal = d .goal;
+  calls = p .calls;
+  call-count = d .calls;
+  answers = p .answers;
+  answer-count = d .answers;
+}
+
+-- What a path of a row says.
+pub record Shows (d : Drill) (p : Shown) : Type 0 where
+  pub refusal : refusal-of (lent d p) (p .asked) (p .list) ≡ p .refusal
+  pub count : count-of (lent d p) (p .asked) (p .list) ≡ p .count
+  pub after : list-after (lent d p) (p .asked) (p .list) ≡ p .after
+
+-- What a row says: no refusal of 20 to 24; the ends, calls and answers of its run; its paths.
 pub record Holds (d : Drill) : Type 0 where
   pub accepted : Accepted (d .fluents) (d .actions) (d .rules) (d .goal) (d .start)
   pub rising : Rising (d .ends)
   pub ends : (D : State) → List·Memᴰ D (d .ends) ↔ End (run d) D
   pub calls : Counts (λ (c : ℕ × State). Call (run d) (c .0) (c .1)) (d .calls)
   pub answers : Counts (λ (c : ℕ × State × State). Answer (run d) (c .0) (c .1) (c .2)) (d .answers)
+  pub paths : (p : Shown) → List·Memᴰ p (d .paths) → Shows d p
 
 -- ---- steps and rules in their words
 
@@ -47,34 +80,57 @@ unfoldable pub _⟵_ : ℕ → Body → List ℕ
 unfolding word
 head ⟵ body = head ∷ length body ∷ map word body ++ replicate (16 - length body) 0
 
-unfoldable pub drill : ℕ → ℕ → List ℕ → State → Body → List State → ℕ → ℕ → Drill
+unfoldable pub drill : ℕ → ℕ → List ℕ → State → Body → List State → ℕ → ℕ → List Shown → Drill
 unfolding word
-drill fluents actions rules start goal ends calls answers = record { fluents = fluents; actions = actions; rules = rules; start = start; goal = map word goal; ends = ends; calls = calls; answers = answers }
+drill fluents actions rules start goal ends calls answers paths = record { fluents = fluents; actions = actions; rules = rules; start = start; goal = map word goal; ends = ends; calls = calls; answers = answers; paths = paths }
 
--- Counts of fluents and actions, rules, start and goal; then ends, calls and answers. Fluents a and b are 0 and 1; actions are numbered from 0.
+-- ---- records in their words
+
+-- a call record, and an answer record with its first evidence words
+abbrev called : ℕ → State → List ℕ
+called action state = action ∷ state ∷ []
+
+abbrev answered : ℕ → State → ℕ → List ℕ → List ℕ
+answered row final rule evidence = row ∷ final ∷ rule ∷ evidence ++ replicate (16 - length evidence) 0
+
+unfoldable pub path : List ℕ → List ℕ → ℕ → List ℕ → ℕ → ℕ → List ℕ → Shown
+path calls answers asked list refusal count after = record { calls = calls; answers = answers; asked = asked; list = list; refusal = refusal; count = count; after = after }
+
+-- the tables of D9: the calls are the goal, q and p, the answers those of p, q and the goal
+abbrev calls-9 : List ℕ
+calls-9 = called 64 0 ++ called 1 0 ++ called 0 0
+
+abbrev answers-9 : List ℕ
+answers-9 = answered 2 0 0 [] ++ answered 1 0 1 (0 ∷ 0 ∷ []) ++ answered 0 0 256 (1 ∷ [])
+
+-- Counts of fluents and actions, rules, start and goal; then ends, calls, answers and paths. Fluents a and b are 0 and 1; actions are numbered from 0.
+-- Each list is lent with words of 9.
 unfoldable pub drills : List Drill
-unfolding _⟵_ drill
+unfolding _⟵_ drill path
 drills =
-    -- D1: purge is 0, light is 1; open is 0, lit is 1
+    -- D1: purge is 0, light is 1; open is 0, lit is 1; the calls are the goal, light and purge, the answers those of purge, light and the goal
     drill 2 2 ((0 ⟵ insert 0 ∷ []) ++ (1 ⟵ call 0 ∷ query 0 ∷ insert 1 ∷ delete 0 ∷ [])) 0 (call 1 ∷ []) (2 ∷ []) 3 3
+    (path (called 64 0 ++ called 1 0 ++ called 0 0) (answered 2 1 0 [] ++ answered 1 2 1 (0 ∷ []) ++ answered 0 2 256 (1 ∷ [])) 2 (replicate 5 9) 0 4 (0 ∷ 1 ∷ 3 ∷ 2 ∷ 9 ∷ []) ∷ [])
     -- D2: a rule that calls itself first
-    ∷ drill 2 1 ((0 ⟵ call 0 ∷ query 0 ∷ insert 1 ∷ []) ++ (0 ⟵ insert 0 ∷ [])) 0 (call 0 ∷ []) (1 ∷ 3 ∷ []) 2 4
+    ∷ drill 2 1 ((0 ⟵ call 0 ∷ query 0 ∷ insert 1 ∷ []) ++ (0 ⟵ insert 0 ∷ [])) 0 (call 0 ∷ []) (1 ∷ 3 ∷ []) 2 4 []
     -- D3: a rule that only calls itself
-    ∷ drill 2 1 (0 ⟵ call 0 ∷ []) 0 (call 0 ∷ []) [] 2 0
+    ∷ drill 2 1 (0 ⟵ call 0 ∷ []) 0 (call 0 ∷ []) [] 2 0 []
     -- D4: the empty goal, start 2
-    ∷ drill 2 0 [] 2 [] (2 ∷ []) 1 1
+    ∷ drill 2 0 [] 2 [] (2 ∷ []) 1 1 []
     -- D5: an insert of what holds, start 1
     ∷ drill 2 0 [] 1 (insert 0 ∷ []) (1 ∷ []) 1 1
+    (path (called 64 1) (answered 0 1 256 []) 0 (replicate 1 9) 0 1 (1 ∷ []) ∷ [])
     -- D6: a delete of what does not hold
-    ∷ drill 2 0 [] 0 (delete 0 ∷ []) (0 ∷ []) 1 1
+    ∷ drill 2 0 [] 0 (delete 0 ∷ []) (0 ∷ []) 1 1 []
     -- D7: a call after which the goal fails
-    ∷ drill 2 1 (0 ⟵ insert 0 ∷ []) 0 (call 0 ∷ query 1 ∷ []) [] 2 1
+    ∷ drill 2 1 (0 ⟵ insert 0 ∷ []) 0 (call 0 ∷ query 1 ∷ []) [] 2 1 []
     -- D8: one action called at two states
-    ∷ drill 2 1 ((0 ⟵ insert 0 ∷ call 0 ∷ []) ++ (0 ⟵ query 0 ∷ [])) 0 (call 0 ∷ []) (1 ∷ []) 3 3
-    -- D9: p is 0, q is 1
+    ∷ drill 2 1 ((0 ⟵ insert 0 ∷ call 0 ∷ []) ++ (0 ⟵ query 0 ∷ [])) 0 (call 0 ∷ []) (1 ∷ []) 3 3 []
+    -- D9: p is 0, q is 1; room 5 serves, room 4 is 43
     ∷ drill 2 2 ((0 ⟵ insert 0 ∷ delete 0 ∷ []) ++ (1 ⟵ call 0 ∷ call 0 ∷ [])) 0 (call 1 ∷ []) (0 ∷ []) 3 3
+    (path calls-9 answers-9 2 (replicate 5 9) 0 5 (0 ∷ 1 ∷ 0 ∷ 1 ∷ 0 ∷ []) ∷ path calls-9 answers-9 2 (replicate 4 9) 43 0 (replicate 4 9) ∷ [])
     -- D10: the last of 64 fluents
-    ∷ drill 64 0 [] 0 (insert 63 ∷ []) (9223372036854775808 ∷ []) 1 1
+    ∷ drill 64 0 [] 0 (insert 63 ∷ []) (9223372036854775808 ∷ []) 1 1 []
     ∷ []
 
 -- The statement: ten rows, and each holds.
