@@ -20,7 +20,7 @@ struct Family {
 
 const FAMILIES: [Family; 6] = [
     Family { name: "sixteen", sizes: &[2, 4, 8, 16], book: families::sixteen },
-    Family { name: "counter", sizes: &[4, 5, 6, 7, 8, 9, 10, 11, 12, 13], book: families::counter },
+    Family { name: "counter", sizes: &[4, 5, 6, 7, 8, 9, 10, 11, 12, 13, 14], book: families::counter },
     Family { name: "subsets", sizes: &[6, 8, 9, 10, 11, 12, 13, 14, 15], book: families::subsets },
     Family { name: "choices", sizes: &[6, 8, 9, 10, 11, 12, 13, 14, 15], book: families::choices },
     Family { name: "consuming", sizes: &[6, 8, 10, 12, 14, 16], book: families::consuming },

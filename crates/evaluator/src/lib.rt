@@ -78,10 +78,13 @@ fn fill<'a>(
     'run: loop {
         let rows = n;
         let known = m;
-        let news = uses::gained(answers, seen, known);
-        for row in first..rows {
-            if row < walked {
-                if uses::is_apart(uses, row, news) {
+        let span = uses::span_of(uses, answers, seen, known, walked, rows);
+        let low = span.low;
+        let high = span.high;
+        let top = span.top;
+        for row in low..top {
+            if high <= row {
+                if row < walked {
                     continue;
                 }
             }

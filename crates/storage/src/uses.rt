@@ -1,43 +1,102 @@
-// Which call records the walks of a call record have come to: one word for each record, with a bit for each of 32 classes, a record's class being
-// its number modulo 32. A record is walked again only if a record of a class in its word has gained an answer.
+// From which call records a call record is called: one word for each record, the least and the greatest of their numbers. A record is walked
+// again only if it lies between the callers of a record that has gained an answer.
 use crate::tables;
-use steps::state::State;
 ghost use mathlib.Core.Path.{_≡_};
-ghost use mathlib.Core.Bool.{true};
-ghost use Prim.Native.Nat.{_*_, _<_, _≤_};
-ghost use lib.Bits.{bitAnd};
+ghost use Prim.Native.Nat.{_*_, _<_, _≤_, min, max};
 ghost use lib.ListN.{length, getD};
 ghost use Rattle.tabling.specs.Records.{answers-in};
-ghost use Rattle.tabling.proofs.Uses.{with-use, Gained};
+ghost use Rattle.tabling.proofs.Uses.{with-use, least, greatest, Spans};
+
+fn lesser(a: usize, b: usize) -> usize
+    ensures { λ r. ⌜ r ≡ min a b ⌝ }
+{
+    if a < b {
+        return a;
+    }
+    b
+}
+
+fn greater(a: usize, b: usize) -> usize
+    ensures { λ r. ⌜ r ≡ max a b ⌝ }
+{
+    if a < b {
+        return b;
+    }
+    a
+}
+
+// The numbers of a word: the greatest in its low half, the least, counted down from the highest, in its high half.
+pub struct Bounds {
+    pub least: usize,
+    pub greatest: usize,
+}
+
+// The callers of record i; none for a number that no record has.
+fn callers_of(uses: &[u32], i: usize) -> Bounds
+    ensures { λ r. ⌜ (r .least ≡ least (getD (now (uses .entry)) i 0)) × (r .greatest ≡ greatest (getD (now (uses .entry)) i 0)) ⌝ }
+{
+    if i < uses.len() {
+        let word = uses[i] as usize;
+        return Bounds {
+            least: 65535 - word / 65536,
+            greatest: word % 65536,
+        };
+    }
+    Bounds {
+        least: 65535,
+        greatest: 0,
+    }
+}
 
 // Notes that a walk of record `row` has come to record `callee`.
 pub fn note(uses: &mut [u32], row: usize, callee: usize)
-    requires { ⌜ row < length (now uses) ⌝ }
+    requires { ⌜ (callee < length (now uses)) × (row < 65536) ⌝ }
     ensures { λ _. ⌜ now (uses .exit) ≡ with-use (now (uses .entry)) row callee ⌝ }
 {
-    let class = (callee % 32) as u64;
-    let word = State::of(uses[row] as u64).insert(class).0;
-    uses[row] = word as u32;
+    let known = callers_of(uses, callee);
+    let low = lesser(known.least, row);
+    let high = greater(known.greatest, row);
+    uses[callee] = ((65535 - low) * 65536 + high) as u32;
 }
 
-// The classes of the call records that have the answers from `seen` up to `known`.
-pub fn gained(answers: &[u64], seen: usize, known: usize) -> u64
-    requires { ⌜ (19 * known ≤ length (now answers)) × (known ≤ 65536) × (seen ≤ known) ⌝ }
-    ensures { λ r. ⌜ Gained (answers-in 19 (now (answers .entry)) known) seen known r ⌝ }
+// The records that a round looks at: from `low` up to `top`; those from `high` on only if they were never walked.
+pub struct Span {
+    pub low: usize,
+    pub high: usize,
+    pub top: usize,
+}
+
+// The span of a round: all callers of records with answers from `seen` up to `known`, and the records from `walked` on.
+pub fn span_of(
+    uses: &[u32],
+    answers: &[u64],
+    seen: usize,
+    known: usize,
+    walked: usize,
+    rows: usize,
+) -> Span
+    requires { ⌜ (19 * known ≤ length (now answers)) × (known ≤ 65536) × (seen ≤ known) × (walked ≤ rows) × (rows ≤ 65536) ⌝ }
+    ensures { λ r. ⌜ Spans (answers-in 19 (now (answers .entry)) known) (now (uses .entry)) walked seen known rows (r .low) (r .high) (r .top) ⌝ }
 {
-    let mut classes = State::nothing();
+    let mut low = walked;
+    let mut high: usize = 0;
     let mut x = seen;
     while x < known {
-        classes = classes.insert(tables::call_of(answers, x) % 32);
+        let of = callers_of(uses, tables::call_of(answers, x) as usize);
+        low = lesser(low, of.least);
+        high = greater(high, of.greatest + 1);
         x += 1;
     }
-    classes.0
-}
-
-// Whether the walks of record `row` came to no record of these classes.
-pub fn is_apart(uses: &[u32], row: usize, classes: u64) -> bool
-    requires { ⌜ row < length (now uses) ⌝ }
-    ensures { λ r. ⌜ (r ≡ true → bitAnd (getD (now (uses .entry)) row 0) classes ≡ 0) ⌝ }
-{
-    uses[row] as u64 & classes == 0
+    if walked < rows {
+        return Span {
+            low,
+            high,
+            top: rows,
+        };
+    }
+    Span {
+        low,
+        high,
+        top: lesser(high, rows),
+    }
 }

@@ -42,25 +42,24 @@ module _ (rules goal : List ℕ) (first : ℕ) (calls₀ : List ℕ) (n₀ : ℕ
     pub round : (roots : List (ℕ × State)) → Valid (bodies-of rules goal) (Among roots) (in-words calls₀ n₀ answers₀ m₀) → Round (bodies-of rules goal) (Among roots) first walked seen (in-words calls n answers m) uses
 
   -- the call records of a round
-  pub record RowsDone (walked seen classes rows known row : ℕ) (calls : List ℕ) (n : ℕ) (call-index answers : List ℕ) (m : ℕ) (answer-index marks uses : List ℕ) (walk : ℕ) : Type 0 where
+  pub record RowsDone (walked seen low high top rows known row : ℕ) (calls : List ℕ) (n : ℕ) (call-index answers : List ℕ) (m : ℕ) (answer-index marks uses : List ℕ) (walk : ℕ) : Type 0 where
     pub words : Words calls₀ answers₀ uses₀ calls n call-index answers m answer-index uses
     pub stamped : Stamped marks walk
-    pub row-low : first ≤ row
     pub row-in : row ≤ rows
     pub rows-in : rows ≤ n
     pub known-in : known ≤ m
     pub closed : (roots : List (ℕ × State)) → Round (bodies-of rules goal) (Among roots) first walked seen (in-words calls₀ n₀ answers₀ m₀) uses₀
-        → Rows (bodies-of rules goal) (Among roots) first walked seen classes rows known row (in-words calls n answers m) uses
+        → Rows (bodies-of rules goal) (Among roots) first walked seen low high top rows known row (in-words calls n answers m) uses
 
   -- the rules of a call record
-  pub record RulesDone (walked seen classes rows known row rule : ℕ) (calls : List ℕ) (n : ℕ) (call-index answers : List ℕ) (m : ℕ) (answer-index marks uses : List ℕ) (walk : ℕ) : Type 0 where
+  pub record RulesDone (walked seen low high top rows known row rule : ℕ) (calls : List ℕ) (n : ℕ) (call-index answers : List ℕ) (m : ℕ) (answer-index marks uses : List ℕ) (walk : ℕ) : Type 0 where
     pub words : Words calls₀ answers₀ uses₀ calls n call-index answers m answer-index uses
     pub stamped : Stamped marks walk
     pub rule-in : rule ≤ length rules / 18 + 1
     pub rows-in : rows ≤ n
     pub known-in : known ≤ m
-    pub closed : (roots : List (ℕ × State)) → Rows (bodies-of rules goal) (Among roots) first walked seen classes rows known row (in-words calls₀ n₀ answers₀ m₀) uses₀
-        → Rules (bodies-of rules goal) (Among roots) (number-at (length rules / 18)) first walked seen classes rows known row rule (in-words calls n answers m) uses
+    pub closed : (roots : List (ℕ × State)) → Rows (bodies-of rules goal) (Among roots) first walked seen low high top rows known row (in-words calls₀ n₀ answers₀ m₀) uses₀
+        → Rules (bodies-of rules goal) (Among roots) (number-at (length rules / 18)) first walked seen low high top rows known row rule (in-words calls n answers m) uses
 
   -- the walk of a body
   pub record Walked (known number row walk : ℕ) (body : List ℕ) (calls : List ℕ) (n : ℕ) (call-index answers : List ℕ) (m : ℕ) (answer-index marks uses chosen rest : List ℕ) (s : State) : Type 0 where

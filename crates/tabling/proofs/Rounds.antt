@@ -7,7 +7,6 @@ use mathlib.Core.Bool.{true}
 use mathlib.Core.List.{List, [], _∷_, List·Memᴰ, List·Memᴰ·head, List·Memᴰ·tail}
 use mathlib.Core.Logic.{_⊎_, inl, inr, ⊎-elim}
 use lib.ListN.{length, getD}
-use lib.Bits.{bitAnd}
 use Rattle.steps.specs.State.{State}
 use Rattle.steps.specs.Step.{Step, call, Body}
 use Rattle.steps.specs.Words.{step-of, body-of}
@@ -17,7 +16,7 @@ use Rattle.steps.proofs.Tables.{Walk, stands, walks, takes, Closed, Sound, Exac
 use Rattle.tabling.specs.Records.{Bodies}
 use Rattle.tabling.proofs.Storage.{CallAt, AnswerAt}
 use Rattle.tabling.proofs.Growth.{Tables, HeldCall, Held, Grew, Inside, held-up, row-once}
-use Rattle.tabling.proofs.Uses.{Used, UsesGrew, HeldUsed, Gained, held-used, held-used-up, apart}
+use Rattle.tabling.proofs.Uses.{Used, UsesGrew, HeldUsed, Passed, Spans, held-used, held-used-up}
 use Rattle.tabling.proofs.Justification.{Has, Proper}
 use Rattle.tabling.proofs.Evidence.{Valid, inside-of}
 use Rattle.tabling.proofs.Adding.{last-one, answer-true}
@@ -99,6 +98,10 @@ module _ {bodies : Bodies} {Root : ℕ → State → Type 0} {t : Tables} (v : V
   noted-later : NotedAt body t uses seen row → NotedAt body t uses known row
   noted-later k p s r = good-at body (λ c h. h) t t seen known (λ s h. h) p s (k p s (reach-seen k r))
 
+-- once the loop has come to `top`, every record is walked or passed
+done-or : {low high top walked row : ℕ} → top ≤ row → (r : ℕ) → (r < row) ⊎ Passed low high top walked r
+done-or {row = row} h r = elim (decLt r row) [ yes l ↦ inl l | no n ↦ inr (inr (inr (omega arith))) ]
+
 -- ---- the loops' invariants; the rules have the numbers `number 0`, `number 1`, .. below `total`
 module _ (bodies : Bodies) (Root : ℕ → State → Type 0) where
   abbrev pub Closing : Tables → List ℕ → ℕ → ℕ → ℕ → Type 0
@@ -111,21 +114,19 @@ module _ (bodies : Bodies) (Root : ℕ → State → Type 0) where
     pub seen-in : seen ≤ t .answers .count
     pub earlier : (r : ℕ) → first ≤ r → r < walked → (i : ℕ) → Closing t uses seen r i
 
-  -- In it: the records from `first` up to `row` are closed under every rule, with the answers below `known`; the new ones among these are of
-  -- records of the classes given.
-  pub record Rows (first walked seen classes rows known row : ℕ) (t : Tables) (uses : List ℕ) : Type 0 where
+  -- In it: the records from `first` up to `row`, and those that are passed, are closed under every rule, with the answers below `known`.
+  pub record Rows (first walked seen low high top rows known row : ℕ) (t : Tables) (uses : List ℕ) : Type 0 where
     pub round : Round first walked seen t uses
-    pub news : Gained (t .answers) seen known classes
     pub rows-in : rows ≤ t .calls .count
     pub known-in : known ≤ t .answers .count
-    pub closed : (r : ℕ) → first ≤ r → r < row → (i : ℕ) → Closing t uses known r i
+    pub closed : (r : ℕ) → first ≤ r → r < rows → (r < row) ⊎ Passed low high top walked r → (i : ℕ) → Closing t uses known r i
 
   closing-up : {b u : Tables} {uses uses′ : List ℕ} {known : ℕ} → Grew b u → UsesGrew uses uses′ → known ≤ b .answers .count → Inside b (b .answers .count) → (row i : ℕ) → row < b .calls .count
       → Closing b uses known row i → Closing u uses′ known row i
   closing-up {known = known} g w enough inside row i l c e = noted-up g known enough inside (bodies .words i) w row l (c (rw (g .action-same l) at e))
 
-  rows-up : {first walked seen classes rows known row : ℕ} {b u : Tables} {uses uses′ : List ℕ} → Grew b u → UsesGrew uses uses′ → Valid bodies Root u → row ≤ rows
-      → Rows first walked seen classes rows known row b uses → Rows first walked seen classes rows known row u uses′
+  rows-up : {first walked seen low high top rows known row : ℕ} {b u : Tables} {uses uses′ : List ℕ} → Grew b u → UsesGrew uses uses′ → Valid bodies Root u → row ≤ rows
+      → Rows first walked seen low high top rows known row b uses → Rows first walked seen low high top rows known row u uses′
   rows-up g w v l R =
       let S = R .round in
       let inside = inside-of (S .valid) in
@@ -136,54 +137,54 @@ module _ (bodies : Bodies) (Root : ℕ → State → Type 0) where
           seen-in = omega (arith, S .seen-in, g .answers-more);
           earlier = λ r f h i. closing-up g w (S .seen-in) inside r i (omega (arith, S .walked-in)) (S .earlier r f h i);
         };
-        news = λ x a l. rw (g .call-same {x = x} (omega (arith, R .known-in))) (R .news x a l);
         rows-in = omega (arith, R .rows-in, g .calls-more);
         known-in = omega (arith, R .known-in, g .answers-more);
-        closed = λ r f h i. closing-up g w (R .known-in) inside r i (omega (arith, R .rows-in)) (R .closed r f h i);
+        closed = λ r f h p i. closing-up g w (R .known-in) inside r i (omega (arith, R .rows-in)) (R .closed r f h p i);
       }
 
   -- before the first round
   pub round-start : (first : ℕ) {t : Tables} (uses : List ℕ) → Valid bodies Root t → first ≤ t .calls .count → Round first first 0 t uses
   round-start first uses v l = record { valid = v; walked-in = l; seen-in = omega arith; earlier = λ r f h. absurd (omega arith) }
 
-  pub rows-start : {first walked seen classes : ℕ} {t : Tables} {uses : List ℕ} → Round first walked seen t uses → Gained (t .answers) seen (t .answers .count) classes → Rows first walked seen classes (t .calls .count) (t .answers .count) first t uses
-  rows-start S g = record { round = S; news = g; rows-in = omega arith; known-in = omega arith; closed = λ r f h. absurd (omega arith) }
+  pub rows-start : {first walked seen low high top : ℕ} {t : Tables} {uses : List ℕ} → Round first walked seen t uses → Spans (t .answers) uses walked seen (t .answers .count) (t .calls .count) low high top
+      → Rows first walked seen low high top (t .calls .count) (t .answers .count) low t uses
+  rows-start {first} {walked} {seen} {low} {high} {top} {t} {uses} S P = record {
+    round = S;
+    rows-in = omega arith;
+    known-in = omega arith;
+    closed = λ r f h p i e. (let q = P .quiet r h (⊎-elim inl (λ z. z) p) in noted-later (S .valid) uses seen (t .answers .count) r (omega arith) (q .none) (bodies .words i) (S .earlier r f (q .old) i e));
+  }
 
   -- after a round
-  pub rows-round : {first walked seen classes rows known row : ℕ} {t : Tables} {uses : List ℕ} → Rows first walked seen classes rows known row t uses → rows ≤ row → Round first rows known t uses
-  rows-round R h = record { valid = R .round .valid; walked-in = R .rows-in; seen-in = R .known-in; earlier = λ r f l i. R .closed r f (omega arith) i }
+  pub rows-round : {first walked seen low high top rows known row : ℕ} {t : Tables} {uses : List ℕ} → Rows first walked seen low high top rows known row t uses → top ≤ row → Round first rows known t uses
+  rows-round {row = row} R h = record { valid = R .round .valid; walked-in = R .rows-in; seen-in = R .known-in; earlier = λ r f l i. R .closed r f l (done-or h r) i }
 
-  -- a record that was walked, and whose callees have gained no answer since
-  pub rows-settled : {first walked seen classes rows known row : ℕ} {t : Tables} {uses : List ℕ} → Rows first walked seen classes rows known row t uses → first ≤ row → row < walked
-      → bitAnd (getD uses row 0) classes ≡ 0 → Rows first walked seen classes rows known (row + 1) t uses
-  rows-settled {seen = seen} {classes} {known = known} {row} {t} {uses} R f l none = record {
+  -- a record that is passed
+  pub rows-passed : {first walked seen low high top rows known row : ℕ} {t : Tables} {uses : List ℕ} → Rows first walked seen low high top rows known row t uses → high ≤ row → row < walked → Rows first walked seen low high top rows known (row + 1) t uses
+  rows-passed {row = row} R h l = record {
     round = R .round;
-    news = R .news;
     rows-in = R .rows-in;
     known-in = R .known-in;
-    closed = λ r g h i. ⊎-elim (λ m. R .closed r g m i) (λ (z : r ≡ row). rw z (last i)) (last-one h);
+    closed = λ r f g p i. R .closed r f g (⊎-elim (λ k. ⊎-elim inl (λ (z : r ≡ row). inr (inr (inl (omega arith, omega arith)))) (last-one k)) inr p) i;
   }
-    where
-      last : (i : ℕ) → Closing t uses known row i
-      last i e = noted-later (R .round .valid) uses seen known row (R .known-in) (λ x a h u. apart (t .answers .call x % 32) (getD uses row 0) classes none u (R .news x a h)) (bodies .words i) (R .round .earlier row f l i e)
 
   module _ (number : ℕ → ℕ) where
     -- And record `row` is under the rules below `rule`.
-    pub record Rules (first walked seen classes rows known row rule : ℕ) (t : Tables) (uses : List ℕ) : Type 0 where
-      pub rows-closed : Rows first walked seen classes rows known row t uses
+    pub record Rules (first walked seen low high top rows known row rule : ℕ) (t : Tables) (uses : List ℕ) : Type 0 where
+      pub rows-closed : Rows first walked seen low high top rows known row t uses
       pub rules-closed : (k : ℕ) → k < rule → Closing t uses known row (number k)
 
-    pub rules-start : {first walked seen classes rows known row : ℕ} {t : Tables} {uses : List ℕ} → Rows first walked seen classes rows known row t uses → Rules first walked seen classes rows known row 0 t uses
+    pub rules-start : {first walked seen low high top rows known row : ℕ} {t : Tables} {uses : List ℕ} → Rows first walked seen low high top rows known row t uses → Rules first walked seen low high top rows known row 0 t uses
     rules-start R = record { rows-closed = R; rules-closed = λ k h. absurd (omega arith) }
 
     -- a rule of another action
-    pub rules-skip : {first walked seen classes rows known row rule : ℕ} {t : Tables} {uses : List ℕ} → Rules first walked seen classes rows known row rule t uses → (bodies .fits (number rule) (t .calls .action row) ≡ true → ⊥)
-        → Rules first walked seen classes rows known row (rule + 1) t uses
+    pub rules-skip : {first walked seen low high top rows known row rule : ℕ} {t : Tables} {uses : List ℕ} → Rules first walked seen low high top rows known row rule t uses → (bodies .fits (number rule) (t .calls .action row) ≡ true → ⊥)
+        → Rules first walked seen low high top rows known row (rule + 1) t uses
     rules-skip {rule = rule} R n = record { rows-closed = R .rows-closed; rules-closed = λ k h. ⊎-elim (λ l. R .rules-closed k l) (λ (z : k ≡ rule). λ e. absurd (n (rw z at e))) (last-one h) }
 
     -- a walk that is over
-    pub rules-next : {first walked seen classes rows known row rule walk i : ℕ} {b u : Tables} {body marks uses uses′ : List ℕ} → Rules first walked seen classes rows known row rule b uses → row < rows → i ≡ number rule → body ≡ bodies .words i
-        → UsesGrew uses uses′ → Over bodies Root b known i row walk body u marks uses′ → Rules first walked seen classes rows known row (rule + 1) u uses′
+    pub rules-next : {first walked seen low high top rows known row rule walk i : ℕ} {b u : Tables} {body marks uses uses′ : List ℕ} → Rules first walked seen low high top rows known row rule b uses → row < rows → i ≡ number rule → body ≡ bodies .words i
+        → UsesGrew uses uses′ → Over bodies Root b known i row walk body u marks uses′ → Rules first walked seen low high top rows known row (rule + 1) u uses′
     rules-next {known = known} {row} {rule} {b = b} {u} {body} R l e w g o =
         let S = R .rows-closed in
         let i = inside-of (S .round .valid) in
@@ -195,14 +196,13 @@ module _ (bodies : Bodies) (Root : ℕ → State → Type 0) where
         }
 
     -- all rules have been walked
-    pub rows-next : {first walked seen classes rows known row rule : ℕ} {t : Tables} {uses : List ℕ} → ((i a : ℕ) → bodies .fits i a ≡ true → (k : ℕ) × (k < rule) × (number k ≡ i)) → Rules first walked seen classes rows known row rule t uses
-        → Rows first walked seen classes rows known (row + 1) t uses
+    pub rows-next : {first walked seen low high top rows known row rule : ℕ} {t : Tables} {uses : List ℕ} → ((i a : ℕ) → bodies .fits i a ≡ true → (k : ℕ) × (k < rule) × (number k ≡ i)) → Rules first walked seen low high top rows known row rule t uses
+        → Rows first walked seen low high top rows known (row + 1) t uses
     rows-next {known = known} {row} {rule} {t} {uses} all R = record {
       round = R .rows-closed .round;
-      news = R .rows-closed .news;
       rows-in = R .rows-closed .rows-in;
       known-in = R .rows-closed .known-in;
-      closed = λ r f l i. ⊎-elim (λ m. R .rows-closed .closed r f m i) (λ (z : r ≡ row). rw z (last i)) (last-one l);
+      closed = λ r f l p i. ⊎-elim (λ k. ⊎-elim (λ m. R .rows-closed .closed r f l (inl m) i) (λ (z : r ≡ row). rw z (last i)) (last-one k)) (λ q. R .rows-closed .closed r f l (inr q) i) p;
     }
       where
         last : (i : ℕ) → Closing t uses known row i
@@ -214,10 +214,10 @@ module _ (bodies : Bodies) (Root : ℕ → State → Type 0) where
     pub closed : (r : ℕ) → first ≤ r → r < t .calls .count → (i : ℕ) → bodies .fits i (t .calls .action r) ≡ true → ClosedAt (bodies .words i) t (t .answers .count) r
 
   -- a round that added nothing
-  pub rows-finished : {first walked seen classes rows known row : ℕ} {t : Tables} {uses : List ℕ} → Rows first walked seen classes rows known row t uses → rows ≤ row → t .calls .count + t .answers .count ≡ rows + known → Whole first t
+  pub rows-finished : {first walked seen low high top rows known row : ℕ} {t : Tables} {uses : List ℕ} → Rows first walked seen low high top rows known row t uses → top ≤ row → t .calls .count + t .answers .count ≡ rows + known → Whole first t
   rows-finished {first} {rows = rows} {known} {row} {t} {uses} R h e =
       let b : known ≡ t .answers .count = omega (arith, R .rows-in, R .known-in) in
-      record { valid = R .round .valid; closed = λ r f l i z. noted-closed (bodies .words i) t uses (t .answers .count) r (rw b at (R .closed r f (omega (arith, R .rows-in, R .known-in)) i z)) }
+      record { valid = R .round .valid; closed = λ r f l i z. noted-closed (bodies .words i) t uses (t .answers .count) r (rw b at (R .closed r f (omega (arith, R .rows-in, R .known-in)) (done-or h r) i z)) }
 
 -- ---- all records closed: the tables are closed and sound
 

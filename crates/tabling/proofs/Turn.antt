@@ -192,8 +192,8 @@ module _ (bodies : Bodies) (Root : ℕ → State → Type 0) (b : Tables) (known
       turn-calls-full m (call-no-room f i none z) n = inl (rw i at (full-calls (T .valid) none came))
 
       -- and is noted
-      pub turn-noted : (r : ℕ) → row < length uses → Turning t marks (with-use uses row r) chosen at s
-      turn-noted r i = turning-up T (grew-refl t) (use-grew uses row r i) (T .valid)
+      pub turn-noted : (r : ℕ) → r < length uses → row < 65536 → Turning t marks (with-use uses row r) chosen at s
+      turn-noted r i l = turning-up T (grew-refl t) (use-grew uses row r i l) (T .valid)
 
       module _ {r : ℕ} (l : r < t .calls .count) (k : CallAt (t .calls) r (getD body at 0 % 256) s) (used : Used uses row r) where
         -- nothing is left from here on where the call has no answer yet

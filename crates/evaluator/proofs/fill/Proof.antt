@@ -18,32 +18,32 @@ use Rattle.tabling.proofs.Measure.{left}
 use Rattle.tabling.proofs.Numbers.{number-at, numbers-all, proper-of}
 use Rattle.tabling.proofs.Turn.{Given, Over, Outgrown, turn-start, body-short}
 use Rattle.tabling.proofs.Going.{in-words, Going, going-start, going-on, going-back, going-fits, on-less, back-less}
-use Rattle.tabling.proofs.Rounds.{Round, Rows, Rules, round-start, rows-start, rows-round, rows-settled, rules-start, rules-skip, rules-next, rows-next, rows-finished}
+use Rattle.tabling.proofs.Rounds.{Round, Rows, Rules, round-start, rows-start, rows-round, rows-passed, rules-start, rules-skip, rules-next, rows-next, rows-finished}
 use Rattle.tabling.proofs.Filling.{Words, Rounding, RowsDone, RulesDone, Walked}
 use Rattle.evaluator.proofs.fill.Statement.{statement}
 use Rattle.evaluator.proofs.fill.Tie as tie
 
 abbrev Inv-loop3 : tie.InvT-loop3
-Inv-loop3 rules goal calls₀ n0 call-index₀ answers₀ m0 answer-index₀ first marks₀ uses₀ count n₀ m₀ walk walked seen rows known news row rule number job body chosen₀ rest₀ state₀ rule-end calls call-index answers answer-index marks uses n m chosen rest state =
+Inv-loop3 rules goal calls₀ n0 call-index₀ answers₀ m0 answer-index₀ first marks₀ uses₀ count n₀ m₀ walk walked seen rows known low high top row rule number job body chosen₀ rest₀ state₀ rule-end calls call-index answers answer-index marks uses n m chosen rest state =
     Walked rules goal first calls₀ n₀ answers₀ m₀ uses₀ (job .known) (job .rule) (job .row) (job .walk) body calls n call-index answers m answer-index marks uses chosen rest (state .0)
 
 abbrev μ-loop3 : tie.MeasureT-loop3
-μ-loop3 rules goal calls₀ n0 call-index₀ answers₀ m0 answer-index₀ first marks₀ uses₀ count n₀ m₀ walk walked seen rows known news row rule number job body chosen₀ rest₀ state₀ rule-end calls call-index answers answer-index marks uses n m chosen rest state =
+μ-loop3 rules goal calls₀ n0 call-index₀ answers₀ m0 answer-index₀ first marks₀ uses₀ count n₀ m₀ walk walked seen rows known low high top row rule number job body chosen₀ rest₀ state₀ rule-end calls call-index answers answer-index marks uses n m chosen rest state =
     left (job .known) chosen (length body - length rest)
 
 abbrev Inv-loop2 : tie.InvT-loop2
-Inv-loop2 rules goal calls₀ n0 call-index₀ answers₀ m0 answer-index₀ first marks₀ uses₀ count n₀ m₀ walk₀ walked seen rows known news row rule₀ rule-end calls call-index answers answer-index marks uses n m walk rule =
-    RulesDone rules goal first calls₀ n₀ answers₀ m₀ uses₀ walked seen news rows known row rule calls n call-index answers m answer-index marks uses walk
+Inv-loop2 rules goal calls₀ n0 call-index₀ answers₀ m0 answer-index₀ first marks₀ uses₀ count n₀ m₀ walk₀ walked seen rows known low high top row rule₀ rule-end calls call-index answers answer-index marks uses n m walk rule =
+    RulesDone rules goal first calls₀ n₀ answers₀ m₀ uses₀ walked seen low high top rows known row rule calls n call-index answers m answer-index marks uses walk
 
 abbrev μ-loop2 : tie.MeasureT-loop2
-μ-loop2 rules goal calls₀ n0 call-index₀ answers₀ m0 answer-index₀ first marks₀ uses₀ count n₀ m₀ walk₀ walked seen rows known news row rule₀ rule-end calls call-index answers answer-index marks uses n m walk rule = rule-end - rule
+μ-loop2 rules goal calls₀ n0 call-index₀ answers₀ m0 answer-index₀ first marks₀ uses₀ count n₀ m₀ walk₀ walked seen rows known low high top row rule₀ rule-end calls call-index answers answer-index marks uses n m walk rule = rule-end - rule
 
 abbrev Inv-loop : tie.InvT-loop
-Inv-loop rules goal calls₀ n0 call-index₀ answers₀ m0 answer-index₀ first marks₀ uses₀ count n₀ m₀ walk₀ walked seen rows known news row₀ calls call-index answers answer-index marks uses n m walk row =
-    RowsDone rules goal first calls₀ n₀ answers₀ m₀ uses₀ walked seen news rows known row calls n call-index answers m answer-index marks uses walk
+Inv-loop rules goal calls₀ n0 call-index₀ answers₀ m0 answer-index₀ first marks₀ uses₀ count n₀ m₀ walk₀ walked seen rows known low high top row₀ calls call-index answers answer-index marks uses n m walk row =
+    RowsDone rules goal first calls₀ n₀ answers₀ m₀ uses₀ walked seen low high top rows known row calls n call-index answers m answer-index marks uses walk
 
 abbrev μ-loop : tie.MeasureT-loop
-μ-loop rules goal calls₀ n0 call-index₀ answers₀ m0 answer-index₀ first marks₀ uses₀ count n₀ m₀ walk₀ walked seen rows known news row₀ calls call-index answers answer-index marks uses n m walk row = rows - row
+μ-loop rules goal calls₀ n0 call-index₀ answers₀ m0 answer-index₀ first marks₀ uses₀ count n₀ m₀ walk₀ walked seen rows known low high top row₀ calls call-index answers answer-index marks uses n m walk row = top - row
 
 abbrev Inv-run : tie.InvT-run
 Inv-run rules goal calls₀ n0 call-index₀ answers₀ m0 answer-index₀ first marks₀ uses₀ count n₀ m₀ walk₀ walked₀ seen₀ calls call-index answers answer-index marks uses n m walk walked seen =
@@ -76,7 +76,7 @@ abbrev entry : AtRun → Entry
 entry r = r .before .before .before .before .before .before .before .before .before
 
 abbrev round-of : AtLoop → AtRun
-round-of l = l .before .before .before
+round-of l = l .before .before .before .before
 
 abbrev rows-of : AtLoop2 → AtLoop
 rows-of l = l .before .before .before
@@ -85,7 +85,7 @@ abbrev rules-of : Found → AtLoop2
 rules-of f = f .before .before .before .before .before .before .before .before .before .before .before .before .before
 
 abbrev run-of : Found → AtRun
-run-of f = f .before .before .before .before .before .before .before .before .before .before .before .before .before .before .before .before .before .before .before
+run-of f = f .before .before .before .before .before .before .before .before .before .before .before .before .before .before .before .before .before .before .before .before
 
 -- the roots of the contract's `requires`, and what stands for them at each loop
 abbrev roots : (i : Entry) → List (ℕ × ℕ)
@@ -96,7 +96,7 @@ round-at r = r .run .inv .round (roots (entry r)) (entry r .pre .1 .1 .1)
 
 -- the walk's body is that of a rule of the call record's action
 given-at : (f : Found) (rs : List (ℕ × ℕ))
-    → Rules (bodies-of (entry (run-of f) .args .rules .now) (entry (run-of f) .args .goal .now)) (Among rs) (number-at (length (entry (run-of f) .args .rules .now) / 18)) (entry (run-of f) .args .first) (run-of f .run .walked) (run-of f .run .seen) (f .before .before .before .before .before .before .before .before .before .before .before .before .before .before .before .before .before .gained .result)
+    → Rules (bodies-of (entry (run-of f) .args .rules .now) (entry (run-of f) .args .goal .now)) (Among rs) (number-at (length (entry (run-of f) .args .rules .now) / 18)) (entry (run-of f) .args .first) (run-of f .run .walked) (run-of f .run .seen) (f .before .before .before .before .before .before .before .before .before .before .before .before .before .before .before .before .before .span-of .result .low) (f .before .before .before .before .before .before .before .before .before .before .before .before .before .before .before .before .before .span-of .result .high) (f .before .before .before .before .before .before .before .before .before .before .before .before .before .before .before .before .before .span-of .result .top)
     (run-of f .run .n) (run-of f .run .m) (rows-of (rules-of f) .loop .row) (rules-of f .loop2 .rule)
     (in-words (rules-of f .loop2 .calls) (rules-of f .loop2 .n) (rules-of f .loop2 .answers) (rules-of f .loop2 .m)) (rules-of f .loop2 .uses)
     → Given (bodies-of (entry (run-of f) .args .rules .now) (entry (run-of f) .args .goal .now)) (Among rs)
@@ -108,14 +108,14 @@ given-at f rs R =
       proper = proper-of (i .args .rules .now) (i .args .goal .now) (i .pre .1 .0 .2);
       valid = R .rows-closed .round .valid;
       enough = R .rows-closed .known-in;
-      row-in = omega (arith, R .rows-closed .rows-in, f .before .before .before .before .before .before .before .before .before .before .before .before .before .before .before .loop-test .taken);
+      row-in = omega (arith, R .rows-closed .rows-in, f .before .before .before .before .before .before .before .before .before .before .before .before .before .before .before .loop-test .taken, f .before .before .before .before .before .before .before .before .before .before .before .before .before .before .before .before .before .span-of .ensures .top-in);
       fits = rw (← f .before .before .before .before .before .before .before .before .before .action-of .ensures) (sym (f .before .before .before .before .before .before .before .before .is-of .ensures) ∙ not-false _ (f .before .before .before .before .before .before .before .if3 .left));
       words = f .before .before .steps-of .ensures;
     }
 
 -- the rules walked so far, for the roots of the contract's `requires`
 rules-at : (f : Found)
-    → Rules (bodies-of (entry (run-of f) .args .rules .now) (entry (run-of f) .args .goal .now)) (Among (roots (entry (run-of f)))) (number-at (length (entry (run-of f) .args .rules .now) / 18)) (entry (run-of f) .args .first) (run-of f .run .walked) (run-of f .run .seen) (f .before .before .before .before .before .before .before .before .before .before .before .before .before .before .before .before .before .gained .result)
+    → Rules (bodies-of (entry (run-of f) .args .rules .now) (entry (run-of f) .args .goal .now)) (Among (roots (entry (run-of f)))) (number-at (length (entry (run-of f) .args .rules .now) / 18)) (entry (run-of f) .args .first) (run-of f .run .walked) (run-of f .run .seen) (f .before .before .before .before .before .before .before .before .before .before .before .before .before .before .before .before .before .span-of .result .low) (f .before .before .before .before .before .before .before .before .before .before .before .before .before .before .before .before .before .span-of .result .high) (f .before .before .before .before .before .before .before .before .before .before .before .before .before .before .before .before .before .span-of .result .top)
     (run-of f .run .n) (run-of f .run .m) (rows-of (rules-of f) .loop .row) (rules-of f .loop2 .rule)
     (in-words (rules-of f .loop2 .calls) (rules-of f .loop2 .n) (rules-of f .loop2 .answers) (rules-of f .loop2 .m)) (rules-of f .loop2 .uses)
 rules-at f = let i = entry (run-of f) in rules-of f .loop2 .inv .closed (roots i) (rows-of (rules-of f) .loop .inv .closed (roots i) (round-at (run-of f)))
@@ -151,45 +151,40 @@ run-holds c =
       round = λ roots v. round-start _ _ (i .args .first) _ v (i .pre .0 .3);
     }
 
-gained-requires : tie.Need-gained-requires Inv-loop3 μ-loop3 Inv-loop2 μ-loop2 Inv-loop μ-loop Inv-run μ-run
-gained-requires c κs = let r = c .before .run .inv in (r .words .kept .answers-stored .fits, r .words .kept .answers-stored .most, r .seen-in)
+span-of-requires : tie.Need-span-of-requires Inv-loop3 μ-loop3 Inv-loop2 μ-loop2 Inv-loop μ-loop Inv-run μ-run
+span-of-requires c κs =
+    let r = c .before .before in
+    let k = r .run .inv .words .kept in
+    (k .answers-stored .fits, k .answers-stored .most, r .run .inv .seen-in, round-at r .walked-in, k .calls-stored .most)
 
 loop-holds : tie.Need-loop-holds Inv-loop3 μ-loop3 Inv-loop2 μ-loop2 Inv-loop μ-loop Inv-run μ-run
 loop-holds c =
-    let r = c .before .before .run .inv in
+    let r = c .before .before .before .run .inv in
     record {
       words = record { calls-long = refl; answers-long = refl; kept = r .words .kept; indexed = r .words .indexed; uses-more = uses-refl _ };
       stamped = r .stamped;
-      row-low = omega arith;
-      row-in = r .first-in;
+      row-in = c .span-of .ensures .low-in;
       rows-in = omega arith;
       known-in = omega arith;
-      closed = λ roots S. rows-start _ _ S (c .gained .ensures);
+      closed = λ roots S. rows-start _ _ S (c .span-of .ensures);
     }
 
-is-apart-requires : tie.Need-is-apart-requires Inv-loop3 μ-loop3 Inv-loop2 μ-loop2 Inv-loop μ-loop Inv-run μ-run
-is-apart-requires c κs =
-    let l = c .before .before .before in
-    omega (arith, uses-here l, entry (round-of l) .pre .0 .4, l .loop .inv .words .kept .calls-stored .most, l .loop .inv .rows-in, c .before .before .loop-test .taken)
-
 add-row : tie.Need-add-row Inv-loop3 μ-loop3 Inv-loop2 μ-loop2 Inv-loop μ-loop Inv-run μ-run
-add-row c = omega (arith, c .before .before .before .before .loop-test .taken)
+add-row c = omega (arith, c .before .before .loop-test .taken)
 
 loop-less : tie.Need-loop-less Inv-loop3 μ-loop3 Inv-loop2 μ-loop2 Inv-loop μ-loop Inv-run μ-run
-loop-less c = omega (arith, c .before .before .before .before .loop-test .taken)
+loop-less c = omega (arith, c .before .before .loop-test .taken)
 
 loop-again : tie.Need-loop-again Inv-loop3 μ-loop3 Inv-loop2 μ-loop2 Inv-loop μ-loop Inv-run μ-run
 loop-again c =
-    let l = c .before .before .before .before .before .loop .inv in
-    let inside = c .before .before .before .before .loop-test .taken in
+    let l = c .before .before .before .loop .inv in
     record {
       words = l .words;
       stamped = l .stamped;
-      row-low = omega (arith, l .row-low);
-      row-in = omega arith;
+      row-in = omega (arith, c .before .before .loop-test .taken, c .before .before .before .before .span-of .ensures .top-in);
       rows-in = l .rows-in;
       known-in = l .known-in;
-      closed = λ roots S. rows-settled _ _ (l .closed roots S) (l .row-low) (c .before .before .before .if1 .taken) (c .before .is-apart .ensures (c .if2 .taken));
+      closed = λ roots S. rows-passed _ _ (l .closed roots S) (c .before .if1 .taken) (c .if2 .taken);
     }
 
 add-rule-end : tie.Need-add-rule-end Inv-loop3 μ-loop3 Inv-loop2 μ-loop2 Inv-loop μ-loop Inv-run μ-run
@@ -211,13 +206,13 @@ number-of-requires : tie.Need-number-of-requires Inv-loop3 μ-loop3 Inv-loop2 μ
 number-of-requires c κs = search needs
 
 action-of-requires : tie.Need-action-of-requires Inv-loop3 μ-loop3 Inv-loop2 μ-loop2 Inv-loop μ-loop Inv-run μ-run
-action-of-requires c κs = omega (arith, c .before .before .before .loop2 .inv .words .kept .calls-stored .fits, c .before .before .before .loop2 .inv .rows-in, c .before .before .before .before .before .loop-test .taken)
+action-of-requires c κs = omega (arith, c .before .before .before .loop2 .inv .words .kept .calls-stored .fits, c .before .before .before .loop2 .inv .rows-in, c .before .before .before .before .before .loop-test .taken, c .before .before .before .before .before .before .before .span-of .ensures .top-in)
 
 is-of-requires : tie.Need-is-of-requires Inv-loop3 μ-loop3 Inv-loop2 μ-loop2 Inv-loop μ-loop Inv-run μ-run
 is-of-requires c κs = search needs
 
 add-rule : tie.Need-add-rule Inv-loop3 μ-loop3 Inv-loop2 μ-loop2 Inv-loop μ-loop Inv-run μ-run
-add-rule c = omega (arith, c .before .before .before .before .before .loop2-test .taken)
+add-rule c = omega (arith, c .before .before .before .before .before .loop2-test .taken, c .before .before .before .before .before .before .loop2 .inv .rule-in, entry (c .before .before .before .before .before .before .before .before .before .before .before .before .before) .pre .1 .0 .2 .few-rules)
 
 loop2-less : tie.Need-loop2-less Inv-loop3 μ-loop3 Inv-loop2 μ-loop2 Inv-loop μ-loop Inv-run μ-run
 loop2-less c = omega (arith, c .before .before .before .before .before .loop2-test .taken)
@@ -239,11 +234,11 @@ next-walk-requires c κs = c .before .before .before .before .before .before .be
 
 steps-of-requires : tie.Need-steps-of-requires Inv-loop3 μ-loop3 Inv-loop2 μ-loop2 Inv-loop μ-loop Inv-run μ-run
 steps-of-requires c κs =
-    let i = entry (c .before .before .before .before .before .before .before .before .before .before .before .before .before .before .before .before) in
+    let i = entry (c .before .before .before .before .before .before .before .before .before .before .before .before .before .before .before .before .before) in
     (i .pre .1 .0 .0, i .pre .1 .0 .1, c .before .before .before .before .before .before .action-of .result, i .pre .1 .0 .2, sym (c .before .before .before .before .before .is-of .ensures) ∙ not-false _ (c .before .before .before .before .if3 .left))
 
 state-of-requires : tie.Need-state-of-requires Inv-loop3 μ-loop3 Inv-loop2 μ-loop2 Inv-loop μ-loop Inv-run μ-run
-state-of-requires c κs = omega (arith, c .before .before .before .before .before .before .before .before .before .before .before .before .loop2 .inv .words .kept .calls-stored .fits, c .before .before .before .before .before .before .before .before .before .before .before .before .loop2 .inv .rows-in, c .before .before .before .before .before .before .before .before .before .before .before .before .before .before .loop-test .taken)
+state-of-requires c κs = omega (arith, c .before .before .before .before .before .before .before .before .before .before .before .before .loop2 .inv .words .kept .calls-stored .fits, c .before .before .before .before .before .before .before .before .before .before .before .before .loop2 .inv .rows-in, c .before .before .before .before .before .before .before .before .before .before .before .before .before .before .loop-test .taken, c .before .before .before .before .before .before .before .before .before .before .before .before .before .before .before .before .span-of .ensures .top-in)
 
 loop3-holds : tie.Need-loop3-holds Inv-loop3 μ-loop3 Inv-loop2 μ-loop2 Inv-loop μ-loop Inv-run μ-run
 loop3-holds c =
@@ -321,7 +316,7 @@ enum-told-2 : tie.Need-enum-told-2 Inv-loop3 μ-loop3 Inv-loop2 μ-loop2 Inv-loo
 enum-told-2 c = search needs
 
 add-rule-2 : tie.Need-add-rule-2 Inv-loop3 μ-loop3 Inv-loop2 μ-loop2 Inv-loop μ-loop Inv-run μ-run
-add-rule-2 c = omega (arith, c .before .before .before .before .before .before .before .before .before .before .before .before .before .before .before .before .before .before .before .before .before .before .before .before .before .before .before .before .before .before .before .before .before .before .before .loop2-test .taken, c .before .before .before .before .before .before .before .before .before .before .before .before .before .before .before .before .before .before .before .before .before .before .before .before .before .before .before .before .before .before .before .before .before .before .before .before .loop2 .inv .rule-in, entry (c .before .before .before .before .before .before .before .before .before .before .before .before .before .before .before .before .before .before .before .before .before .before .before .before .before .before .before .before .before .before .before .before .before .before .before .before .before .before .before .before .before .before) .pre .1 .0 .2 .few-rules)
+add-rule-2 c = omega (arith, c .before .before .before .before .before .before .before .before .before .before .before .before .before .before .before .before .before .before .before .before .before .before .before .before .before .before .before .before .before .before .before .before .before .before .before .loop2-test .taken, c .before .before .before .before .before .before .before .before .before .before .before .before .before .before .before .before .before .before .before .before .before .before .before .before .before .before .before .before .before .before .before .before .before .before .before .before .loop2 .inv .rule-in, entry (c .before .before .before .before .before .before .before .before .before .before .before .before .before .before .before .before .before .before .before .before .before .before .before .before .before .before .before .before .before .before .before .before .before .before .before .before .before .before .before .before .before .before .before) .pre .1 .0 .2 .few-rules)
 
 loop2-less-2 : tie.Need-loop2-less-2 Inv-loop3 μ-loop3 Inv-loop2 μ-loop2 Inv-loop μ-loop Inv-run μ-run
 loop2-less-2 c = omega (arith, c .before .before .before .before .before .before .before .before .before .before .before .before .before .before .before .before .before .before .before .before .before .before .before .before .before .before .before .before .before .before .before .before .before .before .before .loop2-test .taken)
@@ -348,7 +343,7 @@ loop2-again-2 c =
       rule-in = omega (arith, c .before .before .before .before .before .before .before .before .before .before .before .before .before .before .before .before .before .before .before .before .before .before .before .before .before .before .before .before .before .before .before .before .before .before .before .loop2-test .taken);
       rows-in = omega (arith, l .rows-in, O .grew .calls-more);
       known-in = omega (arith, l .known-in, O .grew .answers-more);
-      closed = λ roots R. rules-next _ _ _ (l .closed roots R) (c .before .before .before .before .before .before .before .before .before .before .before .before .before .before .before .before .before .before .before .before .before .before .before .before .before .before .before .before .before .before .before .before .before .before .before .before .before .before .loop-test .taken) (f .before .before .before .before .before .before .before .before .before .before .before .number-of .ensures) (f .before .before .steps-of .ensures) more
+      closed = λ roots R. rules-next _ _ _ (l .closed roots R) (omega (arith, c .before .before .before .before .before .before .before .before .before .before .before .before .before .before .before .before .before .before .before .before .before .before .before .before .before .before .before .before .before .before .before .before .before .before .before .before .before .before .loop-test .taken, c .before .before .before .before .before .before .before .before .before .before .before .before .before .before .before .before .before .before .before .before .before .before .before .before .before .before .before .before .before .before .before .before .before .before .before .before .before .before .before .before .span-of .ensures .top-in)) (f .before .before .before .before .before .before .before .before .before .before .before .number-of .ensures) (f .before .before .steps-of .ensures) more
           (rw (c .enum-told .given .1) at (v .turn .ensures .1 _ _ _ (w .going roots (given-at f roots (l .closed roots R)))));
     }
 
@@ -362,7 +357,7 @@ loop-again-2 : tie.Need-loop-again-2 Inv-loop3 μ-loop3 Inv-loop2 μ-loop2 Inv-l
 loop-again-2 c =
     let l = c .before .loop2 .inv in
     let w = c .before .before .before .before .loop .inv in
-    let i = entry (c .before .before .before .before .before .before .before) in
+    let i = entry (c .before .before .before .before .before .before .before .before) in
     record {
       words = record {
         calls-long = l .words .calls-long ∙ w .words .calls-long;
@@ -372,8 +367,7 @@ loop-again-2 c =
         uses-more = uses-trans (w .words .uses-more) (l .words .uses-more);
       };
       stamped = l .stamped;
-      row-low = omega (arith, w .row-low);
-      row-in = omega (arith, c .before .before .before .loop-test .taken);
+      row-in = omega (arith, c .before .before .before .loop-test .taken, c .before .before .before .before .before .span-of .ensures .top-in);
       rows-in = l .rows-in;
       known-in = l .known-in;
       closed = λ roots S. rows-next _ _ _ (λ k a e. (let (j, h, z) = numbers-all (i .args .rules .now) (i .args .goal .now) k a e in (j, omega (arith, c .loop2-test .left), z))) (l .closed roots (w .closed roots S));
@@ -433,7 +427,7 @@ run-again c =
         uses-more = uses-trans (r .words .uses-more) (l .words .uses-more);
       };
       stamped = l .stamped;
-      first-in = omega (arith, l .row-low, l .row-in, l .rows-in);
+      first-in = omega (arith, r .first-in, l .rows-in);
       seen-in = l .known-in;
       round = λ roots v. rows-round _ _ (l .closed roots (r .round roots v)) (c .before .loop-test .left);
     }
@@ -485,9 +479,8 @@ fill-spec =
     Inv-run
     μ-run
     run-holds
-    gained-requires
+    span-of-requires
     loop-holds
-    is-apart-requires
     add-row
     loop-less
     loop-again

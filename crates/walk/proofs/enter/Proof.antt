@@ -36,9 +36,9 @@ put-at c z = rw (z, ← c .before .before .before .index .ensures) (c .add-call 
 row-small : (c : tie.After-add-call) → c .add-call .result .full ≡ false → c .add-call .result .row < 65536
 row-small c f = let s = c .add-call .ensures .0 in omega (arith, s .stored .most, put-row 2 _ _ _ _ _ _ _ _ s f)
 
--- the words of uses are long enough for the record that is walked
-use-room : (c : tie.After-add-call) → start c .args .job .row < length (start c .args .uses .now)
-use-room c = let i = start c in omega (arith, i .pre .0 .4, i .pre .0 .5)
+-- the words of uses are long enough for the call's record
+use-room : (c : tie.After-add-call) → c .add-call .result .full ≡ false → c .add-call .result .row < length (start c .args .uses .now)
+use-room c f = omega (arith, row-small c f, start c .pre .0 .5)
 
 index-requires : tie.Need-index-requires
 index-requires c κs = search needs
@@ -63,7 +63,7 @@ returns c =
     )
 
 note-requires : tie.Need-note-requires
-note-requires c κs = use-room (c .before .before .before .before .before .before)
+note-requires c κs = let p = c .before .before .before .before .before .before in (use-room p (c .before .if1 .left), start p .pre .0 .4)
 
 is-marked-requires : tie.Need-is-marked-requires
 is-marked-requires c κs =
@@ -81,7 +81,7 @@ same-length-5 : tie.Need-same-length-5
 same-length-5 c = search needs
 
 same-length-6 : tie.Need-same-length-6
-same-length-6 c = rw (c .before .before .before .before .before .note .ensures) (use-grew _ _ _ (use-room (c .before .before .before .before .before .before .before .before .before .before .before .before)) .long)
+same-length-6 c = rw (c .before .before .before .before .before .note .ensures) (use-grew _ _ _ (use-room (c .before .before .before .before .before .before .before .before .before .before .before .before) (c .before .before .before .before .before .before .before .if1 .left)) (start (c .before .before .before .before .before .before .before .before .before .before .before .before) .pre .0 .4) .long)
 
 returns-2 : tie.Need-returns-2
 returns-2 c =
@@ -90,13 +90,13 @@ returns-2 c =
     let s = p .add-call .ensures in
     let i = start p in
     let j = i .args .job in (
-      (s .0 .long, s .0 .stored, refl, rw (m .before .before .before .before .note .ensures) (use-grew _ _ _ (use-room p))),
+      (s .0 .long, s .0 .stored, refl, rw (m .before .before .before .before .note .ensures) (use-grew _ _ _ (use-room p (m .before .before .before .before .before .before .if1 .left)) (i .pre .0 .4))),
       (
         s .1,
         λ bodies roots b body h e z T.
             (let (U, l, k) = turn-called bodies (Among roots) b (j .known) (j .rule) (j .row) (j .walk) body T h e (put-at p z) (m .before .before .before .before .before .before .if1 .left) in
-            let N = turn-noted bodies (Among roots) b (j .known) (j .rule) (j .row) (j .walk) body U h e (p .add-call .result .row) (use-room p) in
-            rw (m .before .before .before .before .note .ensures) (turn-seen bodies (Among roots) b (j .known) (j .rule) (j .row) (j .walk) body N h e l k (use-new _ _ _ (use-room p)) (rw (c .if2 .taken) at (m .is-marked .ensures)), refl)),
+            let N = turn-noted bodies (Among roots) b (j .known) (j .rule) (j .row) (j .walk) body U h e (p .add-call .result .row) (use-room p (m .before .before .before .before .before .before .if1 .left)) (i .pre .0 .4) in
+            rw (m .before .before .before .before .note .ensures) (turn-seen bodies (Among roots) b (j .known) (j .rule) (j .row) (j .walk) body N h e l k (use-new _ _ _ (use-room p (m .before .before .before .before .before .before .if1 .left)) (i .pre .0 .4)) (rw (c .if2 .taken) at (m .is-marked .ensures)), refl)),
       ),
     )
 
@@ -124,7 +124,7 @@ same-length-9 : tie.Need-same-length-9
 same-length-9 c = search needs
 
 same-length-10 : tie.Need-same-length-10
-same-length-10 c = rw (c .before .before .before .before .before .before .before .before .before .before .before .before .note .ensures) (use-grew _ _ _ (use-room (c .before .before .before .before .before .before .before .before .before .before .before .before .before .before .before .before .before .before .before)) .long)
+same-length-10 c = rw (c .before .before .before .before .before .before .before .before .before .before .before .before .note .ensures) (use-grew _ _ _ (use-room (c .before .before .before .before .before .before .before .before .before .before .before .before .before .before .before .before .before .before .before) (c .before .before .before .before .before .before .before .before .before .before .before .before .before .before .if1 .left)) (start (c .before .before .before .before .before .before .before .before .before .before .before .before .before .before .before .before .before .before .before) .pre .0 .4) .long)
 
 returns-3 : tie.Need-returns-3
 returns-3 c =
@@ -135,14 +135,14 @@ returns-3 c =
     let s = p .add-call .ensures in
     let i = start p in
     let j = i .args .job in (
-      (s .0 .long, s .0 .stored, refl, rw (m .before .before .before .before .note .ensures) (use-grew _ _ _ (use-room p))),
+      (s .0 .long, s .0 .stored, refl, rw (m .before .before .before .before .note .ensures) (use-grew _ _ _ (use-room p (m .before .before .before .before .before .before .if1 .left)) (i .pre .0 .4))),
       (
         s .1,
         λ bodies roots b body h e z T.
             (let (U, l, r) = turn-called bodies (Among roots) b (j .known) (j .rule) (j .row) (j .walk) body T h e (put-at p z) (m .before .before .before .before .before .before .if1 .left) in
-            let N = turn-noted bodies (Among roots) b (j .known) (j .rule) (j .row) (j .walk) body U h e (p .add-call .result .row) (use-room p) in (
+            let N = turn-noted bodies (Among roots) b (j .known) (j .rule) (j .row) (j .walk) body U h e (p .add-call .result .row) (use-room p (m .before .before .before .before .before .before .if1 .left)) (i .pre .0 .4) in (
               rw (m .before .before .before .before .note .ensures, k .mark .ensures)
-                  (turn-none bodies (Among roots) b (j .known) (j .rule) (j .row) (j .walk) body N h e l r (use-new _ _ _ (use-room p)) (row-small p (m .before .before .before .before .before .before .if1 .left)) (rw (c .before .before .before .before .before .before .before .if2 .left) at (m .is-marked .ensures))
+                  (turn-none bodies (Among roots) b (j .known) (j .rule) (j .row) (j .walk) body N h e l r (use-new _ _ _ (use-room p (m .before .before .before .before .before .before .if1 .left)) (i .pre .0 .4)) (row-small p (m .before .before .before .before .before .before .if1 .left)) (rw (c .before .before .before .before .before .before .before .if2 .left) at (m .is-marked .ensures))
                   (next-among (i .args .answers .now) (i .args .m) (rw (c .if3 .taken) at (n .first-answer .ensures)))),
               refl,
             )),
@@ -171,7 +171,7 @@ same-length-13 : tie.Need-same-length-13
 same-length-13 c = search needs
 
 same-length-14 : tie.Need-same-length-14
-same-length-14 c = rw (c .before .before .before .before .before .before .before .before .before .before .before .before .before .note .ensures) (use-grew _ _ _ (use-room (c .before .before .before .before .before .before .before .before .before .before .before .before .before .before .before .before .before .before .before .before)) .long)
+same-length-14 c = rw (c .before .before .before .before .before .before .before .before .before .before .before .before .before .note .ensures) (use-grew _ _ _ (use-room (c .before .before .before .before .before .before .before .before .before .before .before .before .before .before .before .before .before .before .before .before) (c .before .before .before .before .before .before .before .before .before .before .before .before .before .before .before .if1 .left)) (start (c .before .before .before .before .before .before .before .before .before .before .before .before .before .before .before .before .before .before .before .before) .pre .0 .4) .long)
 
 returns-4 : tie.Need-returns-4
 returns-4 c =
@@ -186,14 +186,14 @@ returns-4 c =
     let at = i .args .at in
     let first = n .first-answer .result in
     let below : first < j .known = omega (arith, n .first-answer .ensures .high, o .if3 .left) in (
-      (s .0 .long, s .0 .stored, refl, rw (m .before .before .before .before .note .ensures) (use-grew _ _ _ (use-room p))),
+      (s .0 .long, s .0 .stored, refl, rw (m .before .before .before .before .note .ensures) (use-grew _ _ _ (use-room p (m .before .before .before .before .before .before .if1 .left)) (i .pre .0 .4))),
       (
         s .1,
         λ bodies roots b body h e z T.
             (let (U, l, r) = turn-called bodies (Among roots) b (j .known) (j .rule) (j .row) (j .walk) body T h e (put-at p z) (m .before .before .before .before .before .before .if1 .left) in
-            let N = turn-noted bodies (Among roots) b (j .known) (j .rule) (j .row) (j .walk) body U h e (p .add-call .result .row) (use-room p) in (
+            let N = turn-noted bodies (Among roots) b (j .known) (j .rule) (j .row) (j .walk) body U h e (p .add-call .result .row) (use-room p (m .before .before .before .before .before .before .if1 .left)) (i .pre .0 .4) in (
               rw (c .final-of .ensures, m .before .before .before .before .note .ensures, k .mark .ensures)
-                  (turn-take bodies (Among roots) b (j .known) (j .rule) (j .row) (j .walk) body N h e l r (use-new _ _ _ (use-room p)) (row-small p (m .before .before .before .before .before .before .if1 .left)) (rw (c .before .before .before .before .before .before .before .before .if2 .left) at (m .is-marked .ensures)) below
+                  (turn-take bodies (Among roots) b (j .known) (j .rule) (j .row) (j .walk) body N h e l r (use-new _ _ _ (use-room p (m .before .before .before .before .before .before .if1 .left)) (i .pre .0 .4)) (row-small p (m .before .before .before .before .before .before .if1 .left)) (rw (c .before .before .before .before .before .before .before .before .if2 .left) at (m .is-marked .ensures)) below
                   (next-among (i .args .answers .now) (i .args .m) (n .first-answer .ensures))),
               left-on (j .known) (i .args .chosen .now) (set (i .args .chosen .now) at first) at at (λ q l. getD-set-other (i .args .chosen .now) at q first 0 (omega arith)) (i .pre .0 .2) refl,
             )),
