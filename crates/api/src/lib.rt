@@ -5,7 +5,7 @@ ghost use Rattle.sheet.specs.Reader.{readSheet};
 ghost use Rattle.sheet.specs.Result.{resultOf, rulesAfter};
 ghost use Rattle.sheet.specs.FluentName.{nameSpan};
 ghost use Rattle.evaluator.specs.Evaluated.{Evaluated, asked, lent, told};
-ghost use Rattle.path.specs.Outcome.{Lent, Answered};
+ghost use Rattle.path.specs.Outcome.{Answered};
 ghost use Rattle.api.specs.Given.{sheet-given, span-given};
 
 // What a sheet says beside its rule words, as sheet::Sheet.

@@ -4,11 +4,11 @@ use native.Mathlib.Omega.{arith}
 use mathlib.Core.Path.{_≡_, refl, sym, _∙_}
 use mathlib.Core.Bool.{Bool, true, false, cond}
 use mathlib.Core.List.{List}
-use lib.ListN.{length, getD}
+use lib.ListN.{length}
 use lib.Dec.{eqb, ltb}
 use borrow.Author.Tests.{ltb-true, eqb-true, ne-eqb}
 use Rattle.steps.specs.Run.{Goal}
-use Rattle.steps.specs.Words.{head-of, count-of, words-of}
+use Rattle.steps.specs.Words.{head-of, words-of}
 use Rattle.steps.proofs.WordLaws.{words-short}
 use Rattle.steps.proofs.EachBelow.{both, true-not-false}
 use Rattle.tabling.specs.Records.{bodies-of}

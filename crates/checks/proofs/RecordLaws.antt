@@ -1,5 +1,5 @@
 -- Records that 42 does not refuse. Assumes nothing.
-use Prim.Native.Nat.{ℕ, _/_, _^_, _<_}
+use Prim.Native.Nat.{ℕ, _^_, _<_}
 use native.Mathlib.Nat.{div-eq-of-lt}
 use mathlib.Core.Path.{_≡_, refl}
 use mathlib.Core.Bool.{Bool, true, false, _||_}

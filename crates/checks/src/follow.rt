@@ -5,7 +5,7 @@ use steps::word::elementary;
 use steps::word::index;
 use steps::word::is_call;
 ghost use mathlib.Core.Path.{_≡_};
-ghost use Prim.Native.Nat.{ℕ, _+_, _*_, _≤_};
+ghost use Prim.Native.Nat.{_+_, _*_, _≤_};
 ghost use mathlib.Core.Bool.{cond, _&&_};
 ghost use lib.ListN.{length, getD};
 ghost use lib.Dec.{eqb};

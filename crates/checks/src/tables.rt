@@ -1,7 +1,7 @@
 // The checks 40 and 42 of whole tables.
 use crate::justified::all_justified;
 ghost use mathlib.Core.Path.{_≡_};
-ghost use mathlib.Core.Bool.{Bool, true, false, not};
+ghost use mathlib.Core.Bool.{true, false, not};
 ghost use Prim.Native.Nat.{ℕ, _+_, _*_, _≤_, _<_};
 ghost use lib.ListN.{length};
 ghost use Rattle.steps.specs.Acceptance.{bad-start, words-refusal};

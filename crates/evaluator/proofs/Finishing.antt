@@ -1,26 +1,25 @@
 -- Closed tables are a finished run's, and the goal's answers are its ends. Assumes nothing.
-use Prim.Native.Nat.{ℕ, _*_, _/_, _<_, _≤_, min}
+use Prim.Native.Nat.{ℕ, _<_}
 use native.Mathlib.Omega.{arith}
 use mathlib.Core.Path.{_≡_, refl, sym, ap, _∙_}
 use mathlib.Core.List.{List}
-use mathlib.Core.Logic.{_↔_, _⊎_, ⊎-elim}
+use mathlib.Core.Logic.{_↔_, ⊎-elim}
 use lib.ListN.{length}
 use Rattle.steps.specs.State.{State}
-use Rattle.steps.specs.Run.{Run, Goal, Call, Answer, End}
+use Rattle.steps.specs.Run.{Run, Goal, End}
 use Rattle.steps.specs.Words.{run-of}
 use Rattle.steps.specs.Counting.{Counts}
 use Rattle.steps.proofs.AcceptanceLaws.{AcceptedWords}
 use Rattle.steps.proofs.Counting.{counts-map, counts-outnumbers}
 use Rattle.steps.proofs.Rows.{table-counts}
 use Rattle.steps.proofs.Exactness.{Exact}
-use Rattle.tabling.specs.Records.{calls-in, answers-in, bodies-of, room}
-use Rattle.tabling.proofs.Storage.{CallAt, AnswerAt, HeldAnswer}
+use Rattle.tabling.specs.Records.{bodies-of, room}
+use Rattle.tabling.proofs.Storage.{CallAt, HeldAnswer}
 use Rattle.tabling.proofs.Growth.{Tables, row-once}
 use Rattle.tabling.proofs.Justification.{justified-in}
-use Rattle.tabling.proofs.Evidence.{Among, Valid, inside-of}
-use Rattle.tabling.proofs.Walking.{Of}
+use Rattle.tabling.proofs.Evidence.{Among, inside-of}
 use Rattle.tabling.proofs.Adding.{calls-apart, answers-apart}
-use Rattle.tabling.proofs.Numbers.{number-at, proper-of}
+use Rattle.tabling.proofs.Numbers.{proper-of}
 use Rattle.tabling.proofs.Rounds.{Whole, C, A, exact-of}
 use Rattle.tabling.proofs.Going.{Kept, in-words}
 use Rattle.tabling.proofs.RunTables.{the-root, exact-run}

@@ -1,32 +1,27 @@
 -- How an evaluation comes out, from what filling the tables leaves. Assumes nothing.
-use Prim.Native.Nat.{ℕ, _*_, _/_, _<_, _≤_}
+use Prim.Native.Nat.{ℕ, _<_, _≤_}
 use native.Mathlib.Omega.{arith}
 use native.Mathlib.Nat.{mul-zero}
 use native.Mathlib.Decide.{decLt}
 use mathlib.Core.Path.{_≡_, refl, sym, ap, _∙_}
 use mathlib.Core.Bool.{Bool, true, false}
 use mathlib.Core.List.{List, [], _∷_, List·Memᴰ·head}
-use mathlib.Core.Logic.{_↔_}
-use lib.ListN.{length, getD, drop, replicate, length-replicate}
-use Rattle.steps.specs.State.{State}
+use lib.ListN.{length, getD, replicate, length-replicate}
 use Rattle.steps.specs.Run.{Goal, End}
 use Rattle.steps.specs.Counting.{Counts}
 use Rattle.steps.proofs.AcceptanceLaws.{AcceptedWords, start-accepted}
-use Rattle.steps.proofs.Counting.{counts-unique}
 use Rattle.tabling.specs.Records.{calls-in, answers-in, bodies-of, room}
-use Rattle.tabling.proofs.Storage.{Stored, CallAt, FindCall, HeldAnswer}
+use Rattle.tabling.proofs.Storage.{Stored, CallAt, FindCall}
 use Rattle.tabling.proofs.Growth.{AnswersOnce}
 use Rattle.tabling.proofs.Marks.{zeros-at}
 use Rattle.tabling.proofs.Evidence.{Among}
-use Rattle.tabling.proofs.Numbers.{number-at}
 use Rattle.tabling.proofs.Rounds.{Whole}
 use Rattle.tabling.proofs.Going.{in-words}
 use Rattle.tabling.proofs.RunTables.{outgrown-run}
 use Rattle.tabling.proofs.Filling.{Filled}
 use Rattle.tabling.proofs.Finals.{finals-below, Listed}
 use Rattle.evaluator.specs.Full.{Full}
-use Rattle.evaluator.specs.Finished.{Finished}
-use Rattle.evaluator.specs.Evaluated.{Asked, Lent, Told, asked, lent, told, refused-with, run-asked, Tabled, EndsListed, Evaluated, no-room, short-list, ends-listed}
+use Rattle.evaluator.specs.Evaluated.{Asked, Lent, lent, told, refused-with, run-asked, Tabled, Evaluated, short-list, ends-listed}
 use Rattle.evaluator.proofs.Finishing.{finished, not-full, goal-ends, ends-counted}
 
 -- words that are all 0 store no record

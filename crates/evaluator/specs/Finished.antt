@@ -6,10 +6,10 @@ use mathlib.Core.List.{List}
 use mathlib.Core.Logic.{_↔_}
 use lib.ListN.{getD}
 use Rattle.steps.specs.State.{State}
-use Rattle.steps.specs.Run.{Run, Call, Answer}
+use Rattle.steps.specs.Run.{Call, Answer}
 use Rattle.steps.specs.Words.{run-of}
 use Rattle.steps.specs.Counting.{Counts}
-use Rattle.tabling.specs.Records.{Bodies, calls-in, answers-in, bodies-of, justified}
+use Rattle.tabling.specs.Records.{calls-in, answers-in, bodies-of, justified}
 use Rattle.evaluator.specs.Full.{Calls, Answers}
 
 -- The lent words hold n call records and m answer records of the run of these rules and this goal from this start.

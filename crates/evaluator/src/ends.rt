@@ -2,7 +2,7 @@
 use storage::tables;
 ghost use mathlib.Core.Path.{_≡_};
 ghost use mathlib.Core.List.{_++_};
-ghost use Prim.Native.Nat.{_+_, _*_, _≤_};
+ghost use Prim.Native.Nat.{_*_, _≤_};
 ghost use lib.ListN.{length, drop};
 ghost use Rattle.tabling.specs.Records.{answers-in};
 ghost use Rattle.tabling.proofs.Growth.{AnswersOnce};

@@ -1,20 +1,19 @@
 -- The path's answer by its cases, and what no fault means. Assumes nothing.
-use Prim.Native.Nat.{ℕ, suc, _+_, _<_, _≤_}
+use Prim.Native.Nat.{ℕ, _+_, _<_, _≤_}
 use native.Mathlib.Omega.{arith}
-use mathlib.Core.Path.{_≡_, refl, sym, ap, _∙_}
+use mathlib.Core.Path.{_≡_, refl, sym, _∙_}
 use mathlib.Core.Bool.{Bool, true, false, cond, not}
-use mathlib.Core.List.{List, _∷_, _++_}
+use mathlib.Core.List.{List, _∷_}
 use mathlib.Core.Logic.{_≢_}
-use lib.ListN.{length, drop}
+use lib.ListN.{length}
 use lib.Dec.{eqb, ltb}
-use borrow.Author.Tests.{eq-eqb, ne-eqb, eqb-true, eqb-false, lt-ltb, le-ltb, ltb-true, ltb-false, not-true, not-false}
+use borrow.Author.Tests.{eq-eqb, ne-eqb, eqb-true, eqb-false, lt-ltb, le-ltb, ltb-true}
 use Rattle.steps.specs.Acceptance.{bad-counts, bad-length, bad-rules, bad-goal, words-refusal}
 use Rattle.steps.proofs.EachBelow.{each-at}
 use Rattle.steps.proofs.AcceptanceLaws.{accepted}
 use Rattle.tabling.specs.Records.{justified}
 use Rattle.checks.specs.Checks.{over-room, all-justified, bad-records}
 use Rattle.checks.proofs.RecordLaws.{Proper, never-bad}
-use Rattle.unfolding.specs.Path.{path-of}
 use Rattle.unfolding.proofs.Walk.{Checked, startAt, addedBy}
 use Rattle.unfolding.proofs.Writing.{Listed}
 use Rattle.unfolding.proofs.Checking.{checked, records-justified, path-added}

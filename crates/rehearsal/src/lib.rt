@@ -1,5 +1,4 @@
 // One rehearsal: a sheet is read and its goal evaluated from its start, in rooms of 512 calls and 256 answers.
-ghost use mathlib.Core.Path.{_≡_};
 ghost use Rattle.rehearsal.specs.Rehearsed.{Rehearsed};
 
 // The refusal, 0 for none, and its line; the counts of ends, calls and answers.

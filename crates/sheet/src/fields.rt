@@ -1,6 +1,6 @@
 // The fields of a line after its word: those from p up to e, none where p is past e.
 ghost use mathlib.Core.Path.{_≡_};
-ghost use Prim.Native.Nat.{_+_, _≤_, _<_};
+ghost use Prim.Native.Nat.{_+_, _≤_};
 ghost use lib.ListN.{length};
 ghost use lib.Seq.{slice};
 ghost use Rattle.chars.specs.Inner.{fieldsFrom};

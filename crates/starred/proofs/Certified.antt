@@ -3,7 +3,7 @@ use Prim.Native.Nat.{ℕ}
 use mathlib.Core.Path.{_≡_, refl, sym, ap, subst}
 use mathlib.Core.Bool.{Bool, true, false, cond, not, _&&_, _||_}
 use mathlib.Core.List.{List, [], _∷_, _++_, List·Memᴰ, List·Memᴰ·head, List·Memᴰ·tail, List·Memᴰ·not-nil, List·Memᴰ·append-cases, Memᴰ·append-right, Memᴰ·cast, List·Memᴰ·eq-of-singleton}
-use mathlib.Core.Logic.{inl, inr, ⊎-elim}
+use mathlib.Core.Logic.{inl, ⊎-elim}
 use lib.Dec.{T, eqb, eqb→eq, eqb-refl, T-not}
 use Rattle.steps.specs.State.{State, holds, added, removed}
 use Rattle.steps.specs.Step.{Step, query, insert, delete, call, Body, Rule}
@@ -12,7 +12,7 @@ use Rattle.starred.proofs.ListTests.{both, both-l, both-r, both-in, eit
 use Rattle.steps.proofs.Execution.{Ends}
 use Rattle.steps.proofs.Deductions.{Does, asks, adds, drops}
 use Rattle.steps.proofs.Tables.{Walk, stands, walks, takes, walk-runs, walk-reached}
-use Rattle.steps.proofs.Exactness.{BodyOf, of-goal, of-rule, Root, Reached, Closed, Sound, Exact, exact, Apart, Separate}
+use Rattle.steps.proofs.Exactness.{BodyOf, of-goal, of-rule, Root, Reached, Closed, Exact, exact, Apart, Separate}
 
 -- ---- the walks through a list of answers, enumerated
 
@@ -111,6 +111,14 @@ call-row c k = eqb (c .0) (k .0) && eqb (c .1) (k .1)
 
 unfoldable pub answer-row : AnswerRow → AnswerRow → Bool
 answer-row s t = eqb (s .0) (t .0) && (eqb (s .1) (t .1) && eqb (s .2) (t .2))
+
+pub call-row-refl : (c : CallRow) → T (call-row c c)
+unfolding call-row
+call-row-refl c = both-in (eqb (c .0) (c .0)) (eqb (c .1) (c .1)) (eqb-refl (c .0)) (eqb-refl (c .1))
+
+pub answer-row-refl : (t : AnswerRow) → T (answer-row t t)
+unfolding answer-row
+answer-row-refl t = both-in (eqb (t .0) (t .0)) (eqb (t .1) (t .1) && eqb (t .2) (t .2)) (eqb-refl (t .0)) (both-in (eqb (t .1) (t .1)) (eqb (t .2) (t .2)) (eqb-refl (t .1)) (eqb-refl (t .2)))
 
 -- every walk's end is an answer, and every call that it stands before a call
 unfoldable pub kept : List CallRow → List AnswerRow → CallRow → State → Body → Bool

@@ -1,22 +1,22 @@
 -- The starred drills hold: for each row, tables found by rounds pass the test that they prove it, and its paths are computed. Assumes nothing.
-use Prim.Native.Nat.{ℕ, zero, suc, _<_}
-use mathlib.Core.Path.{_≡_, refl}
-use mathlib.Core.Bool.{Bool, true, false, cond, not, _&&_, _||_}
+use Prim.Native.Nat.{ℕ, zero, suc}
+use mathlib.Core.Path.{refl}
+use mathlib.Core.Bool.{Bool, true, cond, not, _&&_, _||_}
 use mathlib.Core.List.{List, [], _∷_, List·Memᴰ, Memᴰ·cast}
 use mathlib.Core.Logic.{⊎-elim}
-use lib.Dec.{T, eqb, ltb, eqb→eq, eqb-refl, T-not}
+use lib.Dec.{T, eqb, ltb, eqb→eq, T-not}
 use borrow.Author.Tests.{ltb-true}
 use lib.ListN.{length}
-use Rattle.steps.specs.State.{State, holds, added, removed}
+use Rattle.steps.specs.State.{State}
 use Rattle.steps.specs.Step.{query, insert, delete, call, Body}
 use Rattle.steps.specs.Run.{Run, Goal}
 use Rattle.steps.specs.Counting.{Rising, rising-nil, rising-cons}
 use Rattle.starred.specs.Drills.{Shown, Drill, run, Shows, Holds, AllHold, word, drills, drill, path, _⟵_}
 use Rattle.steps.specs.Words.{step-by, rules-from}
 use Rattle.steps.specs.Acceptance.{each-below, good-step, good-word, good-rule, bad-counts, bad-length, bad-rules, bad-goal, bad-start, words-refusal, refusal-of}
-use Rattle.starred.proofs.ListTests.{both, both-l, both-r, both-in, either, holds-true, every, any, every-at, any-at, distinct, distinct-of}
+use Rattle.starred.proofs.ListTests.{both, both-l, both-r, either, holds-true, every, any, every-at, any-at, distinct, distinct-of}
 use Rattle.starred.proofs.Paths.{paths-show}
-use Rattle.starred.proofs.Certified.{CallRow, AnswerRow, Place, places, bodies, next, certified, certified-exact, separate, closed, justified, reached, owned, kept, apart, some-place, every-place, ends-at, comes-at, call-row, answer-row, has-answer}
+use Rattle.starred.proofs.Certified.{CallRow, AnswerRow, Place, places, bodies, next, certified, certified-exact, separate, closed, justified, reached, owned, kept, apart, some-place, every-place, ends-at, comes-at, call-row, answer-row, call-row-refl, answer-row-refl, has-answer}
 
 -- ---- tables by rounds, newest row first
 
@@ -51,14 +51,6 @@ unfolding rounds round note answer-row call-row places bodies next
 tables run = rounds 8 run ((Goal, run .start) ∷ [], [])
 
 -- ---- the test of a row
-
-call-row-refl : (c : CallRow) → T (call-row c c)
-unfolding call-row
-call-row-refl c = both-in (eqb (c .0) (c .0)) (eqb (c .1) (c .1)) (eqb-refl (c .0)) (eqb-refl (c .1))
-
-answer-row-refl : (t : AnswerRow) → T (answer-row t t)
-unfolding answer-row
-answer-row-refl t = both-in (eqb (t .0) (t .0)) (eqb (t .1) (t .1) && eqb (t .2) (t .2)) (eqb-refl (t .0)) (both-in (eqb (t .1) (t .1)) (eqb (t .2) (t .2)) (eqb-refl (t .1)) (eqb-refl (t .2)))
 
 abbrev rising : List ℕ → Bool
 rising [] = true

@@ -1,5 +1,6 @@
--- ListTests, Certified: a test that computes of finite tables. Paths: those of the rows. Drills: every row holds.
+-- ListTests, Certified: a test that computes of finite tables. RunTables: tables in words that pass it. Paths: those of the rows. Drills: every row holds.
 pub mod ListTests
 pub mod Certified
+pub mod RunTables
 pub mod Paths
 pub mod Drills

@@ -1,16 +1,17 @@
 -- The starred drills D1 to D10 of document 01, ten rows of one table, and what a row says of its run and its paths. Assumes nothing.
-use Prim.Native.Nat.{ℕ, _+_, _-_, _*_}
+use Prim.Native.Nat.{ℕ, _+_, _-_, _<_}
 use mathlib.Core.Path.{_≡_}
 use mathlib.Core.List.{List, [], _∷_, _++_, map, List·Memᴰ}
 use mathlib.Core.Logic.{_↔_}
 use lib.ListN.{length, replicate}
 use Rattle.steps.specs.State.{State}
-use Rattle.steps.specs.Step.{Step, query, insert, delete, call, Body, Rule, Book}
-use Rattle.steps.specs.Run.{Run, Call, Answer, End}
+use Rattle.steps.specs.Step.{Step, query, insert, delete, call, Body}
+use Rattle.steps.specs.Run.{Run, Goal, Call, Answer, End}
 use Rattle.steps.specs.Counting.{Counts, Rising}
 use Rattle.steps.specs.Words.{run-of}
 use Rattle.steps.specs.Acceptance.{Accepted}
-use Rattle.path.specs.Outcome.{Lent, refusal-of, count-of, list-after}
+use Rattle.evaluator.specs.Finished.{Finished}
+use Rattle.path.specs.Outcome.{Lent, call-records, answer-records, refusal-of, count-of, list-after}
 
 -- A path of a row: the words of both tables, the answer record asked for and the list lent; then the refusal, the count of states and the list
 -- afterwards.
@@ -39,7 +40,7 @@ pub record Drill : Type 0 where
 abbrev pub run : Drill → Run
 run d = run-of (d .rules) (d .goal) (d .start)
 
--- The tables of a path are lent with the row's counts, rules and goal, and have as many records as its run.
+-- What is lent for a path of a row: the row's counts, rules and goal, and the path's tables with as many records as the row has calls and answers.
 abbrev pub lent : Drill → Shown → Lent
 lent d p = record {
   fluents = d .fluents;
@@ -52,8 +53,13 @@ lent d p = record {
   answer-count = d .answers;
 }
 
--- What a path of a row says.
+-- What a path of a row says: its tables are those of the row's finished run, the record asked for is an answer of the goal at the start, and
+-- this is the result of that record's path.
 pub record Shows (d : Drill) (p : Shown) : Type 0 where
+  pub finished : Finished (d .rules) (d .goal) (d .start) (p .calls) (p .answers) (d .calls) (d .answers)
+  pub asked : p .asked < d .answers
+  pub action : call-records (lent d p) .action (answer-records (lent d p) .call (p .asked)) ≡ Goal
+  pub state : call-records (lent d p) .state (answer-records (lent d p) .call (p .asked)) ≡ d .start
   pub refusal : refusal-of (lent d p) (p .asked) (p .list) ≡ p .refusal
   pub count : count-of (lent d p) (p .asked) (p .list) ≡ p .count
   pub after : list-after (lent d p) (p .asked) (p .list) ≡ p .after

@@ -3,25 +3,25 @@
 use Prim.Native.Nat.{ℕ, zero, suc, _+_, _-_, _*_, _/_, _%_, _^_, _<_, _≤_}
 use native.Mathlib.Omega.{arith}
 use native.Mathlib.Nat.{div-lt-iff-lt-mul}
-use mathlib.Core.Path.{_≡_, refl, sym, ap, subst, _∙_}
-use mathlib.Core.Bool.{Bool, true, false, cond, not, _||_, _&&_}
-use mathlib.Core.List.{List, [], _∷_, _++_, List·Memᴰ, List·Memᴰ·head, List·Memᴰ·tail, List·Memᴰ·append-cases, Memᴰ·of-map}
+use mathlib.Core.Path.{_≡_, refl, ap, subst, _∙_}
+use mathlib.Core.Bool.{Bool, true, false, cond, not, _||_}
+use mathlib.Core.List.{List, _∷_, List·Memᴰ, List·Memᴰ·head, List·Memᴰ·tail, List·Memᴰ·append-cases, Memᴰ·of-map}
 use mathlib.Core.Logic.{_≢_, ⊎-elim}
-use lib.ListN.{getD, take, drop, length, length-take}
+use lib.ListN.{getD, drop, length}
 use lib.Pow.{pow-pos}
 use lib.Seq.{getD-take, getD-drop}
 use lib.Dec.{eqb, ltb}
-use borrow.Author.Tests.{lt-ltb, ltb-true, ltb-false, eqb-true, not-true, not-false}
+use borrow.Author.Tests.{lt-ltb, ltb-true, ltb-false, eqb-true, not-false}
 use Rattle.steps.specs.State.{State, holds, added, removed}
 use Rattle.steps.specs.Step.{Step, query, insert, delete, call, Body, Rule, Book}
 use Rattle.steps.specs.Deduction.{ComesToCall, _⊢_, Move, queries, inserts, deletes, calls, Deduction, done, move}
-use Rattle.steps.specs.Run.{Run, Goal}
-use Rattle.steps.specs.Words.{step-by, step-of, body-of, head-of, count-of, words-of, rule-of, book-of, run-of}
-use Rattle.steps.specs.Acceptance.{each-below, good-step, good-word, good-rule, bad-counts, bad-length, bad-rules, bad-goal, bad-start, words-refusal, refusal-of}
+use Rattle.steps.specs.Run.{Goal}
+use Rattle.steps.specs.Words.{step-by, step-of, body-of, head-of, count-of, words-of, book-of, run-of}
+use Rattle.steps.specs.Acceptance.{good-step, good-word, good-rule, bad-counts, bad-length, bad-rules, bad-goal, bad-start, words-refusal, refusal-of}
 use Rattle.steps.proofs.StateLaws.{room, not-held}
 use Rattle.steps.proofs.EachBelow.{both, each-at, true-not-false}
 use Rattle.steps.proofs.Lists.{member-at}
-use Rattle.steps.proofs.WordLaws.{Low, book-member, words-short}
+use Rattle.steps.proofs.WordLaws.{book-member, words-short}
 use Rattle.steps.proofs.Exactness.{Separate}
 
 -- ---- the facts, one for each part of the table

@@ -2,8 +2,8 @@
 use Prim.Native.Nat.{ℕ}
 use mathlib.Core.Path.{_≡_, refl}
 use mathlib.Core.Bool.{true}
-use mathlib.Core.List.{List, [], _∷_, _++_, List·Memᴰ, append-assoc}
-use mathlib.Core.Logic.{_⊎_, inl, inr, _↔_, ⊎-map, ⊎-elim}
+use mathlib.Core.List.{_∷_, _++_, List·Memᴰ, append-assoc}
+use mathlib.Core.Logic.{_⊎_, _↔_, ⊎-map, ⊎-elim}
 use Rattle.steps.specs.State.{State, holds, added, removed}
 use Rattle.steps.specs.Step.{Step, query, insert, delete, call, Body, Rule, Book}
 use Rattle.steps.specs.Deduction.{Sequent, _⊢_, Move, queries, inserts, deletes, calls, Deduction, done, move, Final, ComesToCall}

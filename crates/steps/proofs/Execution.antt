@@ -1,7 +1,7 @@
 -- Executions of bodies in big steps, over any elementary step and any bodies of actions, and their laws for a body in two parts.
 -- Only proofs cite this file: `Deductions` shows that it says the same as the moves. Assumes nothing.
 use Prim.Native.Nat.{ℕ}
-use mathlib.Core.Path.{_≡_, refl, sym, subst}
+use mathlib.Core.Path.{_≡_, subst}
 use mathlib.Core.List.{[], _∷_, _++_}
 use mathlib.Core.Logic.{_⊎_, inl, inr, ⊎-map}
 use Rattle.steps.specs.Step.{Step, call, Body}

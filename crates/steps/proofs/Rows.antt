@@ -1,16 +1,16 @@
 -- The rows of a table as a list: what "row i, for i below n" says of `Distinct`, `Counts` and `Outnumbers`. Assumes nothing.
-use Prim.Native.Nat.{ℕ, zero, suc, _+_, _≤_, _<_}
+use Prim.Native.Nat.{ℕ, zero, suc, _≤_, _<_}
 use native.Mathlib.Omega.{arith}
 use mathlib.Core.Path.{_≡_, refl, sym, _∙_, ap}
-use mathlib.Core.List.{List, [], _∷_, List·Memᴰ, List·Memᴰ·head, List·Memᴰ·tail, List·Memᴰ·not-nil, List·Memᴰ·cases-cons}
-use mathlib.Core.Logic.{_↔_, _≢_, _⊎_, inl, inr, ⊎-elim}
+use mathlib.Core.List.{List, [], _∷_, List·Memᴰ, List·Memᴰ·head, List·Memᴰ·tail, List·Memᴰ·not-nil}
+use mathlib.Core.Logic.{_≢_}
 use native.Mathlib.Decide.{ℕ-discrete}
 use lib.ListN.{length}
 use Rattle.steps.specs.Counting.{Distinct, none, more, Counts, Outnumbers}
 use Rattle.steps.proofs.Counting.{counts-outnumbers, full-outnumbers}
 
 module _ {X : Type 0} (row : ℕ → X) where
-  rows : ℕ → List X
+  unfoldable pub rows : ℕ → List X
   rows zero = []
   rows (suc n) = row n ∷ rows n
 
@@ -19,13 +19,13 @@ module _ {X : Type 0} (row : ℕ → X) where
   rows-length zero = refl
   rows-length (suc n) = ap suc (rows-length n)
 
-  rows-out : (n : ℕ) (x : X) → List·Memᴰ x (rows n) → (i : ℕ) × (i < n) × (x ≡ row i)
+  pub rows-out : (n : ℕ) (x : X) → List·Memᴰ x (rows n) → (i : ℕ) × (i < n) × (x ≡ row i)
   unfolding rows
   rows-out zero x m = absurd (List·Memᴰ·not-nil m)
   rows-out (suc n) x (List·Memᴰ·head e) = (n, omega arith, e)
   rows-out (suc n) x (List·Memᴰ·tail m) = let (i, l, e) = rows-out n x m in (i, omega arith, e)
 
-  rows-in : (n i : ℕ) (x : X) → i < n → x ≡ row i → List·Memᴰ x (rows n)
+  pub rows-in : (n i : ℕ) (x : X) → i < n → x ≡ row i → List·Memᴰ x (rows n)
   unfolding rows
   rows-in zero i x l e = absurd (omega arith)
   rows-in (suc n) i x l e = go (ℕ-discrete i n) (rows-in n i x)
@@ -41,6 +41,15 @@ module _ {X : Type 0} (row : ℕ → X) where
     where
       fresh : (y : X) → (i : ℕ) × (i < n) × (y ≡ row i) → y ≢ row n
       fresh y (i, l, e) q = new i n l (omega arith) (sym e ∙ q)
+
+  pub rows-apart : (n : ℕ) → Distinct (rows n) → (i j : ℕ) → i < j → j < n → row i ≢ row j
+  unfolding rows
+  rows-apart zero d i j l h = absurd (omega arith)
+  rows-apart (suc n) (more new d) i j l h = go (ℕ-discrete j n) (rows-apart n d i j l)
+    where
+      go : Dec (j ≡ n) → (j < n → row i ≢ row j) → row i ≢ row j
+      go (yes p) k e = new (row i) (rows-in n i (row i) (omega arith) refl) (e ∙ ap row p)
+      go (no p) k e = k (omega arith) e
 
   module _ (P : X → Type 0) (n : ℕ) (new : (i j : ℕ) → i < j → j < n → row i ≢ row j) (sound : (i : ℕ) → i < n → P (row i)) where
     each : (x : X) → (i : ℕ) × (i < n) × (x ≡ row i) → P x

@@ -1,5 +1,5 @@
 -- Laws of a state's bits. Assumes nothing.
-use Prim.Native.Nat.{ℕ, zero, suc, _+_, _-_, _*_, _/_, _%_, _^_, _<_, _≤_}
+use Prim.Native.Nat.{ℕ, suc, _+_, _-_, _*_, _/_, _%_, _^_, _<_, _≤_}
 use mathlib.Core.Bool.{Bool, true, false, cond, not, _||_, _&&_}
 use mathlib.Core.Path.{_≡_, refl, sym, ap, subst, _∙_}
 use native.Mathlib.Nat.{div-eq-of-lt, div-lt-iff-lt-mul, lt-div-mul-add, mul-le-mul-right, add-mul, add-div-right, add-mul-div-right, le-div-iff-mul-le, mod-lt, pow-suc, one-mul}

@@ -2,7 +2,7 @@
 -- tables that are closed and sound hold exactly what the roots' executions call and answer. Assumes nothing.
 use Prim.Native.Nat.{ℕ, zero, suc, _<_}
 use native.Mathlib.Omega.{arith}
-use mathlib.Core.Path.{_≡_, refl}
+use mathlib.Core.Path.{refl}
 use mathlib.Core.List.{[], _∷_}
 use mathlib.Core.Logic.{_⊎_, inl, inr, _↔_}
 use Rattle.steps.specs.Step.{Step, call, Body}

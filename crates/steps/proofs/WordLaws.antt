@@ -5,15 +5,15 @@ use native.Mathlib.Nat.{le-of-suc-le-suc}
 use mathlib.Core.Path.{_≡_, refl, ap, subst, _∙_}
 use mathlib.Core.Bool.{Bool, true, false, cond}
 use mathlib.Core.Logic.{_↔_}
-use mathlib.Core.List.{List, [], _∷_, List·Memᴰ, List·Memᴰ·head, List·Memᴰ·tail, List·Memᴰ·not-nil}
-use lib.ListN.{getD, take, drop, length, length-take}
+use mathlib.Core.List.{List, _∷_, List·Memᴰ, List·Memᴰ·head, List·Memᴰ·tail, List·Memᴰ·not-nil}
+use lib.ListN.{getD, drop, length, length-take}
 use lib.Dec.{ltb}
 use borrow.Author.Tests.{lt-ltb}
-use Rattle.steps.specs.State.{State, holds, added, removed}
+use Rattle.steps.specs.State.{State, holds, added}
 use Rattle.steps.specs.Step.{Step, query, insert, delete, call, Body, Rule, Book}
 use Rattle.steps.specs.Deduction.{_⊢_, Move}
 use Rattle.steps.specs.Words.{step-by, step-of, count-of, words-of, rule-of, rules-from}
-use Rattle.steps.specs.Elementary.{Onward, on, stuck, elementary}
+use Rattle.steps.specs.Elementary.{on, stuck, elementary}
 use Rattle.steps.proofs.Deductions.{Does, asks, adds, drops, does-move, move-does}
 
 -- ---- calls

@@ -2,9 +2,9 @@
 use Prim.Native.Nat.{ℕ}
 use mathlib.Core.Path.{_≡_}
 use mathlib.Core.Bool.{true}
-use mathlib.Core.List.{List, [], _∷_, _++_, List·Memᴰ}
+use mathlib.Core.List.{[], _∷_, _++_, List·Memᴰ}
 use Rattle.steps.specs.State.{State, holds, added, removed}
-use Rattle.steps.specs.Step.{Step, query, insert, delete, call, Body, Rule, Book}
+use Rattle.steps.specs.Step.{query, insert, delete, call, Body, Rule, Book}
 
 -- "A sequent is a state and the steps still to do."
 infix 20 _⊢_

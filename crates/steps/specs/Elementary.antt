@@ -1,5 +1,4 @@
 -- One elementary step, computed: the moves of a query, an insert and a delete. The law `elementary-move` ties it to the moves. Assumes nothing.
-use Prim.Native.Nat.{ℕ}
 use mathlib.Core.Bool.{cond}
 use lib.Dec.{ltb}
 use Rattle.steps.specs.State.{State, holds, added, removed}

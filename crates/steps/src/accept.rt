@@ -1,7 +1,7 @@
 // Acceptance of counts, rule words, goal and start: the refusals 20 to 24.
 use crate::word;
 ghost use mathlib.Core.Path.{_≡_};
-ghost use Prim.Native.Nat.{ℕ, _+_, _*_, _/_, _≤_};
+ghost use Prim.Native.Nat.{_+_, _*_, _/_, _≤_};
 ghost use lib.ListN.{length, getD};
 ghost use Rattle.steps.specs.Acceptance.{each-below, good-step, good-word, good-rule, bad-counts, bad-length, bad-rules, bad-goal, bad-start, words-refusal, refusal-of};
 

@@ -3,10 +3,9 @@
 use crate::tables;
 use steps::state::State;
 ghost use mathlib.Core.Path.{_≡_};
-ghost use mathlib.Core.Bool.{true, false};
+ghost use mathlib.Core.Bool.{false};
 ghost use Prim.Native.Nat.{_<_};
-ghost use lib.ListN.{length};
-ghost use Rattle.tabling.proofs.Marks.{Mark, Stamped, word-in, with-mark, Marked, Fresh};
+ghost use Rattle.tabling.proofs.Marks.{Stamped, word-in, with-mark, Marked, Fresh};
 
 // The word of a call record, without the marks of earlier walks.
 fn word_in(marks: &[u64], walk: u64, row: usize) -> u64

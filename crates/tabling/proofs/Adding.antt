@@ -1,5 +1,5 @@
 -- Tables with one record more, and tables that have no room for one. Assumes nothing.
-use Prim.Native.Nat.{ℕ, _+_, _<_, _≤_}
+use Prim.Native.Nat.{ℕ, _+_, _<_}
 use native.Mathlib.Omega.{arith}
 use native.Mathlib.Decide.{decLt}
 use mathlib.Core.Path.{_≡_, refl, sym, ap, _∙_}
@@ -13,7 +13,7 @@ use Rattle.steps.proofs.Tables.{Reached}
 use Rattle.steps.proofs.Rows.{table-full}
 use Rattle.tabling.specs.Records.{Calls, Answers, Bodies}
 use Rattle.tabling.proofs.Storage.{CallAt, AnswerAt, NoCall, NoAnswer, CallAdded, AnswerAdded}
-use Rattle.tabling.proofs.Growth.{Tables, tables, Grew, HeldCall, grew-call, grew-answer, held-call-up, call-down, answer-down, row-once}
+use Rattle.tabling.proofs.Growth.{Tables, tables, Grew, grew-call, grew-answer, held-call-up, call-down, answer-down, row-once}
 use Rattle.tabling.proofs.Justification.{Has, Proper, Justified, justified-up, record-ends}
 use Rattle.tabling.proofs.Evidence.{Valid, inside-of}
 

@@ -1,10 +1,9 @@
 -- What a way of the search shows: the calls that it comes to are reached, and its answers are evidence. Assumes nothing.
 use Prim.Native.Nat.{ℕ, zero, suc, _+_, _/_, _%_, _<_, _≤_}
 use native.Mathlib.Omega.{arith}
-use mathlib.Core.Path.{_≡_, refl, sym, subst, ap, _∙_}
-use mathlib.Core.Bool.{true}
+use mathlib.Core.Path.{_≡_, refl, subst, ap, _∙_}
 use mathlib.Core.List.{List, [], _∷_, List·Memᴰ}
-use mathlib.Core.Logic.{_⊎_, inl, inr, ⊎-elim}
+use mathlib.Core.Logic.{_⊎_, inl, inr}
 use lib.ListN.{length, getD, drop, drop-of-length-le}
 use lib.Seq.{drop-cons}
 use Rattle.steps.specs.State.{State}
@@ -20,7 +19,7 @@ use Rattle.tabling.proofs.Growth.{Tables, HeldCall, Grew, Inside, Calls
 use Rattle.tabling.proofs.Justification.{Has, Justified, Follow, names, steps, Follows, ends, goes, record-ends}
 use Rattle.tabling.proofs.Sweep.{Way}
 use Rattle.tabling.proofs.Graph.{Leads}
-use Rattle.tabling.proofs.Walking.{front, move-step, move, Of, final, EdgeT}
+use Rattle.tabling.proofs.Walking.{front, move-step, Of, final, EdgeT}
 
 -- Roots given as a list.
 abbrev pub Among : List (ℕ × State) → ℕ → State → Type 0

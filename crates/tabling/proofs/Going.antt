@@ -1,16 +1,16 @@
 -- The steps still to do as the tail of the body's words, and how the code's turn comes out. Assumes nothing.
-use Prim.Native.Nat.{ℕ, _+_, _-_, _/_, _<_, _≤_}
+use Prim.Native.Nat.{ℕ, _+_, _-_, _<_, _≤_}
 use native.Mathlib.Omega.{arith}
 use mathlib.Core.Path.{_≡_, refl, ap, _∙_}
 use mathlib.Core.List.{List}
 use lib.ListN.{length, getD, set, take, drop, length-drop}
 use lib.Seq.{getD-drop, getD-set-same, getD-set-other, take-all, drop-drop}
 use Rattle.steps.specs.State.{State}
-use Rattle.tabling.specs.Records.{Calls, Answers, Bodies, calls-in, answers-in}
+use Rattle.tabling.specs.Records.{Bodies, calls-in, answers-in}
 use Rattle.tabling.proofs.Storage.{Stored, NextAnswer}
 use Rattle.tabling.proofs.Growth.{Tables, tables}
 use Rattle.tabling.proofs.Index.{CallIndex, AnswerIndex}
-use Rattle.tabling.proofs.Measure.{left, left-on, left-back}
+use Rattle.tabling.proofs.Measure.{left, left-back}
 use Rattle.tabling.proofs.Turn.{RetreatRow, Turning, Turned, Over, turned-over, turned-take}
 
 -- Both tables in their words.

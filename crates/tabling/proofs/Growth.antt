@@ -1,9 +1,8 @@
 -- The two tables together, how they grow, and what holds of them throughout. Assumes nothing.
-use Prim.Native.Nat.{ℕ, _+_, _<_, _≤_}
+use Prim.Native.Nat.{ℕ, _<_, _≤_}
 use native.Mathlib.Omega.{arith}
 use native.Mathlib.Decide.{decLt}
 use mathlib.Core.Path.{_≡_, refl, _∙_}
-use mathlib.Core.Bool.{true}
 use Rattle.steps.specs.State.{State}
 use Rattle.tabling.specs.Records.{Calls, Answers}
 use Rattle.tabling.proofs.Storage.{CallAt, AnswerAt, CallAdded, AnswerAdded}

@@ -1,23 +1,22 @@
 -- What the test `justified` says, as relations; justified records of grown tables; what justified records show of executions. Assumes nothing.
-use Prim.Native.Nat.{ℕ, zero, suc, _+_, _-_, _<_, _≤_}
+use Prim.Native.Nat.{ℕ, suc, _+_, _-_, _<_, _≤_}
 use native.Mathlib.Omega.{arith}
 use mathlib.Core.Path.{_≡_, refl, sym, ap, subst, _∙_}
 use mathlib.Core.Bool.{Bool, true, false, cond, _&&_}
-use mathlib.Core.List.{List, [], _∷_, List·Memᴰ, List·Memᴰ·head, List·Memᴰ·tail}
-use lib.ListN.{length, getD, length-map}
+use mathlib.Core.List.{[], _∷_, List·Memᴰ, List·Memᴰ·head, List·Memᴰ·tail}
+use lib.ListN.{length, length-map}
 use lib.Dec.{eqb, ltb}
 use borrow.Author.Tests.{ltb-true, lt-ltb, eqb-true, eq-eqb}
 use Rattle.steps.specs.State.{State}
 use Rattle.steps.specs.Step.{Step, query, insert, delete, call, Body}
 use Rattle.steps.specs.Words.{step-of, body-of}
-use Rattle.steps.specs.Acceptance.{each-below}
 use Rattle.steps.specs.Elementary.{Onward, on, stuck, elementary}
 use Rattle.steps.proofs.EachBelow.{both, each-at, each-all, true-not-false}
 use Rattle.steps.proofs.WordLaws.{Low, elementary-does, does-elementary, not-on, on-same}
 use Rattle.steps.proofs.Deductions.{Does, asks, adds, drops}
 use Rattle.steps.proofs.Execution.{Ends}
 use Rattle.steps.proofs.Tables.{Walk, stands, walks, takes, justified-ends}
-use Rattle.tabling.specs.Records.{Calls, Answers, Bodies, follow, follows, justified}
+use Rattle.tabling.specs.Records.{Bodies, follow, follows, justified}
 use Rattle.tabling.proofs.Growth.{Tables, Grew, Inside}
 
 -- The bodies of an action: those of the rule numbers that go with it.

@@ -1,12 +1,12 @@
 -- Rounds, rows and rules: what is closed so far, and what a round that added nothing leaves. Assumes nothing.
-use Prim.Native.Nat.{ℕ, zero, suc, _+_, _/_, _%_, _<_, _≤_}
+use Prim.Native.Nat.{ℕ, _+_, _<_, _≤_}
 use native.Mathlib.Omega.{arith}
 use native.Mathlib.Decide.{decLt}
-use mathlib.Core.Path.{_≡_, refl, sym, subst, ap, _∙_}
+use mathlib.Core.Path.{_≡_, refl, sym, ap, _∙_}
 use mathlib.Core.Bool.{true}
 use mathlib.Core.List.{List, [], _∷_, List·Memᴰ, List·Memᴰ·head, List·Memᴰ·tail}
 use mathlib.Core.Logic.{_⊎_, inl, inr, ⊎-elim}
-use lib.ListN.{length, getD}
+use lib.ListN.{getD}
 use Rattle.steps.specs.State.{State}
 use Rattle.steps.specs.Step.{Step, call, Body}
 use Rattle.steps.specs.Words.{step-of, body-of}
@@ -14,7 +14,7 @@ use Rattle.steps.proofs.WordLaws.{Low, does-elementary, word-call}
 use Rattle.steps.proofs.Deductions.{Does}
 use Rattle.steps.proofs.Tables.{Walk, stands, walks, takes, Closed, Sound, Exact, exact}
 use Rattle.tabling.specs.Records.{Bodies}
-use Rattle.tabling.proofs.Storage.{CallAt, AnswerAt}
+use Rattle.tabling.proofs.Storage.{CallAt}
 use Rattle.tabling.proofs.Growth.{Tables, HeldCall, Held, Grew, Inside, held-up, row-once}
 use Rattle.tabling.proofs.Uses.{Used, UsesGrew, HeldUsed, Passed, Spans, held-used, held-used-up}
 use Rattle.tabling.proofs.Justification.{Has, Proper}

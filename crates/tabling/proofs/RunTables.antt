@@ -1,17 +1,16 @@
 -- The tables of an evaluation of rule words and a goal from a start hold exactly the run's calls and answers. Assumes nothing.
-use Prim.Native.Nat.{ℕ, _+_, _/_, _<_, _≤_}
+use Prim.Native.Nat.{ℕ, _/_, _<_}
 use native.Mathlib.Omega.{arith}
 use mathlib.Core.Path.{_≡_, refl, sym, subst, ap, _∙_}
-use mathlib.Core.Bool.{true}
 use mathlib.Core.List.{List, [], _∷_, List·Memᴰ, List·Memᴰ·head, List·Memᴰ·eq-of-singleton, Memᴰ·cast}
-use mathlib.Core.Logic.{_⊎_, inl, inr, _↔_, ⊎-map}
+use mathlib.Core.Logic.{_⊎_, inl, _↔_, ⊎-map}
 use lib.ListN.{length}
 use borrow.Author.Tests.{lt-ltb, eq-eqb, ne-eqb}
 use Rattle.steps.specs.State.{State}
 use Rattle.steps.specs.Step.{Body, Rule}
-use Rattle.steps.specs.Run.{Run, Goal, Call, Answer, End}
+use Rattle.steps.specs.Run.{Run, Goal, Call, Answer}
 use Rattle.steps.specs.Counting.{Outnumbers}
-use Rattle.steps.specs.Words.{body-of, head-of, words-of, rule-of, book-of, run-of}
+use Rattle.steps.specs.Words.{body-of, head-of, rule-of, book-of, run-of}
 use Rattle.steps.proofs.Lists.{at-member}
 use Rattle.steps.proofs.WordLaws.{book-length, book-at, book-member}
 use Rattle.steps.proofs.AcceptanceLaws.{AcceptedWords, separate}
@@ -20,7 +19,7 @@ use Rattle.steps.proofs.Deductions.{Does}
 use Rattle.steps.proofs.Execution.{Ends}
 use Rattle.steps.proofs.Tables.{Reached, reached-map, ends-map}
 use Rattle.steps.proofs.Tables as general
-use Rattle.steps.proofs.Exactness.{BodyOf, of-goal, of-rule, Root, Separate, Exact, reached-call, call-reached, ends-final, final-ends}
+use Rattle.steps.proofs.Exactness.{BodyOf, of-goal, of-rule, Root, Exact, reached-call, call-reached, ends-final, final-ends}
 use Rattle.tabling.specs.Records.{bodies-of}
 use Rattle.tabling.proofs.Justification.{Has}
 use Rattle.tabling.proofs.Evidence.{Among}

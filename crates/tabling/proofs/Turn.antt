@@ -1,5 +1,5 @@
 -- One turn of the walk: each way that the code may go keeps the search's invariant or sweeps the node. Assumes nothing.
-use Prim.Native.Nat.{ℕ, zero, suc, _+_, _-_, _*_, _/_, _%_, _<_, _≤_}
+use Prim.Native.Nat.{ℕ, _+_, _/_, _%_, _<_, _≤_}
 use native.Mathlib.Omega.{arith}
 use native.Mathlib.Decide.{decLt}
 use mathlib.Core.Path.{_≡_, refl, sym, subst, ap, _∙_}
@@ -7,7 +7,7 @@ use mathlib.Core.Bool.{Bool, true, false}
 use mathlib.Core.List.{List}
 use mathlib.Core.Logic.{_⊎_, inl, inr, ⊎-elim}
 use lib.ListN.{length, getD, set, length-set}
-use lib.Seq.{getD-set-same, getD-set-other}
+use lib.Seq.{getD-set-other}
 use Rattle.steps.specs.State.{State}
 use Rattle.steps.specs.Counting.{Outnumbers}
 use Rattle.steps.specs.Words.{step-of, body-of}
@@ -17,7 +17,7 @@ use Rattle.steps.proofs.Deductions.{Does}
 use Rattle.steps.proofs.Execution.{Ends}
 use Rattle.steps.proofs.Tables.{Reached}
 use Rattle.tabling.specs.Records.{Calls, Answers, Bodies}
-use Rattle.tabling.proofs.Storage.{CallAt, AnswerAt, NextAnswer, CallPut, call-stood, call-added, call-no-room, AnswerPut, answer-stood, answer-added, answer-no-room, AnswerAdded}
+use Rattle.tabling.proofs.Storage.{CallAt, NextAnswer, CallPut, call-stood, call-added, call-no-room, AnswerPut, answer-stood, answer-added, answer-no-room, AnswerAdded}
 use Rattle.tabling.proofs.Growth.{Tables, tables, Held, Grew, Inside, grew-refl, grew-trans, grew-call, grew-answer, call-up, held-up, row-once}
 use Rattle.tabling.proofs.Uses.{Used, with-use, UsesGrew, uses-refl, use-grew, HeldUsed, held-used-up}
 use Rattle.tabling.proofs.Justification.{Has, Proper, Justified}

@@ -1,10 +1,9 @@
 -- The walk of a body's words as a search: its nodes are places and states, its edges elementary steps and usable answers. Assumes nothing.
-use Prim.Native.Nat.{ℕ, zero, suc, _+_, _/_, _%_, _<_, _≤_}
+use Prim.Native.Nat.{ℕ, suc, _+_, _/_, _%_, _<_, _≤_}
 use native.Mathlib.Omega.{arith}
 use native.Mathlib.Decide.{decLt}
 use native.Mathlib.Numerals.{add-one}
 use mathlib.Core.Path.{_≡_, refl, sym, subst, ap, _∙_}
-use mathlib.Core.Bool.{true, false}
 use mathlib.Core.List.{List}
 use mathlib.Core.Logic.{_⊎_, inl, inr, ⊎-elim}
 use lib.ListN.{length, getD, set}
@@ -14,10 +13,9 @@ use Rattle.steps.specs.Step.{Step, query, insert, delete, call}
 use Rattle.steps.specs.Words.{step-of}
 use Rattle.steps.specs.Elementary.{Onward, on, stuck, elementary}
 use Rattle.steps.proofs.WordLaws.{call-word, word-call, not-on}
-use Rattle.tabling.specs.Records.{Calls, Answers}
-use Rattle.tabling.proofs.Storage.{CallAt, NextAnswer}
-use Rattle.tabling.proofs.Growth.{Tables, HeldCall}
-use Rattle.tabling.proofs.Sweep.{Swept, Upto, Link, Search, start, push, pop, close, marked, over, unwind, passed, way-of, search-up, swept-marked, first-or, Way}
+use Rattle.tabling.proofs.Storage.{CallAt}
+use Rattle.tabling.proofs.Growth.{Tables}
+use Rattle.tabling.proofs.Sweep.{Swept, Upto, Link, Search, start, push, pop, marked, over, unwind, passed, way-of, search-up, swept-marked, Way}
 use Rattle.tabling.proofs.Graph.{Front, goes, calls, Leads, Known, Edge, Good, leads, forward, stops, ended, none-left, take, backward}
 use Rattle.tabling.proofs.Graph as graph
 use Rattle.tabling.proofs.Marks.{Mark, with-mark, mark-new}

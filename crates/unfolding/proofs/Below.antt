@@ -1,5 +1,5 @@
 -- What a record adds does not hang on how many records are counted or taken. Assumes nothing.
-use Prim.Native.Nat.{ℕ, zero, suc, _+_, _<_, _≤_}
+use Prim.Native.Nat.{ℕ, zero, suc, _<_}
 use native.Mathlib.Omega.{arith}
 use mathlib.Core.Path.{_≡_, refl, sym, ap, subst, _∙_}
 use mathlib.Core.Bool.{Bool, true, false, cond, _&&_}
@@ -9,11 +9,11 @@ use borrow.Author.Tests.{eq-eqb, ne-eqb, eqb-true, eqb-false, ltb-true}
 use Rattle.steps.specs.State.{State}
 use Rattle.steps.specs.Step.{Step, query, insert, delete, call, Body}
 use Rattle.steps.specs.Words.{body-of}
-use Rattle.steps.specs.Elementary.{Onward, on, stuck, elementary}
+use Rattle.steps.specs.Elementary.{Onward, on, stuck}
 use Rattle.steps.proofs.EachBelow.{both}
 use Rattle.steps.proofs.WordLaws.{not-on}
 use Rattle.tabling.specs.Records.{Calls, Answers, Bodies, calls-in, answers-in, follow, follows}
-use Rattle.unfolding.specs.Path.{shown, adds, walked, below, added, path-of}
+use Rattle.unfolding.specs.Path.{adds, walked, below, added, path-of}
 
 -- a call goes on only by a record of smaller number
 pub call-below : (calls : Calls) (answers : Answers) (n a : ℕ) (s t : State) (e : ℕ) → follow calls answers n (call a) s e ≡ on t → e < n

@@ -1,19 +1,18 @@
 -- What the checks give the path: records that can be walked, and a path that does not hang on the counts. Assumes nothing.
-use Prim.Native.Nat.{ℕ, suc, _+_, _*_, _<_, _≤_}
+use Prim.Native.Nat.{ℕ, _+_, _*_, _<_}
 use native.Mathlib.Omega.{arith}
-use mathlib.Core.Path.{_≡_, refl, sym, ap, _∙_}
-use mathlib.Core.Bool.{Bool, true, false, not, _&&_}
+use mathlib.Core.Path.{_≡_, refl, sym, _∙_}
+use mathlib.Core.Bool.{true, false}
 use mathlib.Core.List.{List, _∷_}
-use lib.ListN.{length, getD}
+use lib.ListN.{getD}
 use lib.Dec.{ltb}
-use borrow.Author.Tests.{ltb-true, not-false}
+use borrow.Author.Tests.{not-false}
 use Rattle.steps.specs.Words.{body-of}
-use Rattle.steps.specs.Acceptance.{words-refusal, each-below}
-use Rattle.steps.proofs.EachBelow.{both, each-at, each-all}
+use Rattle.steps.specs.Acceptance.{words-refusal}
+use Rattle.steps.proofs.EachBelow.{both, each-at}
 use Rattle.tabling.specs.Records.{calls-in, answers-in, bodies-of, Calls, Answers, Bodies, follows, justified}
 use Rattle.checks.specs.Checks.{over-room, good-calls, all-justified, bad-records}
-use Rattle.checks.specs.Readable.{Short, Readable}
-use Rattle.checks.proofs.RoomLaws.{Within, within, short}
+use Rattle.checks.proofs.RoomLaws.{within, short}
 use Rattle.checks.proofs.JustifiedLaws.{readable}
 use Rattle.unfolding.specs.Path.{added, path-of}
 use Rattle.unfolding.proofs.Below.{follows-uncounted, path-uncounted}

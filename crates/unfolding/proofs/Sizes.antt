@@ -1,10 +1,10 @@
 -- Sizes: how many states each record adds, counted up to a cap. Assumes nothing.
-use Prim.Native.Nat.{ℕ, zero, suc, _+_, _*_, _/_, _%_, _<_, _≤_, min}
+use Prim.Native.Nat.{ℕ, _+_, _/_, _<_, _≤_, min}
 use native.Mathlib.Omega.{arith}
 use native.Mathlib.Nat.{zero-add}
 use mathlib.Core.Path.{_≡_, refl, sym, ap, _∙_}
 use mathlib.Core.Bool.{Bool, true, false, cond}
-use mathlib.Core.List.{List, [], _∷_, _++_}
+use mathlib.Core.List.{List}
 use lib.ListN.{length, getD, take, set, length-append}
 use lib.Seq.{getD-take, getD-set-same, getD-set-other}
 use lib.Dec.{eqb, ltb}
@@ -12,7 +12,7 @@ use borrow.Author.Tests.{eqb-true, eqb-false, lt-ltb, le-ltb, ltb-true, ltb-fals
 use Rattle.steps.specs.State.{State}
 use Rattle.steps.specs.Words.{step-of}
 use Rattle.unfolding.specs.Path.{shown, adds}
-use Rattle.unfolding.proofs.Walk.{Checked, LeadsTo, leads-below, adds-call, adds-shown, shown-small, wordsAt, stepAt, evidenceAt, addedBy, startAt, Stands, left, stands-goes, stands-next, left-first, left-next, left-end}
+use Rattle.unfolding.proofs.Walk.{LeadsTo, leads-below, adds-call, adds-shown, shown-small, wordsAt, stepAt, evidenceAt, addedBy, startAt, Stands, left, stands-next, left-first, left-next, left-end}
 
 -- Of each record below count: how many states it adds, at most the cap.
 pub record Sized (f : ℕ → List State) (sizes : List ℕ) (count cap : ℕ) : Type 0 where

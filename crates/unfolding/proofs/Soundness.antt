@@ -1,18 +1,18 @@
 -- The path is an execution of the logic: its states are those of a complete deduction from the call's state to the final state. Assumes nothing.
-use Prim.Native.Nat.{ℕ, zero, suc, _+_, _*_, _/_, _<_, _≤_}
+use Prim.Native.Nat.{ℕ, zero, suc, _+_, _/_, _<_}
 use native.Mathlib.Omega.{arith}
 use mathlib.Core.Path.{_≡_, refl, sym, ap, subst, _∙_}
 use mathlib.Core.Bool.{Bool, true, false, cond, _&&_}
 use mathlib.Core.List.{List, [], _∷_, _++_, append-nil, List·Memᴰ, List·Memᴰ·head, List·Memᴰ·tail}
 use mathlib.Core.Logic.{_≢_}
-use lib.ListN.{length, getD}
+use lib.ListN.{length}
 use lib.Dec.{eqb, ltb}
-use borrow.Author.Tests.{eqb-true, eqb-false, eq-eqb, ne-eqb, ltb-true}
+use borrow.Author.Tests.{eqb-true, eqb-false, ne-eqb, ltb-true}
 use Rattle.steps.specs.State.{State}
 use Rattle.steps.specs.Step.{Step, query, insert, delete, call, Body, Rule, Book}
 use Rattle.steps.specs.Deduction.{_⊢_, queries, inserts, deletes, calls as replaces, Deduction, done, move, Final}
-use Rattle.steps.specs.Run.{Run, Goal, body-of-call}
-use Rattle.steps.specs.Words.{body-of, head-of, words-of, rule-of, book-of, run-of}
+use Rattle.steps.specs.Run.{Goal, body-of-call}
+use Rattle.steps.specs.Words.{body-of, words-of, rule-of, book-of, run-of}
 use Rattle.steps.specs.Elementary.{Onward, on, stuck, elementary}
 use Rattle.steps.proofs.EachBelow.{both, true-not-false}
 use Rattle.steps.proofs.Lists.{at-member}

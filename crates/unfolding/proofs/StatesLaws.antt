@@ -1,19 +1,18 @@
 -- Laws of a deduction's states: neighbours are one update apart, their number is that of the changes, and deductions in parts. Assumes nothing.
-use Prim.Native.Nat.{ℕ, _+_, _-_, _^_, _<_, _≤_}
+use Prim.Native.Nat.{ℕ, _+_, _-_, _^_}
 use native.Mathlib.Omega.{arith}
 use mathlib.Core.Path.{_≡_, refl, sym, ap, subst, _∙_}
 use mathlib.Core.Bool.{Bool, true, false, cond}
 use mathlib.Core.List.{List, [], _∷_, _++_, append-assoc}
 use lib.ListN.{length, length-append}
-use lib.Dec.{eqb}
 use lib.Pow.{pow-pos}
 use borrow.Author.Tests.{eq-eqb, ne-eqb}
 use Rattle.steps.specs.State.{State, holds, added, removed}
 use Rattle.steps.specs.Step.{Step, query, insert, delete, Body, Book}
-use Rattle.steps.specs.Deduction.{Sequent, _⊢_, Move, queries, inserts, deletes, calls, Deduction, done, move}
+use Rattle.steps.specs.Deduction.{Sequent, _⊢_, queries, inserts, deletes, calls, Deduction, done, move}
 use Rattle.steps.proofs.StateLaws.{held, has}
 use Rattle.unfolding.specs.Path.{shown}
-use Rattle.unfolding.specs.States.{move-states, states, move-changes, changes, Updated, gains, loses, Chain, ends, next}
+use Rattle.unfolding.specs.States.{move-states, states, move-changes, changes, gains, loses, Chain, ends, next}
 
 -- ---- what is shown
 

@@ -1,8 +1,8 @@
 -- The walk of one checked record, step by step: where it stands, what is left to add, and how much a step adds. Assumes nothing.
-use Prim.Native.Nat.{ℕ, zero, suc, _+_, _*_, _/_, _%_, _<_, _≤_, min}
+use Prim.Native.Nat.{ℕ, zero, suc, _+_, _*_, _/_, _%_, _<_, _≤_}
 use native.Mathlib.Omega.{arith}
 use native.Mathlib.Numerals.{add-one}
-use mathlib.Core.Path.{_≡_, refl, sym, ap, subst, _∙_}
+use mathlib.Core.Path.{_≡_, refl, sym, subst, _∙_}
 use mathlib.Core.Bool.{Bool, true, false, cond}
 use mathlib.Core.List.{List, [], _∷_, _++_}
 use lib.ListN.{length, getD, drop, drop-of-length-le}
@@ -10,12 +10,12 @@ use lib.Seq.{drop-cons}
 use lib.Dec.{eqb, ltb}
 use borrow.Author.Tests.{eqb-true, ltb-true, ltb-false}
 use Rattle.steps.specs.State.{State}
-use Rattle.steps.specs.Step.{Step, query, insert, delete, call, Body}
+use Rattle.steps.specs.Step.{Step, Body}
 use Rattle.steps.specs.Words.{step-by, step-of, body-of}
 use Rattle.steps.specs.Elementary.{Onward, on, stuck, elementary}
 use Rattle.steps.proofs.EachBelow.{true-not-false}
 use Rattle.steps.proofs.WordLaws.{call-word, not-on}
-use Rattle.tabling.specs.Records.{Calls, Answers, Bodies, calls-in, answers-in, bodies-of, follow, follows}
+use Rattle.tabling.specs.Records.{Calls, Answers, calls-in, answers-in, bodies-of, follow, follows}
 use Rattle.checks.specs.Readable.{Short, Readable}
 use Rattle.checks.proofs.FollowLaws.{follow-elementary, follows-on, follows-stuck}
 use Rattle.unfolding.specs.Path.{shown, adds, walked, added}

@@ -1,21 +1,21 @@
 -- Writing the path: each record that has a place is written there, from the first record up. Assumes nothing.
-use Prim.Native.Nat.{ℕ, zero, suc, _+_, _-_, _*_, _/_, _<_, _≤_, _^_}
+use Prim.Native.Nat.{ℕ, suc, _+_, _-_, _/_, _<_, _≤_, _^_}
 use native.Mathlib.Omega.{arith}
 use native.Mathlib.Nat.{add-zero}
 use mathlib.Core.Path.{_≡_, refl, sym, ap, subst, _∙_}
 use mathlib.Core.Bool.{Bool, true, false, cond}
-use mathlib.Core.List.{List, [], _∷_, _++_}
-use lib.ListN.{length, getD, drop, set, length-set, length-append, length-drop, List·getD-append}
+use mathlib.Core.List.{List, _∷_, _++_}
+use lib.ListN.{length, getD, drop, set, length-set, length-append, length-drop}
 use lib.Seq.{getD-set-same, getD-set-other, getD-append-add, getD-drop, ext-getD}
 use lib.Dec.{eqb, ltb}
 use borrow.Author.Tests.{eqb-true, eqb-false, ltb-true, ltb-false}
 use Rattle.steps.specs.State.{State}
 use Rattle.steps.specs.Words.{step-of}
 use Rattle.unfolding.specs.Path.{shown, adds}
-use Rattle.unfolding.proofs.Walk.{Checked, checked-less, LeadsTo, leads-below, adds-call, adds-shown, shown-small, shown-new, wordsAt, stepAt, evidenceAt, addedBy, startAt, Stands, left, left-end}
+use Rattle.unfolding.proofs.Walk.{Checked, checked-less, LeadsTo, leads-below, adds-call, adds-shown, shown-small, shown-new, wordsAt, stepAt, evidenceAt, addedBy, startAt}
 use Rattle.unfolding.proofs.Sizes.{Sized, sized-less}
 use Rattle.unfolding.proofs.Lies.{Lies, lies-longer, Agree, agree-keep, Twice, Copied}
-use Rattle.unfolding.proofs.Places.{Placed, Linked, Roomy, Along, piece, piece-lies, along-next, Laid}
+use Rattle.unfolding.proofs.Places.{Placed, Linked, Roomy, Along, piece, piece-lies, Laid}
 
 -- ---- one step
 

@@ -2,8 +2,7 @@
 use steps::state::Call;
 ghost use mathlib.Core.Path.{_≡_};
 ghost use mathlib.Core.Bool.{true};
-ghost use Prim.Native.Nat.{ℕ, _+_, _*_, _/_, _<_, _≤_};
-ghost use lib.ListN.{length};
+ghost use Prim.Native.Nat.{ℕ, _+_, _*_, _/_, _<_};
 ghost use Rattle.steps.proofs.AcceptanceLaws.{AcceptedWords};
 ghost use Rattle.tabling.specs.Records.{bodies-of};
 ghost use Rattle.tabling.proofs.Numbers.{number-at};

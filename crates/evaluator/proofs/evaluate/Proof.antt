@@ -1,14 +1,12 @@
 -- `evaluate` meets its contract, by the outcomes of acceptance, of filling the tables and of the list's room. Assumes nothing.
-use Prim.Native.Nat.{ℕ, _<_, _≤_}
+use Prim.Native.Nat.{ℕ}
 use native.Mathlib.Omega.{arith}
 use mathlib.Core.Path.{_≡_, refl, sym, ap, _∙_}
-use mathlib.Core.List.{List, [], _∷_}
 use lib.ListN.{length, replicate}
 use borrow.Author.Needs.{needs}
 use Rattle.steps.proofs.AcceptanceLaws.{start-accepted}
 use Rattle.tabling.specs.Records.{calls-in}
 use Rattle.tabling.proofs.Storage.{FindCall}
-use Rattle.tabling.proofs.Filling.{Filled}
 use Rattle.evaluator.specs.Evaluated.{Asked, Lent, asked, lent, told, refused-with, not-accepted, no-room}
 use Rattle.evaluator.proofs.Outcomes.{all-zero, zero-long, is-full, answers-once, is-short, is-listed}
 use Rattle.evaluator.proofs.evaluate.Statement.{statement}

@@ -1,25 +1,23 @@
 -- `fill` meets its contract. The invariants of its loops (rounds, call records, rules, the walk) are the records of `Filling`; the measures are the
 -- room left, the records and rules left, and the walk's own. Assumes nothing.
-use Prim.Native.Nat.{ℕ, _+_, _-_, _*_, _/_, _<_, _≤_}
+use Prim.Native.Nat.{ℕ, _+_, _-_, _/_}
 use native.Mathlib.Omega.{arith}
-use mathlib.Core.Path.{_≡_, refl, sym, ap, subst, _∙_}
-use mathlib.Core.Bool.{true, false}
+use mathlib.Core.Path.{_≡_, refl, sym, _∙_}
 use mathlib.Core.List.{List}
-use lib.ListN.{length, getD, drop, replicate, length-replicate}
+use lib.ListN.{length, length-replicate}
 use borrow.Author.Needs.{needs}
 use borrow.Author.Tests.{not-true, not-false}
 use Rattle.steps.proofs.EachBelow.{true-not-false}
-use Rattle.tabling.specs.Records.{Bodies, bodies-of, room}
-use Rattle.tabling.proofs.Growth.{Tables}
-use Rattle.tabling.proofs.Uses.{UsesGrew, uses-refl, uses-trans}
-use Rattle.tabling.proofs.Evidence.{Among, Valid}
+use Rattle.tabling.specs.Records.{bodies-of}
+use Rattle.tabling.proofs.Uses.{uses-refl, uses-trans}
+use Rattle.tabling.proofs.Evidence.{Among}
 use Rattle.tabling.proofs.Marks.{zeros-at}
 use Rattle.tabling.proofs.Measure.{left}
 use Rattle.tabling.proofs.Numbers.{number-at, numbers-all, proper-of}
-use Rattle.tabling.proofs.Turn.{Given, Over, Outgrown, turn-start, body-short}
+use Rattle.tabling.proofs.Turn.{Given, turn-start, body-short}
 use Rattle.tabling.proofs.Going.{in-words, Going, going-start, going-on, going-back, going-fits, on-less, back-less}
-use Rattle.tabling.proofs.Rounds.{Round, Rows, Rules, round-start, rows-start, rows-round, rows-passed, rules-start, rules-skip, rules-next, rows-next, rows-finished}
-use Rattle.tabling.proofs.Filling.{Words, Rounding, RowsDone, RulesDone, Walked}
+use Rattle.tabling.proofs.Rounds.{Round, Rules, round-start, rows-start, rows-round, rows-passed, rules-start, rules-skip, rules-next, rows-next, rows-finished}
+use Rattle.tabling.proofs.Filling.{Rounding, RowsDone, RulesDone, Walked}
 use Rattle.evaluator.proofs.fill.Statement.{statement}
 use Rattle.evaluator.proofs.fill.Tie as tie
 

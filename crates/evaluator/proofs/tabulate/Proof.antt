@@ -1,9 +1,8 @@
 -- `tabulate` meets its contract: the goal's call stands first, or there is no room for it. Assumes nothing.
-use Prim.Native.Nat.{ℕ, _≤_}
+use Prim.Native.Nat.{ℕ}
 use native.Mathlib.Omega.{arith}
-use mathlib.Core.Path.{_≡_, refl, sym, ap, subst, _∙_}
-use mathlib.Core.Bool.{false, true}
-use mathlib.Core.List.{List, [], _∷_}
+use mathlib.Core.Path.{refl, _∙_}
+use mathlib.Core.List.{[], _∷_}
 use lib.ListN.{length, length-replicate}
 use borrow.Author.Needs.{needs}
 use Rattle.steps.proofs.EachBelow.{true-not-false}
@@ -13,7 +12,7 @@ use Rattle.tabling.proofs.Evidence.{Among, Valid}
 use Rattle.tabling.proofs.Marks.{zeros-stamped}
 use Rattle.tabling.proofs.Index.{call-index-none, answer-index-none}
 use Rattle.tabling.proofs.Going.{in-words}
-use Rattle.tabling.proofs.Filling.{Filled, first-valid, first-full}
+use Rattle.tabling.proofs.Filling.{first-valid, first-full}
 use Rattle.evaluator.proofs.Outcomes.{zeros-stored}
 use Rattle.evaluator.proofs.tabulate.Statement.{statement}
 use Rattle.evaluator.proofs.tabulate.Tie as tie

@@ -1,7 +1,5 @@
 -- `path` meets its contract: refused, too few places, or listed. Assumes nothing.
-use Prim.Native.Nat.{ℕ, _+_, _-_, _*_, _/_, _<_, _≤_, _^_}
-use native.Mathlib.Omega.{arith}
-use mathlib.Core.Path.{_≡_, refl, sym, ap, subst, _∙_}
+use mathlib.Core.Path.{sym, _∙_}
 use borrow.Author.Needs.{needs}
 use Rattle.path.specs.Outcome.{Lent}
 use Rattle.path.proofs.OutcomeLaws.{walkable, refused, too-few, listed-all}

@@ -1,13 +1,12 @@
 -- `advance` meets its contract: the body's end, a call or an elementary step. Assumes nothing.
-use Prim.Native.Nat.{ℕ, _+_, _/_, _<_, _≤_}
+use Prim.Native.Nat.{_/_, _<_, _≤_}
 use native.Mathlib.Omega.{arith}
-use mathlib.Core.Path.{_≡_, refl, sym, ap, _∙_}
-use lib.ListN.{length, getD, set}
+use mathlib.Core.Path.{refl, sym, ap, _∙_}
+use lib.ListN.{getD, set}
 use lib.Seq.{getD-set-other}
 use borrow.Author.Needs.{needs}
 use borrow.Author.Tests.{ltb-true, ltb-false}
-use Rattle.steps.specs.Words.{step-of}
-use Rattle.steps.specs.Elementary.{on, stuck, elementary}
+use Rattle.steps.specs.Elementary.{elementary}
 use Rattle.steps.specs.Next.{onward}
 use Rattle.tabling.proofs.Evidence.{Among}
 use Rattle.tabling.proofs.Uses.{uses-refl}

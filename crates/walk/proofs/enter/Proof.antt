@@ -1,20 +1,18 @@
 -- `enter` meets its contract, by how the call and its first answer come out. Assumes nothing.
-use Prim.Native.Nat.{ℕ, _+_, _%_, _<_}
+use Prim.Native.Nat.{ℕ, _%_, _<_}
 use native.Mathlib.Omega.{arith}
-use mathlib.Core.Path.{_≡_, refl, sym, ap, subst, _∙_}
+use mathlib.Core.Path.{_≡_, refl, sym, _∙_}
 use mathlib.Core.Bool.{false}
-use lib.ListN.{length, getD, set}
+use lib.ListN.{length, set}
 use lib.Seq.{getD-set-other}
 use borrow.Author.Needs.{needs}
-use mathlib.Core.List.{List}
-use Rattle.tabling.specs.Records.{Bodies, room, calls-in}
-use Rattle.tabling.proofs.Growth.{Tables}
-use Rattle.tabling.proofs.Storage.{CallPut, CallAt}
+use Rattle.tabling.specs.Records.{room, calls-in}
+use Rattle.tabling.proofs.Storage.{CallPut}
 use Rattle.tabling.proofs.StorageLaws.{put-row}
 use Rattle.tabling.proofs.Evidence.{Among}
 use Rattle.tabling.proofs.Uses.{uses-refl, use-new, use-grew}
 use Rattle.tabling.proofs.Measure.{left-on}
-use Rattle.tabling.proofs.Turn.{Turning, turn-called, turn-calls-full, turn-noted, turn-seen, turn-none, turn-take}
+use Rattle.tabling.proofs.Turn.{turn-called, turn-calls-full, turn-noted, turn-seen, turn-none, turn-take}
 use Rattle.tabling.proofs.Going.{next-among}
 use Rattle.walk.proofs.enter.Statement.{statement}
 use Rattle.walk.proofs.enter.Tie as tie

@@ -1,5 +1,5 @@
 -- `turn` meets its contract: a step forward, and back where nothing is left. Assumes nothing.
-use Prim.Native.Nat.{ℕ, _+_, _-_, _*_, _<_, _≤_}
+use Prim.Native.Nat.{ℕ, _+_, _-_, _≤_}
 use native.Mathlib.Omega.{arith}
 use mathlib.Core.Path.{_≡_, ap, subst}
 use mathlib.Core.List.{List}

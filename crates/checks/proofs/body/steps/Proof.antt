@@ -1,6 +1,6 @@
 -- `steps` meets its contract: 256 is the goal, any other number that goes with an action is a rule's. Assumes nothing.
 use native.Mathlib.Omega.{arith}
-use borrow.Author.Tests.{ltb-true, ltb-false, lt-ltb, le-ltb, eq-eqb, ne-eqb}
+use borrow.Author.Tests.{eq-eqb, ne-eqb}
 use Rattle.steps.proofs.WordLaws.{words-short}
 use Rattle.checks.proofs.BodyLaws.{fits-rule}
 use Rattle.checks.proofs.body.steps.Statement.{statement}

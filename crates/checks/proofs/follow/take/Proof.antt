@@ -1,7 +1,7 @@
 -- `take` meets its contract. Assumes nothing.
-use mathlib.Core.Path.{_≡_, refl, sym, _∙_}
+use mathlib.Core.Path.{refl}
 use borrow.Author.Needs.{needs}
-use borrow.Author.Tests.{ltb-true, ltb-false, lt-ltb, le-ltb, eq-eqb, ne-eqb}
+use borrow.Author.Tests.{eq-eqb, ne-eqb}
 use Rattle.steps.specs.Next.{onward}
 use Rattle.checks.proofs.follow.take.Statement.{statement}
 use Rattle.checks.proofs.follow.take.Tie as tie

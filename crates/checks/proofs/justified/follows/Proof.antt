@@ -1,11 +1,11 @@
 -- `follows` meets its contract. The loop's invariant: the steps from place q on, from the state come to, follow exactly if all do from the start;
 -- the measure: the steps left. Assumes nothing.
-use Prim.Native.Nat.{ℕ, _+_, _-_, _*_, _<_, _≤_}
+use Prim.Native.Nat.{ℕ, _-_, _≤_}
 use native.Mathlib.Omega.{arith}
 use mathlib.Core.Path.{_≡_, refl, sym, _∙_}
 use borrow.Author.Needs.{needs}
 use borrow.Author.Tests.{eq-eqb, ne-eqb}
-use lib.ListN.{length, getD, drop}
+use lib.ListN.{length, drop}
 use Rattle.steps.specs.Words.{body-of}
 use Rattle.steps.specs.Next.{onward}
 use Rattle.tabling.specs.Records.{calls-in, answers-in, follows}

@@ -1,7 +1,7 @@
 -- `justified` meets its contract, part by part. Assumes nothing.
 use Prim.Native.Nat.{_*_}
 use native.Mathlib.Omega.{arith}
-use mathlib.Core.Path.{_≡_, refl, sym, _∙_}
+use mathlib.Core.Path.{sym, _∙_}
 use borrow.Author.Needs.{needs}
 use lib.ListN.{getD}
 use Rattle.checks.proofs.JustifiedLaws.{no-call, no-rule, by-walk}

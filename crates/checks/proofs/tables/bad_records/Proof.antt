@@ -1,5 +1,5 @@
 -- `bad_records` meets its contract: the call records, then the answer records. Assumes nothing.
-use mathlib.Core.Path.{_≡_, refl, sym, _∙_}
+use mathlib.Core.Path.{refl}
 use Rattle.checks.specs.Checks.{bad-records}
 use Rattle.checks.proofs.RoomLaws.{within, short}
 use Rattle.checks.proofs.tables.bad_records.Statement.{statement}

@@ -1,12 +1,9 @@
 -- `good_calls` meets its contract. The loop's invariant: the records passed are good; the measure: the records left. Assumes nothing.
-use Prim.Native.Nat.{ℕ, _+_, _-_, _*_, _<_, _≤_}
+use Prim.Native.Nat.{_-_, _<_, _≤_}
 use native.Mathlib.Omega.{arith}
-use mathlib.Core.Path.{_≡_, refl, sym, _∙_}
+use mathlib.Core.Path.{_≡_, sym, _∙_}
 use mathlib.Core.Bool.{true}
-use borrow.Author.Needs.{needs}
-use borrow.Author.Tests.{not-true, not-false, eq-eqb, ne-eqb}
-use lib.ListN.{length, getD}
-use lib.Dec.{eqb}
+use borrow.Author.Tests.{not-true, not-false}
 use Rattle.steps.specs.Acceptance.{each-below}
 use Rattle.steps.proofs.EachBelow.{each-none, each-more, each-not}
 use Rattle.tabling.specs.Records.{calls-in}

@@ -1,7 +1,7 @@
 -- `over_room` meets its contract. Assumes nothing.
-use mathlib.Core.Path.{_≡_, refl, sym, _∙_}
+use mathlib.Core.Path.{refl}
 use borrow.Author.Needs.{needs}
-use borrow.Author.Tests.{ltb-true, ltb-false, lt-ltb, le-ltb, eq-eqb, ne-eqb}
+use borrow.Author.Tests.{lt-ltb, le-ltb}
 use Rattle.checks.specs.Checks.{over-room}
 use Rattle.checks.proofs.tables.over_room.Statement.{statement}
 use Rattle.checks.proofs.tables.over_room.Tie as tie

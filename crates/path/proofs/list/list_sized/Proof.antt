@@ -1,10 +1,9 @@
 -- `list_sized` meets its contract: the places, the first state, and the rest. Assumes nothing.
-use Prim.Native.Nat.{ℕ, _+_, _-_, _*_, _/_, _<_, _≤_, _^_}
 use native.Mathlib.Omega.{arith}
-use mathlib.Core.Path.{_≡_, refl, sym, ap, subst, _∙_}
+use mathlib.Core.Path.{_∙_}
 use borrow.Author.Needs.{needs}
 use mathlib.Core.List.{_∷_}
-use lib.ListN.{length, getD, length-set, replicate, length-replicate}
+use lib.ListN.{length, length-set, length-replicate}
 use Rattle.unfolding.proofs.Walk.{startAt, addedBy}
 use Rattle.unfolding.proofs.Sizes.{sized-less}
 use Rattle.unfolding.proofs.Places.{no-place}

@@ -1,10 +1,10 @@
 -- `list_states` meets its contract. Assumes nothing.
-use Prim.Native.Nat.{suc, _+_, _<_, _≤_}
+use Prim.Native.Nat.{suc, _<_, _≤_}
 use native.Mathlib.Omega.{arith}
-use mathlib.Core.Path.{_≡_, refl, sym, ap, subst, _∙_}
+use mathlib.Core.Path.{refl}
 use borrow.Author.Needs.{needs}
 use borrow.Author.Tests.{lt-ltb, le-ltb}
-use lib.ListN.{length, replicate, length-replicate}
+use lib.ListN.{length, length-replicate}
 use Rattle.unfolding.proofs.Walk.{addedBy}
 use Rattle.path.proofs.list.list_states.Statement.{statement}
 use Rattle.path.proofs.list.list_states.Tie as tie

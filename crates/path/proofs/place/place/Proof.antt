@@ -1,9 +1,8 @@
 -- `place` meets its contract. The loop's invariant: the walk stands at place q and the next state at its own place, and the records used so far have
 -- theirs; the measure: the steps left. Assumes nothing.
-use Prim.Native.Nat.{ℕ, _+_, _-_, _*_, _/_, _<_, _≤_, _^_}
+use Prim.Native.Nat.{_-_, _<_}
 use native.Mathlib.Omega.{arith}
-use mathlib.Core.Path.{_≡_, refl, sym, ap, subst, _∙_}
-use borrow.Author.Needs.{needs}
+use mathlib.Core.Path.{_≡_, ap}
 use lib.ListN.{length, getD}
 use Rattle.unfolding.proofs.Walk.{checked-less, leads-below, wordsAt, stands-first, stands-goes}
 use Rattle.unfolding.proofs.Places.{Along, along-first, along-next, exact, room-left, Laying, laying-none, laying-more}

@@ -1,11 +1,10 @@
 -- `place_all` meets its contract. The loop's invariant: the records from n on that have places have their uses placed; the measure: n. Assumes nothing.
-use Prim.Native.Nat.{ℕ, _+_, _-_, _*_, _/_, _<_, _≤_, _^_}
+use Prim.Native.Nat.{_+_, _-_, _<_, _≤_}
 use native.Mathlib.Omega.{arith}
-use mathlib.Core.Path.{_≡_, refl, sym, ap, subst, _∙_}
-use borrow.Author.Needs.{needs}
+use mathlib.Core.Path.{_≡_, refl, _∙_}
 use mathlib.Core.List.{_∷_}
 use lib.ListN.{length, getD, length-set}
-use Rattle.unfolding.proofs.Walk.{checked-less, addedBy, startAt, wordsAt}
+use Rattle.unfolding.proofs.Walk.{checked-less, addedBy, startAt}
 use Rattle.unfolding.proofs.Sizes.{sized-less}
 use Rattle.unfolding.proofs.Places.{Laid, laid-first, laid-skip, laid-more}
 use Rattle.path.proofs.place.place_all.Statement.{statement}

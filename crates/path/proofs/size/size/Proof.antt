@@ -1,9 +1,8 @@
 -- `size` meets its contract. The loop's invariant: the count so far and what is left make up the whole; the measure: the steps left. Assumes nothing.
-use Prim.Native.Nat.{ℕ, _+_, _-_, _*_, _/_, _<_, _≤_, _^_}
+use Prim.Native.Nat.{_-_, _<_}
 use native.Mathlib.Omega.{arith}
-use mathlib.Core.Path.{_≡_, refl, sym, ap, subst, _∙_}
-use borrow.Author.Needs.{needs}
-use lib.ListN.{length, getD}
+use mathlib.Core.Path.{_≡_, ap}
+use lib.ListN.{length}
 use Rattle.unfolding.proofs.Walk.{checked-less, wordsAt, stands-first, stands-goes}
 use Rattle.unfolding.proofs.Sizes.{Counted, counted-none, counted-more, counted-all, turned-small}
 use Rattle.path.proofs.size.size.Statement.{statement}

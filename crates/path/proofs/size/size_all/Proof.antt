@@ -1,8 +1,7 @@
 -- `size_all` meets its contract. The loop's invariant: the records passed have their sizes; the measure: the records left. Assumes nothing.
-use Prim.Native.Nat.{ℕ, _+_, _-_, _*_, _/_, _<_, _≤_, _^_}
+use Prim.Native.Nat.{_-_, _≤_}
 use native.Mathlib.Omega.{arith}
-use mathlib.Core.Path.{_≡_, refl, sym, ap, subst, _∙_}
-use borrow.Author.Needs.{needs}
+use mathlib.Core.Path.{_≡_, refl, sym}
 use lib.ListN.{length, length-set, length-take}
 use lib.Seq.{length-take-le}
 use Rattle.unfolding.proofs.Walk.{checked-less, addedBy}

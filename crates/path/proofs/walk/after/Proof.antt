@@ -1,5 +1,5 @@
 -- `after` meets its contract: a step that goes on is not stuck. Assumes nothing.
-use mathlib.Core.Path.{_≡_, refl, sym, ap, _∙_}
+use mathlib.Core.Path.{sym, _∙_}
 use borrow.Author.Needs.{needs}
 use Rattle.steps.specs.Next.{onward}
 use Rattle.steps.proofs.WordLaws.{not-on}

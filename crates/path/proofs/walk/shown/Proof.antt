@@ -1,6 +1,6 @@
 -- `shown` meets its contract. Assumes nothing.
-use mathlib.Core.Path.{_≡_, refl, sym, ap, _∙_}
-use borrow.Author.Tests.{ltb-true, ltb-false, lt-ltb, le-ltb, eq-eqb, ne-eqb}
+use mathlib.Core.Path.{refl}
+use borrow.Author.Tests.{eq-eqb, ne-eqb}
 use Rattle.unfolding.specs.Path.{shown}
 use Rattle.path.proofs.walk.shown.Statement.{statement}
 use Rattle.path.proofs.walk.shown.Tie as tie

@@ -1,9 +1,8 @@
 -- `take_step` meets its contract, by the step's kind. Assumes nothing.
-use Prim.Native.Nat.{_+_, _*_, _/_, _<_, _≤_}
 use native.Mathlib.Omega.{arith}
-use mathlib.Core.Path.{_≡_, refl, sym, ap, _∙_}
+use mathlib.Core.Path.{refl, sym, _∙_}
 use borrow.Author.Needs.{needs}
-use borrow.Author.Tests.{ltb-true, ltb-false, lt-ltb, le-ltb, eq-eqb, ne-eqb}
+use borrow.Author.Tests.{ltb-true}
 use Rattle.unfolding.proofs.Walk.{leads-below}
 use Rattle.unfolding.proofs.Sizes.{size-of}
 use Rattle.path.proofs.walk.take_step.Statement.{statement}

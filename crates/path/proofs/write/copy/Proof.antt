@@ -1,8 +1,7 @@
 -- `copy` meets its contract. The loop's invariant: the words passed are copied; the measure: the words left. Assumes nothing.
-use Prim.Native.Nat.{_+_, _-_, _<_, _≤_}
+use Prim.Native.Nat.{_-_, _≤_}
 use native.Mathlib.Omega.{arith}
-use mathlib.Core.Path.{_≡_, refl, sym, ap, _∙_}
-use lib.ListN.{length}
+use mathlib.Core.Path.{_≡_}
 use Rattle.unfolding.proofs.Lies.{Copied, copied-none, copied-more}
 use Rattle.path.proofs.write.copy.Statement.{statement}
 use Rattle.path.proofs.write.copy.Tie as tie

@@ -1,10 +1,8 @@
 -- `write_all` meets its contract. The loop's invariant: the records below n that have places are written; the measure: the records left. Assumes nothing.
-use Prim.Native.Nat.{ℕ, _+_, _-_, _*_, _/_, _<_, _≤_, _^_}
+use Prim.Native.Nat.{_+_, _-_, _≤_}
 use native.Mathlib.Omega.{arith}
-use mathlib.Core.Path.{_≡_, refl, sym, ap, subst, _∙_}
-use borrow.Author.Needs.{needs}
+use mathlib.Core.Path.{_≡_}
 use mathlib.Core.Logic.{⊎-elim}
-use lib.ListN.{length, getD}
 use Rattle.unfolding.proofs.Writing.{Written, written-none, written-skip, written-more, ready}
 use Rattle.path.proofs.write.write_all.Statement.{statement}
 use Rattle.path.proofs.write.write_all.Tie as tie

@@ -1,5 +1,5 @@
 -- `refusal` meets its contract: 20 to 23 first, then 24. Assumes nothing.
-use mathlib.Core.Path.{refl, sym, _∙_}
+use mathlib.Core.Path.{refl}
 use borrow.Author.Needs.{needs}
 use borrow.Author.Tests.{eq-eqb, ne-eqb}
 use Rattle.steps.specs.Acceptance.{refusal-of}

@@ -1,5 +1,5 @@
 -- `span_of` meets its contract. The loop's invariant: the callers of the answers before x lie between; the measure: the answers from x on. Assumes nothing.
-use Prim.Native.Nat.{ℕ, _≤_, _-_, _<_}
+use Prim.Native.Nat.{_≤_, _-_}
 use native.Mathlib.Omega.{arith}
 use mathlib.Core.Path.{_≡_, refl}
 use mathlib.Core.Logic.{inl, inr}

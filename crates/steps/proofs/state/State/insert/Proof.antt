@@ -1,5 +1,5 @@
 -- `State::insert` meets its contract: where bit k is clear, 2 ^ k is added without a carry. Assumes nothing.
-use Prim.Native.Nat.{_+_, _^_, _<_}
+use Prim.Native.Nat.{_<_}
 use mathlib.Core.Path.{_≡_, refl, sym, _∙_}
 use mathlib.Core.Bool.{true, false}
 use native.Mathlib.Omega.{arith}
