@@ -1,6 +1,5 @@
 -- Laws of the checks, for this crate's proofs and those of the crates above.
 pub mod FollowLaws
-pub mod BodyLaws
 pub mod JustifiedLaws
 pub mod RoomLaws
 pub mod RecordLaws

@@ -12,7 +12,8 @@ use Rattle.steps.proofs.EachBelow.{true-not-false}
 use Rattle.steps.proofs.AcceptanceLaws.{accepted}
 use Rattle.tabling.specs.Records.{room}
 use Rattle.checks.specs.Checks.{over-room}
-use Rattle.checks.specs.Readable.{Short}
+use Rattle.bodies.specs.Short.{Short}
+use Rattle.bodies.proofs.Laws.{short-of}
 
 -- Both counts are of records that stand.
 pub record Within (calls : List ℕ) (call-count : ℕ) (answers : List ℕ) (answer-count : ℕ) : Type 0 where
@@ -34,4 +35,4 @@ within calls k answers m e =
     record { calls-fit = omega arith; calls-most = omega arith; answers-fit = omega arith; answers-most = omega arith }
 
 pub short : (fluents actions : ℕ) (rules goal : List ℕ) → words-refusal fluents actions rules goal ≡ 0 → Short rules goal
-short fluents actions rules goal e = let acc = accepted fluents actions rules goal e in record { short-rules = acc .counts; short-goal = acc .short }
+short fluents actions rules goal e = short-of rules goal (accepted fluents actions rules goal e)

@@ -1,17 +1,12 @@
--- What inner functions ask of the words that they read: bodies that are short, and call records that answers name. Assumes nothing.
-use Prim.Native.Nat.{ℕ, _+_, _*_, _/_, _<_, _≤_}
+-- What inner functions ask of the tables that they read: records that stand there, and call records that answers name. Assumes nothing.
+use Prim.Native.Nat.{ℕ, _+_, _*_, _<_, _≤_}
 use mathlib.Core.Path.{_≡_}
 use mathlib.Core.List.{List}
 use lib.ListN.{getD, length}
 use Rattle.steps.specs.State.{State}
-use Rattle.steps.specs.Words.{step-of, count-of}
+use Rattle.steps.specs.Words.{step-of}
 use Rattle.steps.specs.Elementary.{Onward}
 use Rattle.tabling.specs.Records.{calls-in, answers-in, follow}
-
--- No body has over 16 steps.
-pub record Short (rules goal : List ℕ) : Type 0 where
-  pub short-rules : (r : ℕ) → r < length rules / 18 → count-of rules r ≤ 16
-  pub short-goal : length goal ≤ 16
 
 -- The answer records below n stand in the table, and so do the call records that they name.
 pub record Readable (calls answers : List ℕ) (n : ℕ) : Type 0 where

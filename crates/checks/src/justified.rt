@@ -1,5 +1,4 @@
 // Whether answer records are justified.
-use crate::body;
 use crate::follow::follow;
 use steps::state::State;
 use steps::word::Next;
@@ -10,7 +9,8 @@ ghost use lib.Dec.{eqb};
 ghost use Rattle.steps.specs.Words.{body-of};
 ghost use Rattle.steps.specs.Acceptance.{each-below};
 ghost use Rattle.tabling.specs.Records.{calls-in, answers-in, bodies-of, follows, justified};
-ghost use Rattle.checks.specs.Readable.{Short, Readable};
+ghost use Rattle.bodies.specs.Short.{Short};
+ghost use Rattle.checks.specs.Readable.{Readable};
 ghost use Rattle.checks.specs.Checks.{all-justified};
 
 // Whether the evidence of record n from place q on is 0.
@@ -69,9 +69,9 @@ pub fn justified<'a>(
     if call < call_count as u64 {
         let at = 2 * (call as usize);
         let rule = answers[19 * n + 2];
-        if body::fits(rules, rule, calls[at]) {
+        if bodies::is_of(rules, rule, calls[at]) {
             return follows(
-                body::steps(rules, goal, rule),
+                bodies::steps_of(rules, goal, rule),
                 calls[at + 1],
                 n,
                 calls,

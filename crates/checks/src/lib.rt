@@ -1,5 +1,4 @@
 // Checks of tables that may come from anybody: record counts over their room (40), records that are not right (42).
-pub mod body;
 pub mod follow;
 pub mod justified;
 pub mod tables;

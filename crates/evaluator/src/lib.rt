@@ -14,7 +14,6 @@ use storage::tables;
 use storage::uses;
 use walk::Job;
 use walk::Next;
-use walk::bodies;
 ghost use mathlib.Core.Path.{_≡_};
 ghost use mathlib.Core.List.{List, [], _∷_};
 ghost use Prim.Native.Nat.{ℕ, _+_, _<_, _≤_};
@@ -90,7 +89,7 @@ fn fill<'a>(
             }
             for rule in 0..count + 1 {
                 let number = bodies::number_of(rule, count);
-                if !bodies::is_of(rules, goal, number, tables::action_of(calls, row)) {
+                if !bodies::is_of(rules, number, tables::action_of(calls, row)) {
                     continue;
                 }
                 walk = marks::next_walk(marks, walk);

@@ -1,7 +1,6 @@
 // A place in the path for what each record used adds, from the asked record down. Place 0 is the call's state, so 0 says that there is none.
 use crate::walk::start;
 use crate::walk::take_step;
-use checks::body;
 use steps::word::is_call;
 ghost use mathlib.Core.Path.{_≡_};
 ghost use mathlib.Core.Bool.{cond};
@@ -35,7 +34,7 @@ fn place<'a>(
     requires { ⌜ Placing (now rules) (now goal) (now calls) (now answers) (now sizes) (now offsets) n ⌝ }
     ensures { λ _. ⌜ Laying (now (rules .entry)) (now (goal .entry)) (now (calls .entry)) (now (answers .entry)) n (length (wordsAt (now (rules .entry)) (now (goal .entry)) (now (answers .entry)) n)) (now (offsets .entry)) (now (offsets .exit)) ⌝ }
 {
-    let steps = body::steps(rules, goal, answers[19 * n + 2]);
+    let steps = bodies::steps_of(rules, goal, answers[19 * n + 2]);
     let mut state = start(calls, answers, n);
     let mut at = offsets[n];
     let mut q = 0;

@@ -1,7 +1,6 @@
 // How many states each record adds, counted up to a cap: few records may add more than 64 bits can count.
 use crate::walk::start;
 use crate::walk::take_step;
-use checks::body;
 ghost use mathlib.Core.Path.{_≡_};
 ghost use Prim.Native.Nat.{_+_, _≤_, _<_, _^_, min};
 ghost use lib.ListN.{length};
@@ -30,7 +29,7 @@ fn size<'a>(
     requires { ⌜ Checked (now rules) (now goal) (now calls) (now answers) (n + 1) × (n ≤ length (now sizes)) × (cap < 2 ^ 61) × Sized (addedBy (now rules) (now goal) (now calls) (now answers)) (now sizes) n cap ⌝ }
     ensures { λ r. ⌜ r ≡ min cap (length (addedBy (now (rules .entry)) (now (goal .entry)) (now (calls .entry)) (now (answers .entry)) n)) ⌝ }
 {
-    let steps = body::steps(rules, goal, answers[19 * n + 2]);
+    let steps = bodies::steps_of(rules, goal, answers[19 * n + 2]);
     let mut state = start(calls, answers, n);
     let mut sum = 0;
     let mut q = 0;

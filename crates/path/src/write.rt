@@ -1,7 +1,6 @@
 // The states of the records that have places, from the first record up: a call's states are copied from the place of the record that it uses.
 use crate::walk::start;
 use crate::walk::take_step;
-use checks::body;
 use steps::word::is_call;
 ghost use Prim.Native.Nat.{_+_, _/_, _≤_, _<_};
 ghost use lib.ListN.{length, getD};
@@ -51,7 +50,7 @@ fn write<'a>(
     requires { ⌜ Ready (now rules) (now goal) (now calls) (now answers) (now sizes) (now offsets) n (now list) ⌝ }
     ensures { λ _. ⌜ Wrote (now (rules .entry)) (now (goal .entry)) (now (calls .entry)) (now (answers .entry)) (now (offsets .entry)) n (getD (now (offsets .entry)) n 0 + length (addedBy (now (rules .entry)) (now (goal .entry)) (now (calls .entry)) (now (answers .entry)) n)) (now (list .entry)) (now (list .exit)) ⌝ }
 {
-    let steps = body::steps(rules, goal, answers[19 * n + 2]);
+    let steps = bodies::steps_of(rules, goal, answers[19 * n + 2]);
     let mut state = start(calls, answers, n);
     let mut at = offsets[n];
     let mut q = 0;

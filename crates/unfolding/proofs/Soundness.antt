@@ -21,7 +21,7 @@ use Rattle.steps.proofs.Deductions.{Does, asks, adds, drops}
 use Rattle.steps.proofs.Exactness.{Apart, Separate}
 use Rattle.steps.proofs.AcceptanceLaws.{AcceptedWords, separate}
 use Rattle.tabling.specs.Records.{Calls, Answers, Bodies, bodies-of, follow, follows, justified}
-use Rattle.checks.proofs.BodyLaws.{fits-rule, fits-goal}
+use Rattle.bodies.proofs.Laws.{fits-rule, fits-goal}
 use Rattle.unfolding.specs.Path as path
 use Rattle.unfolding.specs.Path.{shown, walked, path-of}
 use Rattle.unfolding.specs.States.{move-states, states, changes, Chain}

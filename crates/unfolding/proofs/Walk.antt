@@ -16,7 +16,8 @@ use Rattle.steps.specs.Elementary.{Onward, on, stuck, elementary}
 use Rattle.steps.proofs.EachBelow.{true-not-false}
 use Rattle.steps.proofs.WordLaws.{call-word, not-on}
 use Rattle.tabling.specs.Records.{Calls, Answers, calls-in, answers-in, bodies-of, follow, follows}
-use Rattle.checks.specs.Readable.{Short, Readable}
+use Rattle.bodies.specs.Short.{Short}
+use Rattle.checks.specs.Readable.{Readable}
 use Rattle.checks.proofs.FollowLaws.{follow-elementary, follows-on, follows-stuck}
 use Rattle.unfolding.specs.Path.{shown, adds, walked, added}
 use Rattle.unfolding.proofs.Below.{call-below, added-walk}

@@ -3,7 +3,6 @@
 // A step that goes on is passed, a step that does not sends the walk back to the latest call step with an answer left. The call in front is
 // found or added, and its answers are taken in turn; a call step that the walk comes to again in the same state has been searched already,
 // so it is marked and never entered twice. At the body's end the state is added as an answer, with the answers on the way as its evidence.
-pub mod bodies;
 
 use steps::state::Call;
 use steps::state::State;

@@ -9,6 +9,7 @@ use borrow.Author.Needs.{needs}
 use borrow.Author.Tests.{not-true, not-false}
 use Rattle.steps.proofs.EachBelow.{true-not-false}
 use Rattle.tabling.specs.Records.{bodies-of}
+use Rattle.bodies.proofs.Laws.{short-of}
 use Rattle.tabling.proofs.Uses.{uses-refl, uses-trans}
 use Rattle.tabling.proofs.Evidence.{Among}
 use Rattle.tabling.proofs.Marks.{zeros-at}
@@ -108,7 +109,7 @@ given-at f rs R =
       enough = R .rows-closed .known-in;
       row-in = omega (arith, R .rows-closed .rows-in, f .before .before .before .before .before .before .before .before .before .before .before .before .before .before .before .loop-test .taken, f .before .before .before .before .before .before .before .before .before .before .before .before .before .before .before .before .before .span-of .ensures .top-in);
       fits = rw (← f .before .before .before .before .before .before .before .before .before .action-of .ensures) (sym (f .before .before .before .before .before .before .before .before .is-of .ensures) ∙ not-false _ (f .before .before .before .before .before .before .before .if3 .left));
-      words = f .before .before .steps-of .ensures;
+      words = f .before .before .steps-of .ensures .0;
     }
 
 -- the rules walked so far, for the roots of the contract's `requires`
@@ -233,7 +234,7 @@ next-walk-requires c κs = c .before .before .before .before .before .before .be
 steps-of-requires : tie.Need-steps-of-requires Inv-loop3 μ-loop3 Inv-loop2 μ-loop2 Inv-loop μ-loop Inv-run μ-run
 steps-of-requires c κs =
     let i = entry (c .before .before .before .before .before .before .before .before .before .before .before .before .before .before .before .before .before) in
-    (i .pre .1 .0 .0, i .pre .1 .0 .1, c .before .before .before .before .before .before .action-of .result, i .pre .1 .0 .2, sym (c .before .before .before .before .before .is-of .ensures) ∙ not-false _ (c .before .before .before .before .if3 .left))
+    (short-of _ _ (i .pre .1 .0 .2), (c .before .before .before .before .before .before .action-of .result, sym (c .before .before .before .before .before .is-of .ensures) ∙ not-false _ (c .before .before .before .before .if3 .left)))
 
 state-of-requires : tie.Need-state-of-requires Inv-loop3 μ-loop3 Inv-loop2 μ-loop2 Inv-loop μ-loop Inv-run μ-run
 state-of-requires c κs = omega (arith, c .before .before .before .before .before .before .before .before .before .before .before .before .loop2 .inv .words .kept .calls-stored .fits, c .before .before .before .before .before .before .before .before .before .before .before .before .loop2 .inv .rows-in, c .before .before .before .before .before .before .before .before .before .before .before .before .before .before .loop-test .taken, c .before .before .before .before .before .before .before .before .before .before .before .before .before .before .before .before .span-of .ensures .top-in)
@@ -341,7 +342,7 @@ loop2-again-2 c =
       rule-in = omega (arith, c .before .before .before .before .before .before .before .before .before .before .before .before .before .before .before .before .before .before .before .before .before .before .before .before .before .before .before .before .before .before .before .before .before .before .before .loop2-test .taken);
       rows-in = omega (arith, l .rows-in, O .grew .calls-more);
       known-in = omega (arith, l .known-in, O .grew .answers-more);
-      closed = λ roots R. rules-next _ _ _ (l .closed roots R) (omega (arith, c .before .before .before .before .before .before .before .before .before .before .before .before .before .before .before .before .before .before .before .before .before .before .before .before .before .before .before .before .before .before .before .before .before .before .before .before .before .before .loop-test .taken, c .before .before .before .before .before .before .before .before .before .before .before .before .before .before .before .before .before .before .before .before .before .before .before .before .before .before .before .before .before .before .before .before .before .before .before .before .before .before .before .before .span-of .ensures .top-in)) (f .before .before .before .before .before .before .before .before .before .before .before .number-of .ensures) (f .before .before .steps-of .ensures) more
+      closed = λ roots R. rules-next _ _ _ (l .closed roots R) (omega (arith, c .before .before .before .before .before .before .before .before .before .before .before .before .before .before .before .before .before .before .before .before .before .before .before .before .before .before .before .before .before .before .before .before .before .before .before .before .before .before .loop-test .taken, c .before .before .before .before .before .before .before .before .before .before .before .before .before .before .before .before .before .before .before .before .before .before .before .before .before .before .before .before .before .before .before .before .before .before .before .before .before .before .before .before .span-of .ensures .top-in)) (f .before .before .before .before .before .before .before .before .before .before .before .number-of .ensures) (f .before .before .steps-of .ensures .0) more
           (rw (c .enum-told .given .1) at (v .turn .ensures .1 _ _ _ (w .going roots (given-at f roots (l .closed roots R)))));
     }
 

@@ -32,19 +32,19 @@ mul-rule-2 c = search needs
 shared-slice-read-rule : tie.Need-shared-slice-read-rule
 shared-slice-read-rule c = search needs
 
-mul-fits : tie.Need-mul-fits
-mul-fits c = search needs
+mul-is-of : tie.Need-mul-is-of
+mul-is-of c = search needs
 
-shared-slice-read-fits : tie.Need-shared-slice-read-fits
-shared-slice-read-fits c = search needs
+shared-slice-read-is-of : tie.Need-shared-slice-read-is-of
+shared-slice-read-is-of c = search needs
 
-fits-requires : tie.Need-fits-requires
-fits-requires c κs = search needs
+is-of-requires : tie.Need-is-of-requires
+is-of-requires c κs = search needs
 
-steps-requires : tie.Need-steps-requires
-steps-requires c κs =
+steps-of-requires : tie.Need-steps-of-requires
+steps-of-requires c κs =
     let a = c .before .before .before .before .before .before .before .before .before .before .args in
-    (c .before .before .before .before .before .before .before .before .before .before .pre .0, (getD (a .calls .now) (2 * getD (a .answers .now) (19 * a .n) 0) 0, sym (c .before .fits2 .ensures) ∙ c .if2 .taken))
+    (c .before .before .before .before .before .before .before .before .before .before .pre .0, (getD (a .calls .now) (2 * getD (a .answers .now) (19 * a .n) 0) 0, sym (c .before .is-of .ensures) ∙ c .if2 .taken))
 
 add-follows : tie.Need-add-follows
 add-follows c = search needs
@@ -56,13 +56,13 @@ shared-slice-read-follows : tie.Need-shared-slice-read-follows
 shared-slice-read-follows c = search needs
 
 follows-requires : tie.Need-follows-requires
-follows-requires c κs = (c .before .before .before .before .before .before .before .before .before .before .before .before .pre .4, omega arith, omega arith, c .before .steps .ensures .1)
+follows-requires c κs = (c .before .before .before .before .before .before .before .before .before .before .before .before .pre .4, omega arith, omega arith, c .before .steps-of .ensures .1)
 
 returns : tie.Need-returns
-returns c m = by-walk _ _ _ _ (c .before .before .before .before .before .before .before .if1 .taken) (sym (c .before .before .before .before .fits2 .ensures) ∙ c .before .before .before .if2 .taken) (rw (← c .before .before .steps .ensures .0) (c .follows .ensures _ m))
+returns c m = by-walk _ _ _ _ (c .before .before .before .before .before .before .before .if1 .taken) (sym (c .before .before .before .before .is-of .ensures) ∙ c .before .before .before .if2 .taken) (rw (← c .before .before .steps-of .ensures .0) (c .follows .ensures _ m))
 
 returns-2 : tie.Need-returns-2
-returns-2 c m = no-rule _ _ _ _ (c .before .before .before .before .if1 .taken) (sym (c .before .fits2 .ensures) ∙ c .if2 .left)
+returns-2 c m = no-rule _ _ _ _ (c .before .before .before .before .if1 .taken) (sym (c .before .is-of .ensures) ∙ c .if2 .left)
 
 returns-3 : tie.Need-returns-3
 returns-3 c m = no-call _ _ _ _ (c .if1 .left)
@@ -79,10 +79,10 @@ justified-spec =
     add-rule
     mul-rule-2
     shared-slice-read-rule
-    mul-fits
-    shared-slice-read-fits
-    fits-requires
-    steps-requires
+    mul-is-of
+    shared-slice-read-is-of
+    is-of-requires
+    steps-of-requires
     add-follows
     mul-follows
     shared-slice-read-follows

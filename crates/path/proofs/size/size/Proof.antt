@@ -14,47 +14,47 @@ Inv-loop rules goal calls answers n sizes cap steps state₀ sum₀ q₀ state s
 abbrev μ-loop : tie.MeasureT-loop
 μ-loop rules goal calls answers n sizes cap steps state₀ sum₀ q₀ state sum q = length steps - q
 
-mul-steps : tie.Need-mul-steps Inv-loop μ-loop
-mul-steps c = omega (arith, c .before .before .before .before .before .pre .0 .readable .long, c .before .before .before .before .before .pre .0 .readable .most)
+mul-steps-of : tie.Need-mul-steps-of Inv-loop μ-loop
+mul-steps-of c = omega (arith, c .before .before .before .before .before .pre .0 .readable .long, c .before .before .before .before .before .pre .0 .readable .most)
 
-add-steps : tie.Need-add-steps Inv-loop μ-loop
-add-steps c = omega (arith, c .before .before .before .before .before .pre .0 .readable .long, c .before .before .before .before .before .pre .0 .readable .most)
+add-steps-of : tie.Need-add-steps-of Inv-loop μ-loop
+add-steps-of c = omega (arith, c .before .before .before .before .before .pre .0 .readable .long, c .before .before .before .before .before .pre .0 .readable .most)
 
-mul-steps-2 : tie.Need-mul-steps-2 Inv-loop μ-loop
-mul-steps-2 c = omega (arith, c .before .before .before .before .before .pre .0 .readable .long, c .before .before .before .before .before .pre .0 .readable .most)
+mul-steps-of-2 : tie.Need-mul-steps-of-2 Inv-loop μ-loop
+mul-steps-of-2 c = omega (arith, c .before .before .before .before .before .pre .0 .readable .long, c .before .before .before .before .before .pre .0 .readable .most)
 
-shared-slice-read-steps : tie.Need-shared-slice-read-steps Inv-loop μ-loop
-shared-slice-read-steps c = omega (arith, c .before .before .before .before .before .before .pre .0 .readable .long, c .before .before .before .before .before .before .pre .0 .readable .most)
+shared-slice-read-steps-of : tie.Need-shared-slice-read-steps-of Inv-loop μ-loop
+shared-slice-read-steps-of c = omega (arith, c .before .before .before .before .before .before .pre .0 .readable .long, c .before .before .before .before .before .before .pre .0 .readable .most)
 
-steps-requires : tie.Need-steps-requires Inv-loop μ-loop
-steps-requires c κs = (c .before .before .before .before .before .before .pre .0 .short, c .before .before .before .before .before .before .pre .0 .fits (c .before .before .before .before .before .before .args .n) (omega arith))
+steps-of-requires : tie.Need-steps-of-requires Inv-loop μ-loop
+steps-of-requires c κs = (c .before .before .before .before .before .before .pre .0 .short, c .before .before .before .before .before .before .pre .0 .fits (c .before .before .before .before .before .before .args .n) (omega arith))
 
 start-requires : tie.Need-start-requires Inv-loop μ-loop
 start-requires c κs = c .before .before .before .before .before .before .before .pre .0 .readable
 
 loop-holds : tie.Need-loop-holds Inv-loop μ-loop
-loop-holds c = (c .before .steps .ensures .0, rw (c .start .ensures) (counted-none _ _ _ _ (stands-first _ _ _ _ (c .before .before .before .before .before .before .before .before .pre .0) (omega arith))))
+loop-holds c = (c .before .steps-of .ensures .0, rw (c .start .ensures) (counted-none _ _ _ _ (stands-first _ _ _ _ (c .before .before .before .before .before .before .before .before .pre .0) (omega arith))))
 
 mul-take-step : tie.Need-mul-take-step Inv-loop μ-loop
-mul-take-step c = omega (arith, c .before .before .before .before .before .before .before .before .before .before .pre .0 .readable .long, c .before .before .before .before .before .before .before .before .before .before .pre .0 .readable .most, c .before .before .before .steps .ensures .1)
+mul-take-step c = omega (arith, c .before .before .before .before .before .before .before .before .before .before .pre .0 .readable .long, c .before .before .before .before .before .before .before .before .before .before .pre .0 .readable .most, c .before .before .before .steps-of .ensures .1)
 
 shared-slice-read-take-step : tie.Need-shared-slice-read-take-step Inv-loop μ-loop
-shared-slice-read-take-step c = omega (arith, c .before .before .before .before .before .before .before .before .before .before .before .pre .0 .readable .long, c .before .before .before .before .before .before .before .before .before .before .before .pre .0 .readable .most, c .before .before .before .before .steps .ensures .1)
+shared-slice-read-take-step c = omega (arith, c .before .before .before .before .before .before .before .before .before .before .before .pre .0 .readable .long, c .before .before .before .before .before .before .before .before .before .before .before .pre .0 .readable .most, c .before .before .before .before .steps-of .ensures .1)
 
 mul-take-step-2 : tie.Need-mul-take-step-2 Inv-loop μ-loop
-mul-take-step-2 c = omega (arith, c .before .before .before .before .before .before .before .before .before .before .before .pre .0 .readable .long, c .before .before .before .before .before .before .before .before .before .before .before .pre .0 .readable .most, c .before .before .before .before .steps .ensures .1)
+mul-take-step-2 c = omega (arith, c .before .before .before .before .before .before .before .before .before .before .before .pre .0 .readable .long, c .before .before .before .before .before .before .before .before .before .before .before .pre .0 .readable .most, c .before .before .before .before .steps-of .ensures .1)
 
 add-take-step : tie.Need-add-take-step Inv-loop μ-loop
-add-take-step c = omega (arith, c .before .before .before .before .before .before .before .before .before .before .before .pre .0 .readable .long, c .before .before .before .before .before .before .before .before .before .before .before .pre .0 .readable .most, c .before .before .before .before .steps .ensures .1)
+add-take-step c = omega (arith, c .before .before .before .before .before .before .before .before .before .before .before .pre .0 .readable .long, c .before .before .before .before .before .before .before .before .before .before .before .pre .0 .readable .most, c .before .before .before .before .steps-of .ensures .1)
 
 add-take-step-2 : tie.Need-add-take-step-2 Inv-loop μ-loop
-add-take-step-2 c = omega (arith, c .before .before .before .before .before .before .before .before .before .before .before .pre .0 .readable .long, c .before .before .before .before .before .before .before .before .before .before .before .pre .0 .readable .most, c .before .before .before .before .steps .ensures .1)
+add-take-step-2 c = omega (arith, c .before .before .before .before .before .before .before .before .before .before .before .pre .0 .readable .long, c .before .before .before .before .before .before .before .before .before .before .before .pre .0 .readable .most, c .before .before .before .before .steps-of .ensures .1)
 
 mul-take-step-3 : tie.Need-mul-take-step-3 Inv-loop μ-loop
-mul-take-step-3 c = omega (arith, c .before .before .before .before .before .before .before .before .before .before .before .pre .0 .readable .long, c .before .before .before .before .before .before .before .before .before .before .before .pre .0 .readable .most, c .before .before .before .before .steps .ensures .1)
+mul-take-step-3 c = omega (arith, c .before .before .before .before .before .before .before .before .before .before .before .pre .0 .readable .long, c .before .before .before .before .before .before .before .before .before .before .before .pre .0 .readable .most, c .before .before .before .before .steps-of .ensures .1)
 
 shared-slice-read-take-step-2 : tie.Need-shared-slice-read-take-step-2 Inv-loop μ-loop
-shared-slice-read-take-step-2 c = omega (arith, c .before .before .before .before .before .before .before .before .before .before .before .before .pre .0 .readable .long, c .before .before .before .before .before .before .before .before .before .before .before .before .pre .0 .readable .most, c .before .before .before .before .before .steps .ensures .1)
+shared-slice-read-take-step-2 c = omega (arith, c .before .before .before .before .before .before .before .before .before .before .before .before .pre .0 .readable .long, c .before .before .before .before .before .before .before .before .before .before .before .before .pre .0 .readable .most, c .before .before .before .before .before .steps-of .ensures .1)
 
 take-step-requires : tie.Need-take-step-requires Inv-loop μ-loop
 take-step-requires c κs =
@@ -67,10 +67,10 @@ capped-requires : tie.Need-capped-requires Inv-loop μ-loop
 capped-requires c κs = (c .before .before .before .before .loop .inv .1 .most, turned-small _ (c .before .before .before .before .before .before .before .before .before .before .before .before .before .pre .3) (c .take-step .ensures), c .before .before .before .before .before .before .before .before .before .before .before .before .before .pre .2)
 
 add-q : tie.Need-add-q Inv-loop μ-loop
-add-q c = omega (arith, c .before .before .before .before .before .before .before .before .before .before .before .before .before .before .pre .0 .readable .long, c .before .before .before .before .before .before .before .before .before .before .before .before .before .before .pre .0 .readable .most, c .before .before .before .before .before .before .before .steps .ensures .1)
+add-q c = omega (arith, c .before .before .before .before .before .before .before .before .before .before .before .before .before .before .pre .0 .readable .long, c .before .before .before .before .before .before .before .before .before .before .before .before .before .before .pre .0 .readable .most, c .before .before .before .before .before .before .before .steps-of .ensures .1)
 
 loop-less : tie.Need-loop-less Inv-loop μ-loop
-loop-less c = omega (arith, c .before .before .before .before .before .before .before .before .before .before .before .before .before .before .pre .0 .readable .long, c .before .before .before .before .before .before .before .before .before .before .before .before .before .before .pre .0 .readable .most, c .before .before .before .before .before .before .before .steps .ensures .1)
+loop-less c = omega (arith, c .before .before .before .before .before .before .before .before .before .before .before .before .before .before .pre .0 .readable .long, c .before .before .before .before .before .before .before .before .before .before .before .before .before .before .pre .0 .readable .most, c .before .before .before .before .before .before .before .steps-of .ensures .1)
 
 loop-again : tie.Need-loop-again Inv-loop μ-loop
 loop-again c =
@@ -91,11 +91,11 @@ size-spec =
     (tie.spec
     Inv-loop
     μ-loop
-    mul-steps
-    add-steps
-    mul-steps-2
-    shared-slice-read-steps
-    steps-requires
+    mul-steps-of
+    add-steps-of
+    mul-steps-of-2
+    shared-slice-read-steps-of
+    steps-of-requires
     start-requires
     loop-holds
     mul-take-step

@@ -16,20 +16,20 @@ Inv-loop rules goal calls answers n sizes offsets list₀ steps state₀ at₀ q
 abbrev μ-loop : tie.MeasureT-loop
 μ-loop rules goal calls answers n sizes offsets list₀ steps state₀ at₀ q₀ list state at q = length steps - q
 
-mul-steps : tie.Need-mul-steps Inv-loop μ-loop
-mul-steps c = omega (arith, c .before .before .before .before .before .before .before .pre .checked .readable .long, c .before .before .before .before .before .before .before .pre .checked .readable .most)
+mul-steps-of : tie.Need-mul-steps-of Inv-loop μ-loop
+mul-steps-of c = omega (arith, c .before .before .before .before .before .before .before .pre .checked .readable .long, c .before .before .before .before .before .before .before .pre .checked .readable .most)
 
-add-steps : tie.Need-add-steps Inv-loop μ-loop
-add-steps c = omega (arith, c .before .before .before .before .before .before .before .pre .checked .readable .long, c .before .before .before .before .before .before .before .pre .checked .readable .most)
+add-steps-of : tie.Need-add-steps-of Inv-loop μ-loop
+add-steps-of c = omega (arith, c .before .before .before .before .before .before .before .pre .checked .readable .long, c .before .before .before .before .before .before .before .pre .checked .readable .most)
 
-mul-steps-2 : tie.Need-mul-steps-2 Inv-loop μ-loop
-mul-steps-2 c = omega (arith, c .before .before .before .before .before .before .before .pre .checked .readable .long, c .before .before .before .before .before .before .before .pre .checked .readable .most)
+mul-steps-of-2 : tie.Need-mul-steps-of-2 Inv-loop μ-loop
+mul-steps-of-2 c = omega (arith, c .before .before .before .before .before .before .before .pre .checked .readable .long, c .before .before .before .before .before .before .before .pre .checked .readable .most)
 
-shared-slice-read-steps : tie.Need-shared-slice-read-steps Inv-loop μ-loop
-shared-slice-read-steps c = omega (arith, c .before .before .before .before .before .before .before .before .pre .checked .readable .long, c .before .before .before .before .before .before .before .before .pre .checked .readable .most)
+shared-slice-read-steps-of : tie.Need-shared-slice-read-steps-of Inv-loop μ-loop
+shared-slice-read-steps-of c = omega (arith, c .before .before .before .before .before .before .before .before .pre .checked .readable .long, c .before .before .before .before .before .before .before .before .pre .checked .readable .most)
 
-steps-requires : tie.Need-steps-requires Inv-loop μ-loop
-steps-requires c κs = (c .before .before .before .before .before .before .before .before .pre .checked .short, c .before .before .before .before .before .before .before .before .pre .checked .fits (c .before .before .before .before .before .before .before .before .args .n) (omega arith))
+steps-of-requires : tie.Need-steps-of-requires Inv-loop μ-loop
+steps-of-requires c κs = (c .before .before .before .before .before .before .before .before .pre .checked .short, c .before .before .before .before .before .before .before .before .pre .checked .fits (c .before .before .before .before .before .before .before .before .args .n) (omega arith))
 
 start-requires : tie.Need-start-requires Inv-loop μ-loop
 start-requires c κs = c .before .before .before .before .before .before .before .before .before .pre .checked .readable
@@ -41,28 +41,28 @@ shared-slice-read-at : tie.Need-shared-slice-read-at Inv-loop μ-loop
 shared-slice-read-at c = omega (arith, c .before .before .before .before .before .before .before .before .before .before .before .pre .offsets-long)
 
 loop-holds : tie.Need-loop-holds Inv-loop μ-loop
-loop-holds c = (c .before .before .steps .ensures .0, rw (c .before .start .ensures) (along-first _ _ _ _ (stands-first _ _ _ _ (c .before .before .before .before .before .before .before .before .before .before .before .pre .checked) (omega arith))), wrote-none _ _ _ _ _ _ _)
+loop-holds c = (c .before .before .steps-of .ensures .0, rw (c .before .start .ensures) (along-first _ _ _ _ (stands-first _ _ _ _ (c .before .before .before .before .before .before .before .before .before .before .before .pre .checked) (omega arith))), wrote-none _ _ _ _ _ _ _)
 
 mul-step : tie.Need-mul-step Inv-loop μ-loop
-mul-step c = omega (arith, c .before .before .before .before .before .before .before .before .before .before .before .before .before .pre .checked .readable .long, c .before .before .before .before .before .before .before .before .before .before .before .before .before .pre .checked .readable .most, c .before .before .before .before .steps .ensures .1)
+mul-step c = omega (arith, c .before .before .before .before .before .before .before .before .before .before .before .before .before .pre .checked .readable .long, c .before .before .before .before .before .before .before .before .before .before .before .before .before .pre .checked .readable .most, c .before .before .before .before .steps-of .ensures .1)
 
 shared-slice-read-step : tie.Need-shared-slice-read-step Inv-loop μ-loop
-shared-slice-read-step c = omega (arith, c .before .before .before .before .before .before .before .before .before .before .before .before .before .before .pre .checked .readable .long, c .before .before .before .before .before .before .before .before .before .before .before .before .before .before .pre .checked .readable .most, c .before .before .before .before .before .steps .ensures .1)
+shared-slice-read-step c = omega (arith, c .before .before .before .before .before .before .before .before .before .before .before .before .before .before .pre .checked .readable .long, c .before .before .before .before .before .before .before .before .before .before .before .before .before .before .pre .checked .readable .most, c .before .before .before .before .before .steps-of .ensures .1)
 
 mul-used : tie.Need-mul-used Inv-loop μ-loop
-mul-used c = omega (arith, c .before .before .before .before .before .before .before .before .before .before .before .before .before .before .pre .checked .readable .long, c .before .before .before .before .before .before .before .before .before .before .before .before .before .before .pre .checked .readable .most, c .before .before .before .before .before .steps .ensures .1)
+mul-used c = omega (arith, c .before .before .before .before .before .before .before .before .before .before .before .before .before .before .pre .checked .readable .long, c .before .before .before .before .before .before .before .before .before .before .before .before .before .before .pre .checked .readable .most, c .before .before .before .before .before .steps-of .ensures .1)
 
 add-used : tie.Need-add-used Inv-loop μ-loop
-add-used c = omega (arith, c .before .before .before .before .before .before .before .before .before .before .before .before .before .before .pre .checked .readable .long, c .before .before .before .before .before .before .before .before .before .before .before .before .before .before .pre .checked .readable .most, c .before .before .before .before .before .steps .ensures .1)
+add-used c = omega (arith, c .before .before .before .before .before .before .before .before .before .before .before .before .before .before .pre .checked .readable .long, c .before .before .before .before .before .before .before .before .before .before .before .before .before .before .pre .checked .readable .most, c .before .before .before .before .before .steps-of .ensures .1)
 
 add-used-2 : tie.Need-add-used-2 Inv-loop μ-loop
-add-used-2 c = omega (arith, c .before .before .before .before .before .before .before .before .before .before .before .before .before .before .pre .checked .readable .long, c .before .before .before .before .before .before .before .before .before .before .before .before .before .before .pre .checked .readable .most, c .before .before .before .before .before .steps .ensures .1)
+add-used-2 c = omega (arith, c .before .before .before .before .before .before .before .before .before .before .before .before .before .before .pre .checked .readable .long, c .before .before .before .before .before .before .before .before .before .before .before .before .before .before .pre .checked .readable .most, c .before .before .before .before .before .steps-of .ensures .1)
 
 mul-used-2 : tie.Need-mul-used-2 Inv-loop μ-loop
-mul-used-2 c = omega (arith, c .before .before .before .before .before .before .before .before .before .before .before .before .before .before .pre .checked .readable .long, c .before .before .before .before .before .before .before .before .before .before .before .before .before .before .pre .checked .readable .most, c .before .before .before .before .before .steps .ensures .1)
+mul-used-2 c = omega (arith, c .before .before .before .before .before .before .before .before .before .before .before .before .before .before .pre .checked .readable .long, c .before .before .before .before .before .before .before .before .before .before .before .before .before .before .pre .checked .readable .most, c .before .before .before .before .before .steps-of .ensures .1)
 
 shared-slice-read-used : tie.Need-shared-slice-read-used Inv-loop μ-loop
-shared-slice-read-used c = omega (arith, c .before .before .before .before .before .before .before .before .before .before .before .before .before .before .before .pre .checked .readable .long, c .before .before .before .before .before .before .before .before .before .before .before .before .before .before .before .pre .checked .readable .most, c .before .before .before .before .before .before .steps .ensures .1)
+shared-slice-read-used c = omega (arith, c .before .before .before .before .before .before .before .before .before .before .before .before .before .before .before .pre .checked .readable .long, c .before .before .before .before .before .before .before .before .before .before .before .before .before .before .before .pre .checked .readable .most, c .before .before .before .before .before .before .steps-of .ensures .1)
 
 take-step-requires : tie.Need-take-step-requires Inv-loop μ-loop
 take-step-requires c κs =
@@ -97,10 +97,10 @@ add-at c =
     omega (arith, room-left (a .rules .now) (a .goal .now) (a .calls .now) (a .answers .now) (a .n) _ _ _ _ (i .1) l (c .before .before .before .before .before .before .before .before .before .before .before .before .before .before .before .before .before .before .before .before .before .before .pre .roomy) u, c .before .before .before .before .before .before .before .before .before .before .before .before .before .before .before .before .before .before .before .before .before .before .pre .roomy .room, c .before .before .before .before .before .before .before .before .before .before .before .before .before .before .before .before .before .before .before .before .before .before .pre .roomy .small)
 
 add-q : tie.Need-add-q Inv-loop μ-loop
-add-q c = omega (arith, c .before .before .before .before .before .before .before .before .before .before .before .before .before .before .before .before .before .before .before .before .before .before .pre .checked .readable .long, c .before .before .before .before .before .before .before .before .before .before .before .before .before .before .before .before .before .before .before .before .before .before .pre .checked .readable .most, c .before .before .before .before .before .before .before .before .before .before .before .before .before .steps .ensures .1)
+add-q c = omega (arith, c .before .before .before .before .before .before .before .before .before .before .before .before .before .before .before .before .before .before .before .before .before .before .pre .checked .readable .long, c .before .before .before .before .before .before .before .before .before .before .before .before .before .before .before .before .before .before .before .before .before .before .pre .checked .readable .most, c .before .before .before .before .before .before .before .before .before .before .before .before .before .steps-of .ensures .1)
 
 loop-less : tie.Need-loop-less Inv-loop μ-loop
-loop-less c = omega (arith, c .before .before .before .before .before .before .before .before .before .before .before .before .before .before .before .before .before .before .before .before .before .before .pre .checked .readable .long, c .before .before .before .before .before .before .before .before .before .before .before .before .before .before .before .before .before .before .before .before .before .before .pre .checked .readable .most, c .before .before .before .before .before .before .before .before .before .before .before .before .before .steps .ensures .1)
+loop-less c = omega (arith, c .before .before .before .before .before .before .before .before .before .before .before .before .before .before .before .before .before .before .before .before .before .before .pre .checked .readable .long, c .before .before .before .before .before .before .before .before .before .before .before .before .before .before .before .before .before .before .before .before .before .before .pre .checked .readable .most, c .before .before .before .before .before .before .before .before .before .before .before .before .before .steps-of .ensures .1)
 
 loop-again : tie.Need-loop-again Inv-loop μ-loop
 loop-again c =
@@ -130,11 +130,11 @@ write-spec =
     (tie.spec
     Inv-loop
     μ-loop
-    mul-steps
-    add-steps
-    mul-steps-2
-    shared-slice-read-steps
-    steps-requires
+    mul-steps-of
+    add-steps-of
+    mul-steps-of-2
+    shared-slice-read-steps-of
+    steps-of-requires
     start-requires
     mul-at
     shared-slice-read-at

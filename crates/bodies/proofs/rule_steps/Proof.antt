@@ -1,10 +1,10 @@
 -- `rule_steps` meets its contract. Assumes nothing.
 use native.Mathlib.Nat.{add-sub-cancel-left}
 use borrow.Author.Needs.{needs}
-use Rattle.checks.proofs.body.rule_steps.Statement.{statement}
-use Rattle.checks.proofs.body.rule_steps.Tie as tie
-use Rattle.checks.proofs.body.rule_steps.Reads as reads
-use Rattle.checks.proofs.body.rule_steps.Lts as lts
+use Rattle.bodies.proofs.rule_steps.Statement.{statement}
+use Rattle.bodies.proofs.rule_steps.Tie as tie
+use Rattle.bodies.proofs.rule_steps.Reads as reads
+use Rattle.bodies.proofs.rule_steps.Lts as lts
 
 mul-from : tie.Need-mul-from
 mul-from c = search needs

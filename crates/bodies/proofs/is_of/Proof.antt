@@ -1,12 +1,12 @@
--- `fits` meets its contract. Assumes nothing.
+-- `is_of` meets its contract. Assumes nothing.
 use Prim.Native.Nat.{_*_}
 use native.Mathlib.Omega.{arith}
 use borrow.Author.Tests.{lt-ltb, le-ltb, eq-eqb, ne-eqb}
 use borrow.Author.Needs.{needs}
-use Rattle.checks.proofs.body.fits.Statement.{statement}
-use Rattle.checks.proofs.body.fits.Tie as tie
-use Rattle.checks.proofs.body.fits.Reads as reads
-use Rattle.checks.proofs.body.fits.Lts as lts
+use Rattle.bodies.proofs.is_of.Statement.{statement}
+use Rattle.bodies.proofs.is_of.Tie as tie
+use Rattle.bodies.proofs.is_of.Reads as reads
+use Rattle.bodies.proofs.is_of.Lts as lts
 
 returns : tie.Need-returns
 returns c = simp (eq-eqb _ _ (c .if1 .taken))
@@ -21,7 +21,7 @@ shared-slice-read-result : tie.Need-shared-slice-read-result
 shared-slice-read-result c = search needs
 
 cast-result : tie.Need-cast-result
-cast-result c = omega (arith, c .shared-slice-known .given (18 * c .before .before .before .args .rule))
+cast-result c = omega (arith, c .shared-slice-known .given (18 * c .before .before .before .args .number))
 
 returns-2 : tie.Need-returns-2
 returns-2 c = simp (ne-eqb _ _ (c .before .before .if1 .left), lt-ltb _ _ (c .before .if2 .taken))
@@ -29,8 +29,8 @@ returns-2 c = simp (ne-eqb _ _ (c .before .before .if1 .left), lt-ltb _ _ (c .be
 returns-3 : tie.Need-returns-3
 returns-3 c = simp (ne-eqb _ _ (c .before .if1 .left), le-ltb _ _ (c .if2 .left))
 
-pub fits-spec : {M : Type 1} → statement M
-fits-spec =
+pub is-of-spec : {M : Type 1} → statement M
+is-of-spec =
     tie.close
     (tie.spec
     returns

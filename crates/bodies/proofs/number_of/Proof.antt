@@ -2,8 +2,8 @@
 use mathlib.Core.Path.{refl}
 use borrow.Author.Tests.{lt-ltb, le-ltb}
 use Rattle.tabling.proofs.Numbers.{number-at}
-use Rattle.walk.proofs.bodies.number_of.Statement.{statement}
-use Rattle.walk.proofs.bodies.number_of.Tie as tie
+use Rattle.bodies.proofs.number_of.Statement.{statement}
+use Rattle.bodies.proofs.number_of.Tie as tie
 
 returns : tie.Need-returns
 unfolding number-at
