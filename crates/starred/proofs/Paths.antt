@@ -3,8 +3,7 @@ use Prim.Native.Nat.{ℕ}
 use mathlib.Core.Path.{_≡_, refl, ap₂}
 use mathlib.Core.Bool.{Bool, true, false, _&&_}
 use mathlib.Core.List.{List, [], _∷_, List·Memᴰ}
-use lib.Dec.{T, eqb, ltb, eqb→eq}
-use borrow.Author.Tests.{ltb-true}
+use lib.Dec.{T, eqb, eqb→eq}
 use Rattle.steps.specs.Run.{Goal}
 use Rattle.steps.specs.Words.{step-by, rules-from}
 use Rattle.steps.specs.Acceptance.{each-below, good-step, good-word, good-rule, bad-counts, bad-length, bad-rules, bad-goal, bad-start, words-refusal}
@@ -15,7 +14,7 @@ use Rattle.checks.specs.Checks.{over-room, good-call, good-calls, all-justified
 use Rattle.unfolding.specs.Path.{shown, adds, walked, below, path-of}
 use Rattle.path.specs.Outcome.{fault, answer-records, too-short, refusal-of, count-of, list-after}
 use Rattle.starred.specs.Drills.{Shown, Drill, lent, Shows, word, _⟵_, drill, path, drills}
-use Rattle.starred.proofs.ListTests.{both, both-l, both-r, holds-true, every, every-at}
+use Rattle.starred.proofs.ListTests.{both, both-l, both-r, every, every-at}
 use Rattle.starred.proofs.Certified.{certified, separate, closed, justified as grounded, reached, owned, kept, apart, some-place, every-place, ends-at, comes-at, call-row, call-same, answer-row, places, bodies, next}
 use Rattle.starred.proofs.RunTables.{call-at, of-run, finished}
 
@@ -32,14 +31,15 @@ same-is [] (y ∷ ys) t = absurd t
 same-is (x ∷ xs) [] t = absurd t
 same-is (x ∷ xs) (y ∷ ys) t = let (e, s) = both (eqb x y) (same xs ys) t in ap₂ (λ (z : ℕ) (zs : List ℕ). z ∷ zs) (eqb→eq x y e) (same-is xs ys s)
 
--- the record asked for is there and an answer of the goal at the start
+-- the record asked for is an answer of the goal at the start
 of-goal : Drill → Shown → Bool
-of-goal d p = ltb (p .asked) (d .answers) && call-row (call-at d p (answer-records (lent d p) .call (p .asked))) (Goal, d .start)
+of-goal d p = call-row (call-at d p (answer-records (lent d p) .call (p .asked))) (Goal, d .start)
 
 -- the test of a path
 right : Drill → Shown → Bool
 right d p =
-    of-run d p && of-goal d p && eqb (refusal-of (lent d p) (p .asked) (p .list)) (p .refusal)
+    of-run d p && of-goal d p && eqb (fault (lent d p) (p .asked)) 0
+    && eqb (refusal-of (lent d p) (p .asked) (p .list)) (p .refusal)
     && eqb (count-of (lent d p) (p .asked) (p .list)) (p .count)
     && same (list-after (lent d p) (p .asked) (p .list)) (p .after)
 
@@ -47,13 +47,13 @@ right-shows : (d : Drill) (p : Shown) → T (right d p) → Shows d p
 unfolding right of-goal
 right-shows d p t =
     let f : T (of-run d p) = search (both-l, both-r) depth 8 in
-    let l : T (ltb (p .asked) (d .answers)) = search (both-l, both-r) depth 8 in
+    let l : T (eqb (fault (lent d p) (p .asked)) 0) = search (both-l, both-r) depth 8 in
     let g : T (call-row (call-at d p (answer-records (lent d p) .call (p .asked))) (Goal, d .start)) = search (both-l, both-r) depth 8 in
     let r : T (eqb (refusal-of (lent d p) (p .asked) (p .list)) (p .refusal)) = search (both-l, both-r) depth 8 in
     let c : T (eqb (count-of (lent d p) (p .asked) (p .list)) (p .count)) = search (both-l, both-r) depth 8 in
     let a : T (same (list-after (lent d p) (p .asked) (p .list)) (p .after)) = search (both-l, both-r) depth 8 in
     let e = call-same (call-at d p (answer-records (lent d p) .call (p .asked))) (Goal, d .start) g in
-    record { finished = finished d p f; asked = ltb-true _ _ (holds-true _ l); action = λ i. e i .0; state = λ i. e i .1; refusal = eqb→eq _ _ r; count = eqb→eq _ _ c; after = same-is _ _ a }
+    record { finished = finished d p f; sound = eqb→eq _ _ l; action = λ i. e i .0; state = λ i. e i .1; refusal = eqb→eq _ _ r; count = eqb→eq _ _ c; after = same-is _ _ a }
 
 all-right : Drill → Bool
 all-right d = every (right d) (d .paths)

@@ -1,5 +1,5 @@
 -- The starred drills D1 to D10 of document 01, ten rows of one table, and what a row says of its run and its paths. Assumes nothing.
-use Prim.Native.Nat.{ℕ, _+_, _-_, _<_}
+use Prim.Native.Nat.{ℕ, _+_, _-_}
 use mathlib.Core.Path.{_≡_}
 use mathlib.Core.List.{List, [], _∷_, _++_, map, List·Memᴰ}
 use mathlib.Core.Logic.{_↔_}
@@ -11,7 +11,7 @@ use Rattle.steps.specs.Counting.{Counts, Rising}
 use Rattle.steps.specs.Words.{run-of}
 use Rattle.steps.specs.Acceptance.{Accepted}
 use Rattle.evaluator.specs.Finished.{Finished}
-use Rattle.path.specs.Outcome.{Lent, call-records, answer-records, refusal-of, count-of, list-after}
+use Rattle.path.specs.Outcome.{Lent, call-records, answer-records, fault, refusal-of, count-of, list-after}
 
 -- A path of a row: the words of both tables, the answer record asked for and the list lent; then the refusal, the count of states and the list
 -- afterwards.
@@ -53,11 +53,11 @@ lent d p = record {
   answer-count = d .answers;
 }
 
--- What a path of a row says: its tables are those of the row's finished run, the record asked for is an answer of the goal at the start, and
--- this is the result of that record's path.
+-- What a path of a row says: its tables are those of the row's finished run and, with the record asked for, meet none of 20 to 23 and 40 to
+-- 42; that record is an answer of the goal at the start; and this is the result of its path.
 pub record Shows (d : Drill) (p : Shown) : Type 0 where
   pub finished : Finished (d .rules) (d .goal) (d .start) (p .calls) (p .answers) (d .calls) (d .answers)
-  pub asked : p .asked < d .answers
+  pub sound : fault (lent d p) (p .asked) ≡ 0
   pub action : call-records (lent d p) .action (answer-records (lent d p) .call (p .asked)) ≡ Goal
   pub state : call-records (lent d p) .state (answer-records (lent d p) .call (p .asked)) ≡ d .start
   pub refusal : refusal-of (lent d p) (p .asked) (p .list) ≡ p .refusal

@@ -19,7 +19,7 @@ module _ {A : Type 0} where
   abbrev pub Outnumbers : (A → Type 0) → ℕ → Type 0
   Outnumbers P n = (xs : List A) × Distinct xs × ((x : A) → List·Memᴰ x xs → P x) × (length xs ≡ n + 1)
 
--- "The list rises and has no repeats": each number is less than all behind it.
+-- Demand 2: "The list rises and has no repeats." Each number is less than all behind it.
 pub data Rising : List ℕ → Type 0 where
   rising-nil : Rising []
   rising-cons : {x : ℕ} {xs : List ℕ} → ((y : ℕ) → List·Memᴰ y xs → x < y) → Rising xs → Rising (x ∷ xs)

@@ -3,7 +3,7 @@ use Prim.Native.Nat.{ℕ, _+_, _-_, _/_, _%_, _^_}
 use mathlib.Core.Bool.{Bool, cond}
 use lib.Dec.{eqb, ltb}
 
--- "A state is a set of at most 64 fluents, held as an unsigned 64-bit number": that it has 64 is what acceptance gives.
+-- "A state is a set of at most 64 fluents, held as an unsigned 64-bit number": that it has no more bits is what acceptance gives.
 abbrev pub State : Type 0
 State = ℕ
 

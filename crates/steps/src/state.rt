@@ -10,7 +10,7 @@ impl State {
     // The state in which nothing holds.
     pub const NOTHING: State = State(0);
 
-    // The same by a function, whose contract says what the constant is.
+    // The same by a function, under a contract.
     pub fn nothing() -> State
         ensures { λ r. ⌜ r .0 ≡ 0 ⌝ }
     {

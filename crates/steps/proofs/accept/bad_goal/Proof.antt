@@ -19,7 +19,7 @@ abbrev μ-loop : tie.MeasureT-loop
 
 returns : tie.Need-returns Inv-loop μ-loop
 unfolding bad-goal
-returns c = rw (lt-ltb _ _ (c .if1 .taken)) refl
+returns c = rw (lt-ltb 16 (length (c .before .before .args .goal .now)) (omega (arith, c .if1 .taken))) refl
 
 loop-holds : tie.Need-loop-holds Inv-loop μ-loop
 loop-holds c = (omega arith, omega arith, each-none _)
