@@ -70,7 +70,7 @@ static void test_names(void) {
     const uint8_t *text = (const uint8_t *)EXAMPLE;
     size_t len = strlen(EXAMPLE);
     lawhemuri_span lit = lawhemuri_fluent_name(text, len, 1), none = lawhemuri_fluent_name(text, len, 2);
-    EXPECT(lit.len == 3 && memcmp(text + lit.at, "lit", 3) == 0);
+    EXPECT(lit.at == 19 && lit.len == 3 && memcmp(text + 19, "lit", 3) == 0);
     EXPECT(none.at == 0 && none.len == 0);
     none = lawhemuri_fluent_name(NULL, 0, 0);
     EXPECT(none.at == 0 && none.len == 0);

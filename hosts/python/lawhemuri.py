@@ -1,6 +1,7 @@
 """Rehearsal sheets from Python, by ctypes over a shared library.
 
-`hosts/python/run SHEET` builds the shared library from the static one and prints the ends of a sheet, each with a path to it.
+`hosts/python/run SHEET` builds the shared library from the static one and prints the ends of a sheet as the program `ends` does,
+after each end a line with a path to it: `path` and the states, or `path`, `refused` and 43 where there are more than 65,536 of them.
 """
 
 import ctypes
@@ -36,11 +37,11 @@ class States(ctypes.Structure):
 
 
 class Refused(Exception):
-    """A numbered refusal, with its line for 13 to 17."""
+    """A numbered refusal, with its line for 13 to 17. With 31 `finished` has the run's counts, its calls and its answers."""
 
-    def __init__(self, number, line=0):
+    def __init__(self, number, line=0, finished=None):
         super().__init__(f"refused {number}, line {line}" if line else f"refused {number}")
-        self.number, self.line = number, line
+        self.number, self.line, self.finished = number, line, finished
 
 
 class Library:
@@ -78,7 +79,7 @@ class Library:
             calls, len(calls), answers, len(answers), ends, len(ends),
         )
         if run.refusal:
-            raise Refused(run.refusal)
+            raise Refused(run.refusal, finished=(run, calls, answers) if run.refusal == 31 else None)
         return run, ends[: run.ends], calls, answers
 
     def path(self, sheet, rules, run, calls, answers, record, room=65536):
@@ -99,10 +100,8 @@ def goal_records(run, calls, answers):
     return {answers[19 * i + 1]: i for i in goals}
 
 
-def main():
-    lib = Library(os.environ["LAWHEMURI_SO"])
-    with open(sys.argv[1], "rb") as file:
-        text = file.read()
+def print_ends(lib, text):
+    """Prints the ends of a sheet, each with a path to it, or the sheet's refusal."""
     try:
         sheet, rules = lib.read(text)
         run, ends, calls, answers = lib.evaluate(sheet, rules)
@@ -114,7 +113,16 @@ def main():
     print("ends", run.ends, run.calls, run.answers, sep="\t")
     for state in ends:
         print("end", state, *(name for k, name in enumerate(names) if state >> k & 1), sep="\t")
-        print("path", *lib.path(sheet, rules, run, calls, answers, record_of[state]), sep="\t")
+        try:
+            path = lib.path(sheet, rules, run, calls, answers, record_of[state])
+        except Refused as refusal:
+            path = "refused", refusal.number
+        print("path", *path, sep="\t")
+
+
+def main():
+    with open(sys.argv[1], "rb") as file:
+        print_ends(Library(os.environ["LAWHEMURI_SO"]), file.read())
 
 
 if __name__ == "__main__":

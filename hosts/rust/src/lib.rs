@@ -1,8 +1,8 @@
 //! Safe functions over the proved library: read a rehearsal sheet, evaluate its goal, list the path of an answer.
 //!
 //! The caller lends all memory as slices. What each slice holds afterwards, for every
-//! refusal, is said at each function. [`evaluate`] needs 1.75 MiB of stack, [`path`] some 1.1 MiB: a thread of the
-//! standard library has 2 MiB.
+//! refusal, is said at each function. As the header's constants say, [`evaluate`] needs 1.75 MiB of stack, [`path`] 1.125 MiB,
+//! [`read`] and [`fluent_name`] 64 KiB: a thread of the standard library has 2 MiB.
 //!
 //! ```
 //! let text = b"fluent\ta\nfluent\tb\naction\tg\nrule\tg\t!g\t?a\t+b\nrule\tg\t+a\nstart\ngoal\t!g\n";
@@ -18,6 +18,7 @@
 mod ffi;
 mod refusal;
 
+use refusal::accepted;
 pub use refusal::Refusal;
 
 /// Words of one rule: head, step count, 16 step words.
@@ -112,17 +113,15 @@ pub fn read(sheet: &[u8], rules: &mut [u16]) -> Result<Sheet, Unread> {
     let r = unsafe {
         ffi::lawhemuri_read(sheet.as_ptr(), sheet.len(), rules.as_mut_ptr(), rules.len())
     };
-    match Refusal::of(r.refusal) {
-        Some(refusal) => Err(Unread { refusal, line: r.line }),
-        None => Ok(Sheet {
-            fluents: r.fluents,
-            actions: r.actions,
-            rules: r.rules as usize,
-            start: r.start,
-            goal: r.goal,
-            goal_len: r.goal_len as usize,
-        }),
-    }
+    accepted(r.refusal).map_err(|refusal| Unread { refusal, line: r.line })?;
+    Ok(Sheet {
+        fluents: r.fluents,
+        actions: r.actions,
+        rules: r.rules as usize,
+        start: r.start,
+        goal: r.goal,
+        goal_len: r.goal_len as usize,
+    })
 }
 
 /// The very part of the sheet that defines a fluent; empty for a refused sheet or a number too high.
@@ -166,10 +165,8 @@ pub fn evaluate(question: &Question<'_>, lent: &mut Buffers<'_>) -> Result<Run, 
         calls: r.calls as usize,
         answers: r.answers as usize,
     };
-    match Refusal::of(r.refusal) {
-        Some(refusal) => Err(Unrun { refusal, run }),
-        None => Ok(run),
-    }
+    accepted(r.refusal).map_err(|refusal| Unrun { refusal, run })?;
+    Ok(run)
 }
 
 /// Filled tables to be shown, and how many records of each count.
@@ -185,7 +182,7 @@ pub struct Records<'a> {
 ///
 /// The call's state comes first, then the state after each update; equal neighbours are joined. The list past the
 /// states is unchanged; refused, it is unchanged. The tables may come from anybody: every record is checked. The
-/// question's start is not used. It needs 1 MiB of stack.
+/// question's start is not used.
 pub fn path(question: &Question<'_>, records: &Records<'_>, record: usize, states: &mut [u64]) -> Result<usize, Refusal> {
     // The library reads rules, goal and tables and writes `states`, within the lengths given, and keeps none.
     let r = unsafe {
@@ -207,8 +204,6 @@ pub fn path(question: &Question<'_>, records: &Records<'_>, record: usize, state
             states.len(),
         )
     };
-    match Refusal::of(r.refusal) {
-        Some(refusal) => Err(refusal),
-        None => Ok(r.states as usize),
-    }
+    accepted(r.refusal)?;
+    Ok(r.states as usize)
 }

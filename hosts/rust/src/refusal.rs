@@ -120,3 +120,32 @@ impl fmt::Display for Refusal {
 }
 
 impl std::error::Error for Refusal {}
+
+/// What the number of a result says: 0 alone is no refusal.
+///
+/// Panics on any other number that no operation gives.
+pub(crate) fn accepted(number: u64) -> Result<(), Refusal> {
+    match number {
+        0 => Ok(()),
+        _ => Err(Refusal::of(number).unwrap_or_else(|| panic!("the library gave {number}, which is no refusal"))),
+    }
+}
+
+#[cfg(test)]
+mod tests {
+    use super::{accepted, Refusal};
+
+    #[test]
+    fn zero_alone_is_accepted() {
+        assert_eq!(accepted(0), Ok(()));
+        for refusal in Refusal::ALL {
+            assert_eq!(accepted(refusal.number()), Err(refusal));
+        }
+    }
+
+    #[test]
+    #[should_panic(expected = "the library gave 25")]
+    fn unknown_number_is_not_accepted() {
+        let _ = accepted(25);
+    }
+}

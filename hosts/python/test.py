@@ -1,0 +1,75 @@
+"""The sheets of sheets/ and sheets/drills/ from Python: the ends stored there, with each end a path from the start to it."""
+
+import contextlib
+import glob
+import io
+import os
+import unittest
+
+import lawhemuri
+
+SHEETS = os.path.join(os.path.dirname(os.path.abspath(__file__)), "..", "..", "sheets")
+LIBRARY = lawhemuri.Library(os.environ["LAWHEMURI_SO"])
+
+# Document 01's path of drill D1, and a path of 65,537 states.
+PATHS = {"example": [["0", "1", "3", "2"]], "long_path": [["refused", "43"]]}
+
+
+def content(path):
+    with open(path, "rb") as file:
+        return file.read()
+
+
+def fields(text):
+    """The fields of each line."""
+    return [line.split("\t") for line in text.splitlines()]
+
+
+def start_of(text):
+    """The start state that an accepted sheet's lines say."""
+    fluents = [line[1] for line in fields(text) if line[0] == "fluent"]
+    [start] = [line[1:] for line in fields(text) if line[0] == "start"]
+    return sum(1 << fluents.index(name) for name in start)
+
+
+class Sheets(unittest.TestCase):
+    def test_every_sheet(self):
+        sheets = glob.glob(os.path.join(SHEETS, "*.sheet")) + glob.glob(os.path.join(SHEETS, "drills", "*.sheet"))
+        self.assertTrue(sheets)
+        for sheet in sorted(sheets):
+            with self.subTest(os.path.relpath(sheet, SHEETS)):
+                self.hold_to_stored(os.path.splitext(sheet)[0])
+
+    def hold_to_stored(self, sheet):
+        text, stored = content(sheet + ".sheet"), content(sheet + ".ends").decode()
+        with contextlib.redirect_stdout(io.StringIO()) as out:
+            lawhemuri.print_ends(LIBRARY, text)
+        printed = fields(out.getvalue())
+        self.assertEqual([line for line in printed if line[0] != "path"], fields(stored))
+        self.assertEqual([line[0] for line in printed[1:]], ["end", "path"] * (len(printed) // 2))
+        ends, paths = printed[1::2], [line[1:] for line in printed[2::2]]
+        name = os.path.basename(sheet)
+        if name in PATHS:
+            self.assertEqual(paths, PATHS[name])
+            return
+        for end, path in zip(ends, paths):
+            self.assertEqual((path[0], path[-1]), (str(start_of(text.decode())), end[1]))
+
+
+class ShortList(unittest.TestCase):
+    """Drill D2 with a list of one place: 31."""
+
+    def test_counts_and_tables_are_given(self):
+        sheet, rules = LIBRARY.read(content(os.path.join(SHEETS, "left_recursion.sheet")))
+        _, ends, calls, answers = LIBRARY.evaluate(sheet, rules, rooms=(2, 4, 2))
+        self.assertEqual(ends, [1, 3])
+        with self.assertRaises(lawhemuri.Refused) as short:
+            LIBRARY.evaluate(sheet, rules, rooms=(2, 4, 1))
+        self.assertEqual(short.exception.number, 31)
+        run, same_calls, same_answers = short.exception.finished
+        self.assertEqual((run.ends, run.calls, run.answers), (2, 2, 4))
+        self.assertEqual((list(same_calls), list(same_answers)), (list(calls), list(answers)))
+
+
+if __name__ == "__main__":
+    unittest.main(verbosity=0)
