@@ -1,5 +1,6 @@
 //! Times of the library beside a plain evaluator with hash maps, on families of books that grow.
-//! `bench [SECONDS]`: a family stops growing once a run took longer than that (default 5).
+//! `bench [SECONDS]`: a family stops growing once a run took longer than that (default 5). Fails, after all is printed, if a
+//! result differs.
 
 mod book;
 mod families;
@@ -8,6 +9,7 @@ mod plain;
 
 use book::Book;
 use lawhemuri::{evaluate, Buffers, Run};
+use std::process::ExitCode;
 use std::time::Instant;
 
 const ROOM: usize = 65536;
@@ -27,19 +29,28 @@ const FAMILIES: [Family; 6] = [
     Family { name: "blocks", sizes: &[3, 4, 5, 6], book: families::blocks },
 ];
 
-/// The least time of some runs: at most nine, and at most half a second of them.
+/// The result, and the least time of some runs: at most nine, and none begun after half a second of them.
 fn least<T>(mut run: impl FnMut() -> T) -> (T, f64) {
     let began = Instant::now();
     let mut best = f64::INFINITY;
-    for _ in 0..9 {
+    let mut runs = 0;
+    loop {
         let one = Instant::now();
         let result = run();
         best = best.min(one.elapsed().as_secs_f64());
-        if began.elapsed().as_secs_f64() > 0.5 {
+        runs += 1;
+        if runs == 9 || began.elapsed().as_secs_f64() > 0.5 {
             return (result, best);
         }
     }
-    (run(), best)
+}
+
+fn verdict(same: bool) -> &'static str {
+    if same {
+        "same"
+    } else {
+        "DIFFERENT"
+    }
 }
 
 /// A room that just serves, as a power of 2.
@@ -47,8 +58,8 @@ fn room(records: usize) -> usize {
     records.next_power_of_two().min(ROOM)
 }
 
-/// One line of the table; how long the library took.
-fn measure(name: &str, size: u16, book: &Book) -> f64 {
+/// One line of the table; how long the library took, and whether both evaluators agree.
+fn measure(name: &str, size: u16, book: &Book) -> (f64, bool) {
     let ((ends, calls, answers), plain) = least(|| plain::evaluate(book));
     let mut c = vec![0; 2 * room(calls)];
     let mut a = vec![0; 19 * room(answers)];
@@ -67,24 +78,32 @@ fn measure(name: &str, size: u16, book: &Book) -> f64 {
         1e3 * time,
         1e3 * plain,
         time / plain,
-        if same { "same" } else { "DIFFERENT" },
+        verdict(same),
         if run.is_err() { ", 30" } else { "" },
     );
-    time
+    (time, same)
 }
 
-fn main() {
+fn main() -> ExitCode {
     let limit: f64 = std::env::args().nth(1).and_then(|s| s.parse().ok()).unwrap_or(5.0);
     println!(
         "{:<10}{:>5}{:>9}{:>8}{:>9}{:>12}{:>12}{:>10}",
         "family", "size", "ends", "calls", "answers", "ms", "plain ms", "ratio"
     );
+    let mut all_same = true;
     for family in &FAMILIES {
         for &size in family.sizes {
-            if measure(family.name, size, &(family.book)(size)) > limit {
+            let (time, same) = measure(family.name, size, &(family.book)(size));
+            all_same &= same;
+            if time > limit {
                 break;
             }
         }
     }
-    paths::print();
+    all_same &= paths::print();
+    if all_same {
+        ExitCode::SUCCESS
+    } else {
+        ExitCode::FAILURE
+    }
 }

@@ -1,12 +1,9 @@
 //! Paths of tables written by hand: chains of answers of one call, each of which uses the one before.
 
-use lawhemuri::{path, Question, Records, ANSWER_WORDS, RULE_WORDS};
+use crate::book::{Book, CALL, DELETE, INSERT};
+use crate::{least, verdict};
+use lawhemuri::{path, Records, Refusal, ANSWER_WORDS};
 use std::collections::HashMap;
-use std::time::Instant;
-
-const INSERT: u16 = 256;
-const DELETE: u16 = 512;
-const CALL: u16 = 768;
 
 /// The body of the first record, and that of all others.
 struct Chain {
@@ -21,13 +18,6 @@ const CHAINS: [Chain; 4] = [
     Chain { name: "twice", first: &[INSERT, DELETE], others: &[CALL, CALL] },
     Chain { name: "empty", first: &[], others: &[CALL, CALL] },
 ];
-
-fn rule(steps: &[u16]) -> [u16; RULE_WORDS] {
-    let mut words = [0; RULE_WORDS];
-    words[1] = steps.len() as u16;
-    words[2..2 + steps.len()].copy_from_slice(steps);
-    words
-}
 
 /// Every record is of the one call, in state 0, and ends in state 0.
 fn answers(chain: &Chain, records: usize) -> Vec<u64> {
@@ -76,47 +66,46 @@ fn plain_path(chain: &Chain, record: usize, room: u64) -> Option<Vec<u64>> {
     Some(states)
 }
 
-/// The result, and the least time of nine runs.
-fn timed<T>(mut run: impl FnMut() -> T) -> (T, f64) {
-    let mut once = || {
-        let began = Instant::now();
-        let result = run();
-        (result, began.elapsed().as_secs_f64())
-    };
-    let (mut result, mut best) = once();
-    for _ in 1..9 {
-        let (again, time) = once();
-        result = again;
-        best = best.min(time);
-    }
-    (result, best)
-}
-
-fn measure(chain: &Chain, count: usize) {
-    let rules = [rule(chain.first), rule(chain.others)].concat();
-    let question = Question { fluents: 1, actions: 1, rules: &rules, goal: &[], start: 0 };
+/// One line of the table; whether both paths agree.
+fn measure(chain: &Chain, count: usize) -> bool {
+    let mut book = Book::new(1, 1, 0);
+    book.rule(0, chain.first);
+    book.rule(0, chain.others);
+    let question = book.question();
     let answers = answers(chain, count);
     let records = Records { calls: &[0, 0], call_count: 1, answers: &answers, answer_count: count };
     let mut states = vec![0; 2 * 65536 + 1];
     let room = states.len() as u64;
-    let (result, ours) = timed(|| path(&question, &records, count - 1, &mut states));
-    let (plain, theirs) = timed(|| plain_path(chain, count - 1, room));
-    let (shown, same) = match (result, plain) {
-        (Ok(n), Some(list)) => (format!("{n} states"), states[..n] == list),
-        (Err(refusal), None) => (format!("refused {}", refusal.number()), true),
-        (Ok(n), None) => (format!("{n} states"), false),
-        (Err(refusal), Some(_)) => (format!("refused {}", refusal.number()), false),
+    let (result, ours) = least(|| path(&question, &records, count - 1, &mut states));
+    let (plain, theirs) = least(|| plain_path(chain, count - 1, room));
+    let same = match (result, plain) {
+        (Ok(n), Some(list)) => states[..n] == list,
+        (Err(refusal), None) => refusal == Refusal::StatesShort,
+        _ => false,
     };
-    let verdict = if same { "same" } else { "DIFFERENT" };
-    println!("{:<10}{count:>9}{shown:>16}{:>12.3}{:>12.3}{:>10.1}  {verdict}", chain.name, 1e3 * ours, 1e3 * theirs, ours / theirs);
+    let shown = match result {
+        Ok(n) => format!("{n} states"),
+        Err(refusal) => format!("refused {}", refusal.number()),
+    };
+    println!(
+        "{:<10}{count:>9}{shown:>16}{:>12.3}{:>12.3}{:>10.1}  {}",
+        chain.name,
+        1e3 * ours,
+        1e3 * theirs,
+        ours / theirs,
+        verdict(same),
+    );
+    same
 }
 
-/// A table of chains and sizes.
-pub fn print() {
+/// A table of chains and sizes; whether all paths agree.
+pub fn print() -> bool {
     println!("\n{:<10}{:>9}{:>16}{:>12}{:>12}{:>10}", "path", "records", "result", "ms", "plain ms", "ratio");
+    let mut all_same = true;
     for chain in &CHAINS {
         for count in [1024, 16384, 65536] {
-            measure(chain, count);
+            all_same &= measure(chain, count);
         }
     }
+    all_same
 }
