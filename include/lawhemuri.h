@@ -5,9 +5,9 @@
  * locked, so calls may run in any number of threads. Every call returns, whatever
  * the buffers hold; no call touches a word outside the buffers lent.
  *
- * A buffer is a pointer and a count of elements (not of bytes). The pointer may be
- * NULL where the count is 0. A buffer that is written may not overlap another one
- * of the same call.
+ * A buffer is a pointer and a count of elements (not of bytes). The pointer must be
+ * aligned to its element type; it may be NULL where the count is 0. A buffer that is
+ * written may not overlap another one of the same call.
  *
  * Stack: lawhemuri_evaluate needs LAWHEMURI_STACK_EVALUATE bytes of it, lawhemuri_path
  * LAWHEMURI_STACK_PATH, the others LAWHEMURI_STACK_READ. A main thread has 8 MiB on most systems, a
