@@ -32,6 +32,7 @@ pub const TABLE_FULL: u64 = 30;
 pub const LIST_SHORT: u64 = 31;
 
 // The refusal, 0 for none, and the counts of ends, calls and answers.
+#[repr(C)]
 pub struct Run {
     pub refusal: u64,
     pub ends: u64,

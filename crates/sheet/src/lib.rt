@@ -16,6 +16,7 @@ ghost use Rattle.sheet.specs.Held.{answer, Gives, fieldSpan};
 use lines::Scan;
 
 // What a sheet says beside its rule words. Refusal 0 is none.
+#[repr(C)]
 pub struct Sheet {
     pub refusal: u64,
     pub line: u64,
@@ -28,6 +29,7 @@ pub struct Sheet {
 }
 
 // A part of a sheet: where it begins, and how long it is.
+#[repr(C)]
 pub struct Span {
     pub at: usize,
     pub len: usize,
