@@ -1,4 +1,4 @@
--- The words of an accepted sheet decode to what it writes: a step word to the step of its field, a rule's 18 words to its head and steps, the goal's words to its steps. Assumes nothing.
+-- The words of an accepted sheet decode to what it writes: a step word to the step of its field, 18 words of a rule to its head and steps. Assumes nothing.
 use mathlib.Core.Path.{_≡_, refl, ap, sym, _∙_, subst}
 use mathlib.Core.Bool.{Bool, true, false, cond}
 use mathlib.Core.List.{List, [], _∷_, _++_, append-assoc, Forall₂, Forall₂·nil, Forall₂·cons}
@@ -6,22 +6,18 @@ use Prim.Native.Nat.{ℕ, zero, suc, _+_, _-_, _*_, _/_, _%_, _≤_, _<_}
 use native.Mathlib.Omega.{arith}
 use lib.Dec.{ltb, eqb}
 use lib.ListN.{length, getD, take, drop, replicate}
-use lib.Seq.{take-append-seam, drop-append-add, drop-drop, getD-drop}
+use lib.Seq.{take-append-seam, drop-drop, getD-drop}
 use borrow.Author.Tests.{ltb-true, eqb-true}
 use Rattle.steps.specs.Step.{Step, query, insert, delete, call}
 use Rattle.steps.specs.Words.{step-by, step-of, body-of, rule-of}
 use Rattle.chars.specs.Bytes.{text, isName}
 use Rattle.chars.specs.Places.{place, placeAfter, among, byteAt}
 use Rattle.sheet.specs.Verdict.{accept, _>>=_}
-use Rattle.sheet.specs.Book.{Book, Symbols, padded, ruleWords, joined}
+use Rattle.sheet.specs.Book.{Symbols, padded, ruleWords}
 use Rattle.sheet.specs.Field.{marks, namesOf, usedName, stepFrom, stepWord, stepWords}
-use Rattle.sheet.specs.Reader.{readSheet, written}
-use Rattle.sheet.specs.Result.{accepted}
 use Rattle.sheet.proofs.Verdicts.{followed, required, same-value, not-both}
 use Rattle.sheet.proofs.AcceptedLines.{judged-accepted}
 use Rattle.sheet.proofs.Valid.{used-below}
-use Rattle.sheet.proofs.ValidSheets.{sheet-valid}
-use Rattle.sheet.proofs.Acceptance.{Rows, rows}
 
 -- The step that a field writes: `?`, `+`, `-` (query, insert, delete of a fluent) or `!` (call), then a name. Its index is the name's place among the fluents, for a call among the actions.
 pub data Writes (y : Symbols) (field : List ℕ) (step : Step) : Type 0 where
@@ -91,15 +87,6 @@ module _ (y : Symbols) (few-fluents : length (y .fluents) ≤ 64) (few-actions :
       let (us, v, t) = followed (stepWords y fs) (λ us. accept (w ∷ us)) ws r in
       subst (λ (x : List ℕ). Forall₂ (Writes y) (f ∷ fs) (body-of x)) (same-value t) (Forall₂·cons (step-decoded f w u) (steps-decoded fs us v))
 
--- the words from rule r on
-joined-from : (rs : List (List ℕ)) → Rows rs → (r : ℕ) → r < length rs → drop (18 * r) (joined rs) ≡ getD rs r [] ++ joined (drop (suc r) rs)
-joined-from [] h r l = absurd (omega arith)
-joined-from (x ∷ rs) h zero l = refl
-joined-from (x ∷ rs) h (suc r) l =
-    let n = h 0 (omega arith) in
-    let e : 18 * suc r ≡ length x + 18 * r = omega arith in
-    ap (λ (k : ℕ). drop k (x ++ joined rs)) e ∙ drop-append-add x (joined rs) (18 * r) ∙ joined-from rs (λ i k. h (suc i) (omega arith)) r (omega arith)
-
 -- the rule of 18 words that stand at rule r
 pub rule-at : (words : List ℕ) (r head : ℕ) (steps rest : List ℕ) → drop (18 * r) words ≡ ruleWords head steps ++ rest → rule-of words r ≡ record { head = head; body = body-of steps }
 rule-at words r head steps rest e =
@@ -109,14 +96,3 @@ rule-at words r head steps rest e =
     let d : drop (18 * r + 2) words ≡ padded steps ++ rest = sym (drop-drop 2 (18 * r) words) ∙ ap (drop 2) e in
     let t = ap (take (length steps)) (append-assoc steps (replicate (16 - length steps) 0) rest) ∙ take-append-seam steps (replicate (16 - length steps) 0 ++ rest) in
     rw (h, n, d, t)
-
--- the rule words of an accepted sheet, 18 for each rule, decode to the rule's head and steps
-pub rule-decoded : (s : List ℕ) (b : Book) (r head : ℕ) (steps : List ℕ) → readSheet s ≡ written b → r < length (b .rules) → getD (b .rules) r [] ≡ ruleWords head steps
-    → rule-of (joined (b .rules)) r ≡ record { head = head; body = body-of steps }
-rule-decoded s b r head steps e l g =
-    let rest = joined (drop (suc r) (b .rules)) in
-    rule-at (joined (b .rules)) r head steps rest (joined-from (b .rules) (rows b (sheet-valid s b e)) r l ∙ ap (λ (x : List ℕ). x ++ rest) g)
-
--- its goal words, as many as the result says, decode to the goal's steps
-pub goal-decoded : (b : Book) → body-of (take (accepted b .«goal_len») (accepted b .goal)) ≡ body-of (b .goal)
-goal-decoded b = ap body-of (take-append-seam (b .goal) (replicate (16 - length (b .goal)) 0))

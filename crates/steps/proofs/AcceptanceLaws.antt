@@ -113,10 +113,6 @@ step-indexed fluents actions (suc (suc zero)) i l h = h
 step-indexed fluents actions (suc (suc (suc zero))) i l h = h
 step-indexed fluents actions (suc (suc (suc (suc k)))) i l h = absurd (omega arith)
 
-pub good-kind : (fluents actions w : ℕ) → good-step fluents actions w ≡ true → w / 256 < 4
-unfolding good-step
-good-kind fluents actions w e = ltb-true (w / 256) 4 (both (ltb (w / 256) 4) _ e .0)
-
 pub good-indexed : (fluents actions w : ℕ) → good-step fluents actions w ≡ true → Indexed fluents actions (step-of w)
 unfolding good-step
 good-indexed fluents actions w e =

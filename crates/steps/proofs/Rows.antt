@@ -1,5 +1,5 @@
 -- The rows of a table as a list: what "row i, for i below n" says of `Distinct`, `Counts` and `Outnumbers`. Assumes nothing.
-use Prim.Native.Nat.{ℕ, zero, suc, _≤_, _<_}
+use Prim.Native.Nat.{ℕ, zero, suc, _<_}
 use native.Mathlib.Omega.{arith}
 use mathlib.Core.Path.{_≡_, refl, sym, _∙_, ap}
 use mathlib.Core.List.{List, [], _∷_, List·Memᴰ, List·Memᴰ·head, List·Memᴰ·tail, List·Memᴰ·not-nil}
@@ -7,7 +7,7 @@ use mathlib.Core.Logic.{_≢_}
 use native.Mathlib.Decide.{ℕ-discrete}
 use lib.ListN.{length}
 use Rattle.steps.specs.Counting.{Distinct, none, more, Counts, Outnumbers}
-use Rattle.steps.proofs.Counting.{counts-outnumbers, full-outnumbers}
+use Rattle.steps.proofs.Counting.{full-outnumbers}
 
 module _ {X : Type 0} (row : ℕ → X) where
   unfoldable pub rows : ℕ → List X
@@ -58,10 +58,6 @@ module _ {X : Type 0} (row : ℕ → X) where
     -- a table that holds each thing of P once counts P
     pub table-counts : ((x : X) → P x → (i : ℕ) × (i < n) × (x ≡ row i)) → Counts P n
     table-counts complete = (rows n, rows-distinct n new, (λ x. (λ m. each x (rows-out n x m), λ h. let (i, l, e) = complete x h in rows-in n i x l e)), rows-length n)
-
-    -- and none outnumber it
-    pub table-fits : ((x : X) → P x → (i : ℕ) × (i < n) × (x ≡ row i)) → (room : ℕ) → n ≤ room → ¬ Outnumbers P room
-    table-fits complete room l o = omega (arith, counts-outnumbers P n room (table-counts complete) .0 o)
 
     -- a table of things of P that is full, and one more: P outnumbers the room
     pub table-full : (y : X) → P y → ((i : ℕ) → i < n → row i ≢ y) → Outnumbers P n

@@ -1,6 +1,6 @@
 -- From which call records a call record is called, one word for each: a least and a greatest number, such that every record whose walks have
 -- come to it lies between them. A record whose callees gained no answer since it was walked has nothing new to give. Assumes nothing.
-use Prim.Native.Nat.{ℕ, _+_, _-_, _*_, _/_, _%_, _^_, _<_, _≤_, min, max}
+use Prim.Native.Nat.{ℕ, _+_, _-_, _*_, _/_, _%_, _<_, _≤_, min, max}
 use native.Mathlib.Omega.{arith}
 use native.Mathlib.Decide.{ℕ-discrete}
 use mathlib.Core.Path.{_≡_, refl, _∙_}
@@ -49,9 +49,6 @@ module _ (w row : ℕ) (low : row < 65536) where
 
   wide-greatest : greatest (widened w row) ≡ max (greatest w) row
   wide-greatest = omega arith
-
-  pub wide-small : widened w row < 2 ^ 32
-  wide-small = omega arith
 
 module _ (uses : List ℕ) (row i : ℕ) (inside : i < length uses) (low : row < 65536) where
   word : getD (with-use uses row i) i 0 ≡ widened (getD uses i 0) row
