@@ -1,22 +1,26 @@
-// Compares the evaluator with a separately written one on books at random: ends, calls, answers, justifications and rooms.
+// Compares reader and evaluator with a separately written evaluator on sheets at random: the words read, ends, calls, answers,
+// justifications and rooms. The other evaluator works on the words of the book that a sheet was written from.
 mod evidence;
 mod records;
 mod rooms;
+mod sheets;
+mod text;
 mod words;
 
 use evaluator::Run;
 use relation::Found;
 use relation::random;
 
-// What was seen: books; rules that call their own action first; books in which two actions call each other first; ends, calls
-// and answers. Then the books that differ.
+// What was seen: sheets; rules that call their own action first; sheets in which two actions call each other first; ends, calls
+// and answers. Then the sheets that differ.
 struct Tally {
-    books: u64,
+    sheets: u64,
     own: u64,
     mutual: u64,
     ends: u64,
     calls: u64,
     answers: u64,
+    bad_words: u64,
     bad_ends: u64,
     bad_calls: u64,
     bad_answers: u64,
@@ -30,12 +34,13 @@ fn sum(a: u64, b: u64) -> u64 {
 
 fn plus(a: Tally, b: Tally) -> Tally {
     Tally {
-        books: sum(a.books, b.books),
+        sheets: sum(a.sheets, b.sheets),
         own: sum(a.own, b.own),
         mutual: sum(a.mutual, b.mutual),
         ends: sum(a.ends, b.ends),
         calls: sum(a.calls, b.calls),
         answers: sum(a.answers, b.answers),
+        bad_words: sum(a.bad_words, b.bad_words),
         bad_ends: sum(a.bad_ends, b.bad_ends),
         bad_calls: sum(a.bad_calls, b.bad_calls),
         bad_answers: sum(a.bad_answers, b.bad_answers),
@@ -46,12 +51,13 @@ fn plus(a: Tally, b: Tally) -> Tally {
 
 fn none() -> Tally {
     Tally {
-        books: 0,
+        sheets: 0,
         own: 0,
         mutual: 0,
         ends: 0,
         calls: 0,
         answers: 0,
+        bad_words: 0,
         bad_ends: 0,
         bad_calls: 0,
         bad_answers: 0,
@@ -149,33 +155,31 @@ fn same_answers(
     records::same_answers(calls, run.calls, answers, m, rel, called, found.ends, start)
 }
 
-// Compares one book from one state.
+// Compares the sheet of one book from one state.
 fn compared(book: &[u16; 126], start: u64) -> Tally {
     let mut rel = [0u64; 32];
     let mut called = [0u64; 4];
     let found = relation::run(book, 6, start, &mut rel, &mut called);
+    let mut rules = [0u16; 108];
+    let read = sheets::read(book, start, &mut rules);
     let mut calls = [words::MARK; 80];
     let mut answers = [words::MARK; 5700];
     let mut ends = [words::MARK; 10];
-    let run = rooms::evaluate(book, start, &mut calls, &mut answers, &mut ends);
+    let run = rooms::evaluate(read, &rules, &mut calls, &mut answers, &mut ends);
+    let good_rooms = rooms::exact(read, &rules, run);
+    let good_words = sheets::as_written(book, start, read, &rules);
     let good_ends = same_ends(run, found.ends, &ends);
     let good_calls = same_calls(run, found, &calls, &called, start);
     let good_answers = same_answers(run, found, &calls, &answers, &rel, &called, start);
     let good_evidence = evidence::all_justified(book, &calls, run.calls, &answers, run.answers);
-    let good_rooms = rooms::exact(
-        book,
-        start,
-        run.calls as usize,
-        run.answers as usize,
-        run.ends as usize,
-    );
     Tally {
-        books: 1,
+        sheets: 1,
         own: own_first(book),
         mutual: mutual_first(book),
         ends: run.ends,
         calls: run.calls,
         answers: run.answers,
+        bad_words: failed(good_words),
         bad_ends: failed(good_ends),
         bad_calls: failed(good_calls),
         bad_answers: failed(good_answers),
@@ -193,11 +197,11 @@ fn random_book(seed: u64, book: &mut [u16; 126], bases: usize) -> u64 {
     random::next(x)
 }
 
-// Compares so many books. In turn they have no, one, two and three base rules.
-fn compare(books: u64, from: u64) -> Tally {
+// Compares so many sheets. In turn they have no, one, two and three base rules.
+fn compare(sheets: u64, from: u64) -> Tally {
     let mut tally = none();
     let mut seed = from;
-    for k in 0..books {
+    for k in 0..sheets {
         let mut book = [0u16; 126];
         seed = random_book(seed, &mut book, (k % 4) as usize);
         tally = plus(tally, compared(&book, random::pick(seed, 8) % 8));
@@ -213,20 +217,21 @@ fn line(name: &[u8], n: u64) {
 }
 
 fn print_seen(t: Tally) {
-    line(b"books", t.books);
+    line(b"sheets", t.sheets);
     line(b"rules that call themselves first", t.own);
-    line(b"books with mutual recursion first", t.mutual);
+    line(b"sheets with mutual recursion first", t.mutual);
     line(b"ends", t.ends);
     line(b"calls", t.calls);
     line(b"answers", t.answers);
 }
 
 fn print_differences(t: Tally) {
-    line(b"books that differ in ends", t.bad_ends);
-    line(b"books that differ in calls", t.bad_calls);
-    line(b"books that differ in answers", t.bad_answers);
-    line(b"books with an answer not justified", t.bad_evidence);
-    line(b"books refused in wrong rooms", t.bad_rooms);
+    line(b"sheets not read as written", t.bad_words);
+    line(b"sheets that differ in ends", t.bad_ends);
+    line(b"sheets that differ in calls", t.bad_calls);
+    line(b"sheets that differ in answers", t.bad_answers);
+    line(b"sheets with an answer not justified", t.bad_evidence);
+    line(b"sheets refused in wrong rooms", t.bad_rooms);
 }
 
 fn main() {

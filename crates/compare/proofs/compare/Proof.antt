@@ -5,10 +5,10 @@ use Rattle.compare.proofs.compare.Statement.{statement}
 use Rattle.compare.proofs.compare.Tie as tie
 
 abbrev Inv-loop : tie.InvT-loop
-Inv-loop books from tally₀ seed₀ k₀ tally seed k = k ≤ books
+Inv-loop sheets from tally₀ seed₀ k₀ tally seed k = k ≤ sheets
 
 abbrev μ-loop : tie.MeasureT-loop
-μ-loop books from tally₀ seed₀ k₀ tally seed k = books - k
+μ-loop sheets from tally₀ seed₀ k₀ tally seed k = sheets - k
 
 none-requires : tie.Need-none-requires Inv-loop μ-loop
 none-requires c κs = search needs

@@ -1,0 +1,81 @@
+-- `put_start` meets its contract.
+use mathlib.Core.Path.{_≡_}
+use mathlib.Core.Logic.{⊎-elim}
+use Prim.Native.Nat.{_≤_, _-_}
+use lib.ListN.{length}
+use borrow.Author.Needs.{needs}
+use Rattle.compare.proofs.text.put_start.Statement.{statement}
+use Rattle.compare.proofs.text.put_start.Tie as tie
+
+abbrev Inv-loop : tie.InvT-loop
+Inv-loop text₀ from start at₀ k₀ t7 text at k = (k ≤ 3) × (length text ≡ length text₀)
+
+abbrev μ-loop : tie.MeasureT-loop
+μ-loop text₀ from start at₀ k₀ t7 text at k = 3 - k
+
+slice-aggregate-put : tie.Need-slice-aggregate-put Inv-loop μ-loop
+slice-aggregate-put c = search needs
+
+put-requires : tie.Need-put-requires Inv-loop μ-loop
+put-requires c κs = search needs
+
+loop-holds : tie.Need-loop-holds Inv-loop μ-loop
+loop-holds c = search needs
+
+cast-has : tie.Need-cast-has Inv-loop μ-loop
+cast-has c = search needs
+
+has-requires : tie.Need-has-requires Inv-loop μ-loop
+has-requires c κs = search needs
+
+fluent-requires : tie.Need-fluent-requires Inv-loop μ-loop
+fluent-requires c κs = search needs
+
+slice-aggregate-put-2 : tie.Need-slice-aggregate-put-2 Inv-loop μ-loop
+slice-aggregate-put-2 c = search needs
+
+put-requires-2 : tie.Need-put-requires-2 Inv-loop μ-loop
+put-requires-2 c κs = search needs
+
+add-k : tie.Need-add-k Inv-loop μ-loop
+add-k c = search needs
+
+loop-less : tie.Need-loop-less Inv-loop μ-loop
+loop-less c = search needs
+
+loop-again : tie.Need-loop-again Inv-loop μ-loop
+loop-again c = ⊎-elim (λ w. search needs) (λ w. search needs) (c .if1 .came)
+
+slice-aggregate-put-3 : tie.Need-slice-aggregate-put-3 Inv-loop μ-loop
+slice-aggregate-put-3 c = search needs
+
+put-requires-3 : tie.Need-put-requires-3 Inv-loop μ-loop
+put-requires-3 c κs = search needs
+
+same-length : tie.Need-same-length Inv-loop μ-loop
+same-length c = search needs
+
+returns : tie.Need-returns Inv-loop μ-loop
+returns c = search needs
+
+pub put-start-spec : {M : Type 1} → statement M
+put-start-spec =
+    tie.close
+    (tie.spec
+    Inv-loop
+    μ-loop
+    slice-aggregate-put
+    put-requires
+    loop-holds
+    cast-has
+    has-requires
+    fluent-requires
+    slice-aggregate-put-2
+    put-requires-2
+    add-k
+    loop-less
+    loop-again
+    slice-aggregate-put-3
+    put-requires-3
+    same-length
+    returns)
