@@ -54,31 +54,13 @@ fn wide(word: u16) -> u64 {
     word as u64
 }
 
-// The same place among words of 16 bits.
-fn short_run_of(words: &[u16], from: usize) -> usize
-    requires { ⌜ from < length (now words) ⌝ }
-    ensures { λ r. ⌜ (from < r) × (r ≤ length (now (words .entry))) ⌝ }
-{
-    let mut i = from + 1;
-    while i < words.len() {
-        if words[i] != words[from] {
-            return i;
-        }
-        i += 1;
+// The words of a buffer of 40, of 16 bits each.
+pub fn short_buffer(name: &[u8], words: &[u16; 40]) {
+    let mut wider = [0u64; 40];
+    for k in 0..40usize {
+        wider[k] = wide(words[k]);
     }
-    i
-}
-
-// The words of a buffer of 16 bits each.
-pub fn short_buffer(name: &[u8], words: &[u16]) {
-    text(b"\t");
-    text(name);
-    let mut i: usize = 0;
-    while i < words.len() {
-        let end = short_run_of(words, i);
-        times(wide(words[i]), (end - i) as u64);
-        i = end;
-    }
+    buffer(name, &wider);
 }
 
 // The 16 words of a goal.

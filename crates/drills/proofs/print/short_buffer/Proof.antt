@@ -1,4 +1,5 @@
 -- `short_buffer` meets its contract.
+use mathlib.Core.Path.{_≡_}
 use Prim.Native.Nat.{_≤_, _-_}
 use lib.ListN.{length}
 use borrow.Author.Needs.{needs}
@@ -6,46 +7,43 @@ use Rattle.drills.proofs.print.short_buffer.Statement.{statement}
 use Rattle.drills.proofs.print.short_buffer.Tie as tie
 
 abbrev Inv-loop : tie.InvT-loop
-Inv-loop name words i₀ i = i ≤ length words
+Inv-loop name words wider₀ k₀ wider k = (k ≤ 40) × (length wider ≡ 40)
 
 abbrev μ-loop : tie.MeasureT-loop
-μ-loop name words i₀ i = length words - i
-
-slice-aggregate-text : tie.Need-slice-aggregate-text Inv-loop μ-loop
-slice-aggregate-text c = search needs
-
-text-requires : tie.Need-text-requires Inv-loop μ-loop
-text-requires c κs = search needs
-
-text-requires-2 : tie.Need-text-requires-2 Inv-loop μ-loop
-text-requires-2 c κs = search needs
+μ-loop name words wider₀ k₀ wider k = 40 - k
 
 loop-holds : tie.Need-loop-holds Inv-loop μ-loop
 loop-holds c = search needs
 
-short-run-of-requires : tie.Need-short-run-of-requires Inv-loop μ-loop
-short-run-of-requires c κs = search needs
-
 mul-wide : tie.Need-mul-wide Inv-loop μ-loop
 mul-wide c = search needs
 
-shared-slice-read-wide : tie.Need-shared-slice-read-wide Inv-loop μ-loop
-shared-slice-read-wide c = search needs
+element-copy-out-wide : tie.Need-element-copy-out-wide Inv-loop μ-loop
+element-copy-out-wide c = search needs
 
 wide-requires : tie.Need-wide-requires Inv-loop μ-loop
 wide-requires c κs = search needs
 
-sub-times : tie.Need-sub-times Inv-loop μ-loop
-sub-times c = search needs
+mul-wider : tie.Need-mul-wider Inv-loop μ-loop
+mul-wider c = search needs
 
-times-requires : tie.Need-times-requires Inv-loop μ-loop
-times-requires c κs = search needs
+array-write-wider : tie.Need-array-write-wider Inv-loop μ-loop
+array-write-wider c = search needs
+
+add-k : tie.Need-add-k Inv-loop μ-loop
+add-k c = search needs
 
 loop-less : tie.Need-loop-less Inv-loop μ-loop
 loop-less c = search needs
 
 loop-again : tie.Need-loop-again Inv-loop μ-loop
 loop-again c = search needs
+
+slice-aggregate-buffer : tie.Need-slice-aggregate-buffer Inv-loop μ-loop
+slice-aggregate-buffer c = search needs
+
+buffer-requires : tie.Need-buffer-requires Inv-loop μ-loop
+buffer-requires c κs = search needs
 
 returns : tie.Need-returns Inv-loop μ-loop
 returns c = search needs
@@ -56,16 +54,15 @@ short-buffer-spec =
     (tie.spec
     Inv-loop
     μ-loop
-    slice-aggregate-text
-    text-requires
-    text-requires-2
     loop-holds
-    short-run-of-requires
     mul-wide
-    shared-slice-read-wide
+    element-copy-out-wide
     wide-requires
-    sub-times
-    times-requires
+    mul-wider
+    array-write-wider
+    add-k
     loop-less
     loop-again
+    slice-aggregate-buffer
+    buffer-requires
     returns)
