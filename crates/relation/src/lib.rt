@@ -69,48 +69,6 @@ fn step_set(word: u16, set: u64, rel: &[u64; 32]) -> u64 {
     out
 }
 
-// The final states of a body from one state.
-fn body_set(words: &[u16; 126], rule: usize, s: u64, rel: &[u64; 32]) -> u64 {
-    let count = word_at(words, rule, 1);
-    let mut set = single(s);
-    let mut k: u16 = 0;
-    while k < count {
-        set = step_set(word_at(words, rule, (k % 16) as usize + 2), set, rel);
-        k += 1;
-    }
-    set
-}
-
-// Adds the final states of one rule from one state to its action's relation. Says whether it grew.
-fn add_rule(words: &[u16; 126], rule: usize, s: u64, rel: &mut [u64; 32]) -> bool {
-    let more = body_set(words, rule, s, rel);
-    let at = place(word_at(words, rule, 0) as u64, s);
-    let old = rel[at];
-    rel[at] = old | more;
-    old | more != old
-}
-
-// One round over all rules and states.
-fn round(words: &[u16; 126], rules: usize, rel: &mut [u64; 32]) -> bool {
-    let mut grew = false;
-    for rule in 0..rules {
-        for s in 0..8 {
-            if add_rule(words, rule, s, rel) {
-                grew = true;
-            }
-        }
-    }
-    grew
-}
-
-// Rounds until nothing is added: at most 32 sets of 8 states grow.
-fn solve(words: &[u16; 126], rules: usize, rel: &mut [u64; 32]) {
-    let mut rounds: u64 = 0;
-    while rounds < 300 && round(words, rules, rel) {
-        rounds += 1;
-    }
-}
-
 // Notes that an action is called in a set of states. Says whether one of them is new.
 fn add_calls(called: &mut [u64; 4], action: u16, set: u64) -> bool {
     let at = (action % 4) as usize;
@@ -119,21 +77,28 @@ fn add_calls(called: &mut [u64; 4], action: u16, set: u64) -> bool {
     old | set != old
 }
 
-// Notes the calls that a body comes to from one state. Says whether one is new.
-fn note_body(
+// What a walk of a body gives: its final states, and whether a call was new.
+struct Walked {
+    set: u64,
+    grew: bool,
+}
+
+// Walks a body from one state, and notes the calls that it comes to if it is reached from the goal.
+fn walk(
     words: &[u16; 126],
     rule: usize,
     s: u64,
     rel: &[u64; 32],
     called: &mut [u64; 4],
-) -> bool {
+    reached: bool,
+) -> Walked {
     let count = word_at(words, rule, 1);
     let mut set = single(s);
     let mut grew = false;
     let mut k: u16 = 0;
     while k < count {
         let word = word_at(words, rule, (k % 16) as usize + 2);
-        if word / 256 == 3 {
+        if reached && word / 256 == 3 {
             if add_calls(called, word % 256, set) {
                 grew = true;
             }
@@ -141,30 +106,33 @@ fn note_body(
         set = step_set(word, set, rel);
         k += 1;
     }
-    grew
+    Walked { set, grew }
 }
 
-// Notes the calls of a rule's body from one state, if its head is called there.
-fn note_rule(
+// Adds the final states of one rule from one state to its action's relation; it is reached if its head is called there. Says
+// whether anything is new.
+fn add_rule(
     words: &[u16; 126],
     rule: usize,
     s: u64,
-    rel: &[u64; 32],
+    rel: &mut [u64; 32],
     called: &mut [u64; 4],
 ) -> bool {
-    let head = (word_at(words, rule, 0) % 4) as usize;
-    if has(called[head], s) {
-        return note_body(words, rule, s, rel, called);
-    }
-    false
+    let head = word_at(words, rule, 0);
+    let reached = has(called[(head % 4) as usize], s);
+    let more = walk(words, rule, s, rel, called, reached);
+    let at = place(head as u64, s);
+    let old = rel[at];
+    rel[at] = old | more.set;
+    more.grew || old | more.set != old
 }
 
-// One round of calls over all rules and states.
-fn call_round(words: &[u16; 126], rules: usize, rel: &[u64; 32], called: &mut [u64; 4]) -> bool {
+// One round over all rules and states.
+fn round(words: &[u16; 126], rules: usize, rel: &mut [u64; 32], called: &mut [u64; 4]) -> bool {
     let mut grew = false;
     for rule in 0..rules {
         for s in 0..8 {
-            if note_rule(words, rule, s, rel, called) {
+            if add_rule(words, rule, s, rel, called) {
                 grew = true;
             }
         }
@@ -172,11 +140,10 @@ fn call_round(words: &[u16; 126], rules: usize, rel: &[u64; 32], called: &mut [u
     grew
 }
 
-// All calls that the goal comes to from a state.
-fn all_calls(words: &[u16; 126], rules: usize, start: u64, rel: &[u64; 32], called: &mut [u64; 4]) {
-    note_body(words, 6, start, rel, called);
+// Rounds until nothing is added: the 32 sets of final states and the 4 of calls have at most 288 states to gain.
+fn solve(words: &[u16; 126], rules: usize, rel: &mut [u64; 32], called: &mut [u64; 4]) {
     let mut rounds: u64 = 0;
-    while rounds < 40 && call_round(words, rules, rel, called) {
+    while rounds < 300 && round(words, rules, rel, called) {
         rounds += 1;
     }
 }
@@ -208,7 +175,8 @@ pub struct Found {
     pub answers: u64,
 }
 
-// Runs the goal from a state below 8: the relations of all actions, and the states in which each is called.
+// Runs the goal from a state below 8, over tables of zeros: the relations of all actions, and the states in which each is
+// called. While nothing is called only the relations grow; after the goal's walk they are whole and only the calls do.
 pub fn run(
     words: &[u16; 126],
     rules: usize,
@@ -216,9 +184,10 @@ pub fn run(
     rel: &mut [u64; 32],
     called: &mut [u64; 4],
 ) -> Found {
-    solve(words, rules, rel);
-    all_calls(words, rules, start, rel, called);
-    let ends = body_set(words, 6, start, rel);
+    solve(words, rules, rel, called);
+    let goal = walk(words, 6, start, rel, called, true);
+    solve(words, rules, rel, called);
+    let ends = goal.set;
     let mut calls: u64 = 1;
     let mut answers = ones(ends);
     for a in 0..4u64 {
