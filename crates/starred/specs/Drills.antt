@@ -6,10 +6,11 @@ use mathlib.Core.Logic.{_↔_}
 use lib.ListN.{length, replicate}
 use Rattle.steps.specs.State.{State}
 use Rattle.steps.specs.Step.{Step, query, insert, delete, call, Body}
-use Rattle.steps.specs.Run.{Run, Goal, Call, Answer, End}
+use Rattle.steps.specs.Run.{Run, Goal, End}
 use Rattle.steps.specs.Counting.{Counts, Rising}
 use Rattle.steps.specs.Words.{run-of}
 use Rattle.steps.specs.Acceptance.{Accepted}
+use Rattle.evaluator.specs.Full.{Calls, Answers}
 use Rattle.evaluator.specs.Finished.{Finished}
 use Rattle.path.specs.Outcome.{Lent, call-records, answer-records, fault, refusal-of, count-of, list-after}
 
@@ -53,8 +54,8 @@ lent d p = record {
   answer-count = d .answers;
 }
 
--- What a path of a row says: its tables are those of the row's finished run and, with the record asked for, meet none of 20 to 23 and 40 to
--- 42; that record is an answer of the goal at the start; and this is the result of its path.
+-- What a path of a row says: its tables are those of a finished run of the row; what is lent meets none of 20 to 23 and 40 to 42; the record
+-- asked for is an answer of the goal at the start; and this is the result of its path.
 pub record Shows (d : Drill) (p : Shown) : Type 0 where
   pub finished : Finished (d .rules) (d .goal) (d .start) (p .calls) (p .answers) (d .calls) (d .answers)
   pub sound : fault (lent d p) (p .asked) ≡ 0
@@ -69,8 +70,8 @@ pub record Holds (d : Drill) : Type 0 where
   pub accepted : Accepted (d .fluents) (d .actions) (d .rules) (d .goal) (d .start)
   pub rising : Rising (d .ends)
   pub ends : (D : State) → List·Memᴰ D (d .ends) ↔ End (run d) D
-  pub calls : Counts (λ (c : ℕ × State). Call (run d) (c .0) (c .1)) (d .calls)
-  pub answers : Counts (λ (c : ℕ × State × State). Answer (run d) (c .0) (c .1) (c .2)) (d .answers)
+  pub calls : Counts (Calls (run d)) (d .calls)
+  pub answers : Counts (Answers (run d)) (d .answers)
   pub paths : (p : Shown) → List·Memᴰ p (d .paths) → Shows d p
 
 -- ---- steps and rules in their words
