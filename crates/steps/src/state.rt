@@ -68,20 +68,13 @@ impl Call {
     // The number under which the goal stands in the tables.
     pub const GOAL: u64 = 64;
 
-    // The call of an action in the state that a 64-bit word stands for.
-    pub fn of(action: u64, word: u64) -> Call
-        ensures { λ r. ⌜ (r .action ≡ action) × (r .state .0 ≡ word) ⌝ }
-    {
-        Call {
-            action: action,
-            state: State::of(word),
-        }
-    }
-
     // The goal's call in the state that a 64-bit word stands for.
     pub fn goal(word: u64) -> Call
         ensures { λ r. ⌜ (r .action ≡ Goal) × (r .state .0 ≡ word) ⌝ }
     {
-        Call::of(Call::GOAL, word)
+        Call {
+            action: Call::GOAL,
+            state: State::of(word),
+        }
     }
 }

@@ -6,7 +6,7 @@ ghost use Rattle.steps.specs.Elementary.{elementary};
 ghost use Rattle.steps.specs.Next.{onward};
 
 // The kind of a step word: 0 query, 1 insert, 2 delete, 3 call.
-pub fn kind(word: u16) -> u64
+pub(crate) fn kind(word: u16) -> u64
     ensures { λ r. ⌜ r ≡ kind-of word ⌝ }
 {
     (word / 256) as u64
