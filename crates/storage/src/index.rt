@@ -1,4 +1,4 @@
-// Indexes of the two tables, by which records are found without a look at each of them. In the code the parts of an index stand here.
+// Indexes of the two tables, by which records are found without a look at each of them. No other code knows the parts of an index.
 //
 // A record's bucket comes from its first two words. A head is the latest record of a bucket, a link the one before it of the same bucket. The
 // index of the answers also holds the first and the last answer of each call record, and from each answer the next of the same call record.

@@ -1,4 +1,5 @@
-// The words of the two tables: reading and writing records. In the evaluator's code widths and offsets of the records stand here.
+// The words of the two tables: reading and writing records. The evaluator's code has their widths and offsets here; an index
+// knows only that the first two words of a record are its key.
 use steps::state::Call;
 use steps::state::State;
 ghost use mathlib.Core.Path.{_≡_};

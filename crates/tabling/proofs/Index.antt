@@ -25,9 +25,29 @@ bucket-small a s = omega arith
 
 -- ---- records by their keys
 
+-- Of each key that some record has, the latest record.
+abbrev pub Latest : (ℕ → ℕ) → ℕ → (ℕ → ℕ) → Type 0
+Latest key n latest = (k j : ℕ) → k < 65536 → j < n → key j ≡ k → (latest k < n) × (key (latest k) ≡ k) × (j ≤ latest k)
+
+-- A record more of key k is the latest of it.
+module _ (key key′ latest latest′ : ℕ → ℕ) (n k : ℕ) where
+  latest-more : Latest key n latest → ((i : ℕ) → i < n → key′ i ≡ key i) → key′ n ≡ k → latest′ k ≡ n → ((i : ℕ) → i < 65536 → i ≢ k → latest′ i ≡ latest i) → Latest key′ (n + 1) latest′
+  latest-more c kept new top latest-kept h j s l e = by (ℕ-discrete h k)
+    where
+      by : Dec (h ≡ k) → (latest′ h < n + 1) × (key′ (latest′ h) ≡ h) × (j ≤ latest′ h)
+      by (yes z) =
+          let t : latest′ h ≡ n = rw z top in
+          rw t (omega arith, new ∙ sym z, omega arith)
+      by (no d) =
+          let other : j ≢ n = λ z. d (sym e ∙ rw z new) in
+          let m : j < n = omega arith in
+          let t = latest-kept h s d in
+          let (a, b, g) = c h j s m (sym (kept j m) ∙ e) in
+          (omega arith, ap key′ t ∙ kept (latest h) a ∙ b, omega arith)
+
 -- From a key's head the links lead to all records of that key, the latest first.
 pub record Covers (key : ℕ → ℕ) (n : ℕ) (heads links : ℕ → ℕ) : Type 0 where
-  pub head : (k j : ℕ) → k < 65536 → j < n → key j ≡ k → (heads k < n) × (key (heads k) ≡ k) × (j ≤ heads k)
+  pub head : Latest key n heads
   pub link : (i j : ℕ) → i < n → j < i → key j ≡ key i → (links i < i) × (key (links i) ≡ key i) × (j ≤ links i)
 
 pub covers-none : (key : ℕ → ℕ) (n : ℕ) (heads links : ℕ → ℕ) → n ≡ 0 → Covers key n heads links
@@ -38,18 +58,8 @@ module _ (key key′ heads heads′ links links′ : ℕ → ℕ) (n k : ℕ) wh
   pub covers-more : Covers key n heads links → ((i : ℕ) → i < n → key′ i ≡ key i) → key′ n ≡ k → k < 65536
       → heads′ k ≡ n → ((i : ℕ) → i < 65536 → i ≢ k → heads′ i ≡ heads i)
       → links′ n ≡ heads k → ((i : ℕ) → i < n → links′ i ≡ links i) → Covers key′ (n + 1) heads′ links′
-  covers-more c kept new small top heads-kept before links-kept = record { head = λ h j s l e. by-head h j s l e (ℕ-discrete h k); link = λ i j l b e. by-link i j l b e (ℕ-discrete i n) }
+  covers-more c kept new small top heads-kept before links-kept = record { head = latest-more key key′ heads heads′ n k (c .head) kept new top heads-kept; link = λ i j l b e. by-link i j l b e (ℕ-discrete i n) }
     where
-      by-head : (h j : ℕ) → h < 65536 → j < n + 1 → key′ j ≡ h → Dec (h ≡ k) → (heads′ h < n + 1) × (key′ (heads′ h) ≡ h) × (j ≤ heads′ h)
-      by-head h j s l e (yes z) =
-          let t : heads′ h ≡ n = rw z top in
-          rw t (omega arith, new ∙ sym z, omega arith)
-      by-head h j s l e (no d) =
-          let other : j ≢ n = λ z. d (sym e ∙ rw z new) in
-          let m : j < n = omega arith in
-          let (a, b, g) = c .head h j s m (sym (kept j m) ∙ e) in
-          (omega (arith, heads-kept h s d), ap key′ (heads-kept h s d) ∙ kept (heads h) a ∙ b, omega (arith, heads-kept h s d))
-
       by-link : (i j : ℕ) → i < n + 1 → j < i → key′ j ≡ key′ i → Dec (i ≡ n) → (links′ i < i) × (key′ (links′ i) ≡ key′ i) × (j ≤ links′ i)
       by-link i j l b e (yes z) =
           let t : links′ i ≡ heads k = rw z before in
@@ -67,7 +77,7 @@ module _ (key key′ heads heads′ links links′ : ℕ → ℕ) (n k : ℕ) wh
 
 pub record Queued (call : ℕ → ℕ) (m : ℕ) (firsts lasts nexts : ℕ → ℕ) : Type 0 where
   pub first : (row y : ℕ) → row < 65536 → y < m → call y ≡ row → (firsts row < m) × (call (firsts row) ≡ row) × (firsts row ≤ y)
-  pub last : (row y : ℕ) → row < 65536 → y < m → call y ≡ row → (lasts row < m) × (call (lasts row) ≡ row) × (y ≤ lasts row)
+  pub last : Latest call m lasts
   pub next : (x y : ℕ) → x < y → y < m → call y ≡ call x → (x < nexts x) × (nexts x < m) × (call (nexts x) ≡ call x) × (nexts x ≤ y)
 
 pub queued-none : (call : ℕ → ℕ) (m : ℕ) (firsts lasts nexts : ℕ → ℕ) → m ≡ 0 → Queued call m firsts lasts nexts
@@ -77,16 +87,8 @@ queued-none call m firsts lasts nexts e = record { first = λ r y s l. absurd (o
 module _ (call call′ firsts firsts′ lasts lasts′ nexts nexts′ : ℕ → ℕ) (m row : ℕ) (q : Queued call m firsts lasts nexts)
     (kept : (y : ℕ) → y < m → call′ y ≡ call y) (new : call′ m ≡ row) (small : row < 65536)
     (end : lasts′ row ≡ m) (lasts-kept : (r : ℕ) → r < 65536 → r ≢ row → lasts′ r ≡ lasts r) where
-  last-more : (r y : ℕ) → r < 65536 → y < m + 1 → call′ y ≡ r → Dec (r ≡ row) → (lasts′ r < m + 1) × (call′ (lasts′ r) ≡ r) × (y ≤ lasts′ r)
-  last-more r y s l e (yes z) =
-      let t : lasts′ r ≡ m = rw z end in
-      rw t (omega arith, new ∙ sym z, omega arith)
-  last-more r y s l e (no d) =
-      let other : y ≢ m = λ z. d (sym e ∙ rw z new) in
-      let b : y < m = omega arith in
-      let t = lasts-kept r s d in
-      let (a, f, g) = q .last r y s b (sym (kept y b) ∙ e) in
-      (omega arith, ap call′ t ∙ kept (lasts r) a ∙ f, omega arith)
+  last-more : Latest call′ (m + 1) lasts′
+  last-more = latest-more call call′ lasts lasts′ m row (q .last) kept new end lasts-kept
 
   module _ (held : lasts row < m) (of-row : call (lasts row) ≡ row) (firsts-kept : (r : ℕ) → r < 65536 → firsts′ r ≡ firsts r)
       (joined : nexts′ (lasts row) ≡ m) (nexts-kept : (x : ℕ) → x < m → x ≢ lasts row → nexts′ x ≡ nexts x) where
@@ -105,7 +107,7 @@ module _ (call call′ firsts firsts′ lasts lasts′ nexts nexts′ : ℕ → 
     pub queued-behind : Queued call′ (m + 1) firsts′ lasts′ nexts′
     queued-behind = record {
       first = λ r y s l e. first-behind r y s l e (ℕ-discrete y m);
-      last = λ r y s l e. last-more r y s l e (ℕ-discrete r row);
+      last = last-more;
       next = λ x y b l e. next-behind x y b l e (ℕ-discrete y m) (ℕ-discrete x (lasts row));
     }
       where
@@ -155,7 +157,7 @@ module _ (call call′ firsts firsts′ lasts lasts′ nexts nexts′ : ℕ → 
     pub queued-alone : Queued call′ (m + 1) firsts′ lasts′ nexts′
     queued-alone = record {
       first = λ r y s l e. first-alone r y s l e (ℕ-discrete r row);
-      last = λ r y s l e. last-more r y s l e (ℕ-discrete r row);
+      last = last-more;
       next = λ x y b l e. next-alone x y b l e (ℕ-discrete y m);
     }
       where
@@ -256,7 +258,7 @@ module _ (answers : Answers) (m known : ℕ) (firsts lasts nexts : ℕ → ℕ) 
 -- The index of a table of calls: 65,536 heads, then 65,536 links.
 pub record CallIndex (calls : Calls) (index : List ℕ) : Type 0 where
   pub long : length index ≡ 131072
-  pub covers : Covers (λ i. bucket (calls .action i) (calls .state i)) (calls .count) (λ k. getD index k 0) (λ i. getD index (65536 + i) 0)
+  pub covers : Keyed calls index
 
 -- The index of a table of answers: heads, links, firsts, lasts and nexts, 65,536 of each.
 pub record AnswerIndex (answers : Answers) (index : List ℕ) : Type 0 where
