@@ -1,4 +1,5 @@
-// Drills D11 to D13, the path of D9, and each refusal from 10 to 43, with what every buffer holds afterwards.
+// Drills D11 to D13, a goal cut in two, the path of D9, and each refusal from 10 to 43, with what every buffer holds afterwards.
+mod cuts;
 mod paths;
 mod print;
 mod runs;
@@ -7,5 +8,6 @@ mod sheets;
 fn main() {
     sheets::all();
     runs::all();
+    cuts::all();
     paths::all();
 }

@@ -24,14 +24,20 @@ fn shown<'a>(
     print::text(b"\n");
 }
 
-// Drill D2, g: `!g ?a +b`; g: `+a`, in these rooms, at most 3, 5 and 3.
-fn in_rooms(name: &[u8], n: usize, m: usize, e: usize) {
+// The book of drill D2, g: `!g ?a +b`; g: `+a`.
+pub fn book() -> [u16; 36] {
     let mut rules = [0u16; 36];
     rules[1] = 3;
     rules[2] = 768;
     rules[4] = 257;
     rules[19] = 1;
     rules[20] = 256;
+    rules
+}
+
+// Drill D2 in these rooms, at most 3, 5 and 3.
+fn in_rooms(name: &[u8], n: usize, m: usize, e: usize) {
+    let rules = book();
     let mut calls = [7u64; 6];
     let mut answers = [7u64; 95];
     let mut ends = [7u64; 3];
