@@ -1,6 +1,4 @@
 -- Laws of the definitions, for this crate's proofs and those of the crates above.
-pub mod Table
-pub mod ByteKinds
 pub mod Pieces
 pub mod Ends
 pub mod Fields

@@ -1,43 +1,44 @@
-// Bytes of a sheet: kinds, names, lines and fields.
+// Bytes of a sheet: which may stand where, names, lines and fields.
 ghost use mathlib.Core.Path.{_≡_};
 ghost use Prim.Native.Nat.{_≤_, _<_};
 ghost use lib.ListN.{length};
 ghost use lib.Seq.{slice};
-ghost use Rattle.chars.specs.Bytes.{all, sheetByte, isName};
+ghost use Rattle.chars.specs.Bytes.{all, sheetByte, lower, nameByte, isName};
 ghost use Rattle.chars.specs.Places.{same};
-ghost use Rattle.chars.specs.Inner.{byteKind, KindTable, LineEnd, FieldEnd};
+ghost use Rattle.chars.specs.Inner.{LineEnd, FieldEnd};
 
-// The kind of each byte: `a` lowercase letter, `0` digit or underscore, `!` any other byte of a sheet, `.` no byte of a sheet.
-const KINDS: [u8; 256] =
-    *b".........!!......................!!!!!!!!!!!!!!!0000000000!!!!!!!!!!!!!!!!!!!!!!!!!!!!!!!!!!!!!0!aaaaaaaaaaaaaaaaaaaaaaaaaa!!!!.................................................................................................................................";
-
-const LETTER: u8 = b'a';
-
-const DIGIT: u8 = b'0';
-
-const NONE: u8 = b'.';
-
-// The kind of a byte in the table of kinds.
-fn kind(table: &[u8; 256], b: u8) -> u8
-    requires { ⌜ KindTable (now table) ⌝ }
-    ensures { λ r. ⌜ r ≡ byteKind b ⌝ }
+// Whether a byte may stand in a sheet: TAB, LF or 33 to 126.
+fn in_sheet(b: u8) -> bool
+    ensures { λ r. ⌜ r ≡ sheetByte b ⌝ }
 {
-    table[b as usize]
+    (b == b'\t') | (b == b'\n') | ((33 <= b) & (b <= 126))
 }
 
-// Whether all bytes may stand in a sheet.
+// Whether a byte is a lowercase letter.
+fn is_lower(b: u8) -> bool
+    ensures { λ r. ⌜ r ≡ lower b ⌝ }
+{
+    (97 <= b) & (b <= 122)
+}
+
+// Whether a byte may stand in a name after its first: a lowercase letter, a digit or `_`.
+fn in_name(b: u8) -> bool
+    ensures { λ r. ⌜ r ≡ nameByte b ⌝ }
+{
+    is_lower(b) | ((48 <= b) & (b <= 57)) | (b == b'_')
+}
+
+// Whether all bytes may stand in a sheet. All are looked at, whatever the first are: the compiler then tests many at once.
 pub fn is_clean(s: &[u8]) -> bool
     ensures { λ r. ⌜ r ≡ all sheetByte (now (s .entry)) ⌝ }
 {
-    let table = KINDS;
+    let mut clean = true;
     let mut i = 0;
     while i < s.len() {
-        if kind(&table, s[i]) == NONE {
-            return false;
-        }
+        clean = clean & in_sheet(s[i]);
         i += 1;
     }
-    true
+    clean
 }
 
 // Whether the bytes from `from` up to, not including, `to` are a name.
@@ -51,17 +52,13 @@ pub fn is_name(s: &[u8], from: usize, to: usize) -> bool
     if 16 < to - from {
         return false;
     }
-    let table = KINDS;
-    if kind(&table, s[from]) != LETTER {
+    if !is_lower(s[from]) {
         return false;
     }
     let mut i = from + 1;
     while i < to {
-        let k = kind(&table, s[i]);
-        if k != LETTER {
-            if k != DIGIT {
-                return false;
-            }
+        if !in_name(s[i]) {
+            return false;
         }
         i += 1;
     }

@@ -94,8 +94,44 @@ fn long_names() {
     );
 }
 
+// A sheet of one line, of this byte alone.
+fn one_byte(name: &[u8], byte: u8) {
+    drill(name, &[byte, b'\n']);
+}
+
+fn low_bytes() {
+    one_byte(b"11 byte 8", 8);
+    one_byte(b"11 byte 11", 11);
+    one_byte(b"11 byte 13", 13);
+    one_byte(b"11 byte 31", 31);
+    one_byte(b"11 byte 32", 32);
+}
+
+fn high_bytes() {
+    one_byte(b"11 byte 127", 127);
+    one_byte(b"11 byte 128", 128);
+    one_byte(b"11 byte 255", 255);
+    one_byte(b"13 byte 33, the lowest but TAB and LF", 33);
+    one_byte(b"13 byte 126, the highest", 126);
+}
+
+// A name with the first and the last letter and digit, and names with the bytes next to them.
+fn kinds_of_bytes() {
+    drill(
+        b"read, name of each kind of byte",
+        b"fluent\taz09_z\nstart\ngoal\n",
+    );
+    drill(b"14 a backquote", b"fluent\ta`\n");
+    drill(b"14 a brace", b"fluent\ta{\n");
+    drill(b"14 a slash", b"fluent\ta/\n");
+    drill(b"14 a colon", b"fluent\ta:\n");
+}
+
 pub fn all() {
     whole_sheets();
+    low_bytes();
+    high_bytes();
+    kinds_of_bytes();
     first_fields();
     bad_fields();
     bad_names();
