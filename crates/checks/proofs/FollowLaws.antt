@@ -1,38 +1,37 @@
 -- Where a step word of a record leads, by its kind; one step of a walk. Assumes nothing.
-use Prim.Native.Nat.{ℕ, zero, suc, _+_, _-_, _/_, _%_, _<_, _≤_}
-use native.Mathlib.Omega.{arith}
+use Prim.Native.Nat.{ℕ, suc, _+_, _-_, _%_, _<_, _≤_}
 use native.Mathlib.Numerals.{add-one}
 use mathlib.Core.Path.{_≡_, refl, subst}
-use mathlib.Core.Bool.{Bool, false, cond, _&&_}
+use mathlib.Core.Bool.{Bool, true, false, cond, _&&_}
 use mathlib.Core.List.{List, _∷_}
 use lib.ListN.{length, getD, drop, drop-of-length-le}
 use lib.Seq.{drop-cons}
 use lib.Dec.{eqb, ltb}
 use Rattle.steps.specs.State.{State}
-use Rattle.steps.specs.Step.{Step, Body}
-use Rattle.steps.specs.Words.{step-by, step-of, body-of}
+use Rattle.steps.specs.Step.{Step, query, insert, delete, call, Body}
+use Rattle.steps.specs.Words.{step-of, body-of, is-call}
 use Rattle.steps.specs.Acceptance.{each-below}
 use Rattle.steps.specs.Elementary.{Onward, on, stuck, elementary}
-use Rattle.steps.proofs.WordLaws.{call-word}
+use Rattle.steps.proofs.WordLaws.{call-word, no-call}
 use Rattle.tabling.specs.Records.{Calls, Answers, follow, follows}
 
 module _ (calls : Calls) (answers : Answers) (n : ℕ) where
   -- a call takes the named answer
-  pub follow-call : (w : ℕ) (s : State) (e : ℕ) → 2 < w / 256 → follow calls answers n (step-of w) s e
+  pub follow-call : (w : ℕ) (s : State) (e : ℕ) → is-call w ≡ true → follow calls answers n (step-of w) s e
       ≡ cond (ltb e n && (eqb (calls .action (answers .call e)) (w % 256) && eqb (calls .state (answers .call e)) s)) (on (answers .final e)) stuck
   unfolding follow
   follow-call w s e l = rw (call-word w l) refl
 
-  follow-by : (k i : ℕ) (s : State) (e : ℕ) → k ≤ 2 → follow calls answers n (step-by k i) s e ≡ cond (eqb e 0) (elementary (step-by k i) s) stuck
-  unfolding follow step-by
-  follow-by zero i s e l = refl
-  follow-by (suc zero) i s e l = refl
-  follow-by (suc (suc zero)) i s e l = refl
-  follow-by (suc (suc (suc k))) i s e l = absurd (omega arith)
+  follow-by : (x : Step) (s : State) (e : ℕ) → ((a : ℕ) → x ≡ call a → ⊥) → follow calls answers n x s e ≡ cond (eqb e 0) (elementary x s) stuck
+  unfolding follow
+  follow-by (call a) s e l = absurd (l a refl)
+  follow-by (query p) s e l = refl
+  follow-by (insert p) s e l = refl
+  follow-by (delete p) s e l = refl
 
   -- any other step is done
-  pub follow-elementary : (w : ℕ) (s : State) (e : ℕ) → w / 256 ≤ 2 → follow calls answers n (step-of w) s e ≡ cond (eqb e 0) (elementary (step-of w) s) stuck
-  follow-elementary w s e l = follow-by (w / 256) (w % 256) s e l
+  pub follow-elementary : (w : ℕ) (s : State) (e : ℕ) → is-call w ≡ false → follow calls answers n (step-of w) s e ≡ cond (eqb e 0) (elementary (step-of w) s) stuck
+  follow-elementary w s e l = follow-by (step-of w) s e (no-call w l)
 
   -- a step, then the steps after it
   follows-go : (q : ℕ) (s : State) (x : Step) (rest : Body) (o : Onward) → o ≡ follow calls answers n x s (answers .evidence n q)

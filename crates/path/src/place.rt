@@ -3,18 +3,18 @@ use crate::walk::start;
 use crate::walk::take_step;
 use steps::word::is_call;
 ghost use mathlib.Core.Path.{_≡_};
-ghost use mathlib.Core.Bool.{cond};
+ghost use mathlib.Core.Bool.{true, cond};
 ghost use mathlib.Core.List.{_∷_};
-ghost use Prim.Native.Nat.{_/_, _<_};
+ghost use Prim.Native.Nat.{_<_};
 ghost use lib.ListN.{length, set};
-ghost use lib.Dec.{ltb};
+ghost use Rattle.steps.specs.Words.{is-call};
 ghost use Rattle.unfolding.proofs.Walk.{addedBy, startAt, wordsAt};
 ghost use Rattle.unfolding.proofs.Places.{Placing, Laying, Placeable, Laid};
 
 // Gives the record that a call uses its place.
 fn note(step: u16, used: u64, at: usize, offsets: &mut [usize])
-    requires { ⌜ (2 < step / 256 → used < length (now offsets)) ⌝ }
-    ensures { λ _. ⌜ now (offsets .exit) ≡ cond (ltb 2 (step / 256)) (set (now (offsets .entry)) used at) (now (offsets .entry)) ⌝ }
+    requires { ⌜ (is-call step ≡ true → used < length (now offsets)) ⌝ }
+    ensures { λ _. ⌜ now (offsets .exit) ≡ cond (is-call step) (set (now (offsets .entry)) used at) (now (offsets .entry)) ⌝ }
 {
     if is_call(step) {
         offsets[used as usize] = at;

@@ -2,8 +2,11 @@
 use crate::walk::start;
 use crate::walk::take_step;
 use steps::word::is_call;
-ghost use Prim.Native.Nat.{_+_, _/_, _≤_, _<_};
+ghost use mathlib.Core.Path.{_≡_};
+ghost use mathlib.Core.Bool.{true};
+ghost use Prim.Native.Nat.{_+_, _≤_, _<_};
 ghost use lib.ListN.{length, getD};
+ghost use Rattle.steps.specs.Words.{is-call};
 ghost use Rattle.unfolding.proofs.Walk.{addedBy};
 ghost use Rattle.unfolding.proofs.Lies.{Copied};
 ghost use Rattle.unfolding.proofs.Writing.{Stepped, Ready, Wrote, Written, Writable};
@@ -22,7 +25,7 @@ fn copy(list: &mut [u64], from: usize, to: usize, n: usize)
 
 // Writes what one step adds: a call's states, if they do not stand there already, or the new state.
 fn write_step(step: u16, from: usize, at: usize, size: usize, state: u64, list: &mut [u64])
-    requires { ⌜ (at + size ≤ length (now list)) × (2 < step / 256 → from + size ≤ length (now list)) ⌝ }
+    requires { ⌜ (at + size ≤ length (now list)) × (is-call step ≡ true → from + size ≤ length (now list)) ⌝ }
     ensures { λ _. ⌜ Stepped (now (list .entry)) (now (list .exit)) step from at size state ⌝ }
 {
     if is_call(step) {

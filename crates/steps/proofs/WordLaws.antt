@@ -2,7 +2,7 @@
 use Prim.Native.Nat.{ℕ, zero, suc, _+_, _*_, _/_, _%_, _<_, _≤_}
 use native.Mathlib.Omega.{arith}
 use native.Mathlib.Nat.{le-of-suc-le-suc}
-use mathlib.Core.Path.{_≡_, refl, ap, subst, _∙_}
+use mathlib.Core.Path.{_≡_, refl, ap, sym, subst, _∙_}
 use mathlib.Core.Bool.{Bool, true, false, cond}
 use mathlib.Core.Logic.{_↔_}
 use mathlib.Core.List.{List, _∷_, List·Memᴰ, List·Memᴰ·head, List·Memᴰ·tail, List·Memᴰ·not-nil}
@@ -12,32 +12,44 @@ use borrow.Author.Tests.{lt-ltb}
 use Rattle.steps.specs.State.{State, holds, added}
 use Rattle.steps.specs.Step.{Step, query, insert, delete, call, Body, Rule, Book}
 use Rattle.steps.specs.Deduction.{_⊢_, Move}
-use Rattle.steps.specs.Words.{step-by, step-of, count-of, words-of, rule-of, rules-from}
+use Rattle.steps.specs.Words.{is-call, step-by, step-of, count-of, words-of, rule-of, rules-from}
 use Rattle.steps.specs.Elementary.{on, stuck, elementary}
+use Rattle.steps.proofs.EachBelow.{true-not-false}
 use Rattle.steps.proofs.Deductions.{Does, asks, adds, drops, does-move, move-does}
 
 -- ---- calls
 
-call-by : (k i : ℕ) → 2 < k → step-by k i ≡ call i
+call-by : (k i : ℕ) → ltb 2 k ≡ true → step-by k i ≡ call i
 unfolding step-by
-call-by zero i l = absurd (omega arith)
-call-by (suc zero) i l = absurd (omega arith)
-call-by (suc (suc zero)) i l = absurd (omega arith)
+call-by zero i l = absurd (true-not-false (sym l))
+call-by (suc zero) i l = absurd (true-not-false (sym l))
+call-by (suc (suc zero)) i l = absurd (true-not-false (sym l))
 call-by (suc (suc (suc k))) i l = refl
 
--- a word from kind 3 on is a call of its index
-pub call-word : (w : ℕ) → 2 < w / 256 → step-of w ≡ call (w % 256)
+-- a word that is a call is one of its index
+pub call-word : (w : ℕ) → is-call w ≡ true → step-of w ≡ call (w % 256)
 call-word w l = call-by (w / 256) (w % 256) l
 
-by-call : (k i b : ℕ) → call b ≡ step-by k i → (2 < k) × (b ≡ i)
+by-call : (k i b : ℕ) → ltb 2 k ≡ false → call b ≡ step-by k i → ⊥
 unfolding step-by
-by-call zero i b e = let z : _≡_ {A = ℕ} 0 1 = cc in absurd (omega arith)
-by-call (suc zero) i b e = let z : _≡_ {A = ℕ} 0 1 = cc in absurd (omega arith)
-by-call (suc (suc zero)) i b e = let z : _≡_ {A = ℕ} 0 1 = cc in absurd (omega arith)
-by-call (suc (suc (suc k))) i b e = (omega arith, cc)
+by-call zero i b l e = let z : _≡_ {A = ℕ} 0 1 = cc in absurd (omega arith)
+by-call (suc zero) i b l e = let z : _≡_ {A = ℕ} 0 1 = cc in absurd (omega arith)
+by-call (suc (suc zero)) i b l e = let z : _≡_ {A = ℕ} 0 1 = cc in absurd (omega arith)
+by-call (suc (suc (suc k))) i b l e = absurd (true-not-false (rw (lt-ltb 2 (suc (suc (suc k))) (omega arith)) at l))
 
-pub word-call : (w b : ℕ) → call b ≡ step-of w → (2 < w / 256) × (b ≡ w % 256)
-word-call w b e = by-call (w / 256) (w % 256) b e
+-- a word that is no call is none as a step
+pub no-call : (w : ℕ) → is-call w ≡ false → (b : ℕ) → step-of w ≡ call b → ⊥
+no-call w l b e = by-call (w / 256) (w % 256) b l (sym e)
+
+call-index : {a b : ℕ} → call a ≡ call b → a ≡ b
+call-index e = cc
+
+pub word-call : (w b : ℕ) → call b ≡ step-of w → (is-call w ≡ true) × (b ≡ w % 256)
+word-call w b e = by (is-call w) refl
+  where
+    by : (c : Bool) → is-call w ≡ c → (c ≡ true) × (b ≡ w % 256)
+    by true l = (refl, call-index (e ∙ call-word w l))
+    by false l = absurd (no-call w l b (sym e))
 
 -- ---- elementary steps
 

@@ -1,14 +1,15 @@
 -- What a way of the search shows: the calls that it comes to are reached, and its answers are evidence. Assumes nothing.
-use Prim.Native.Nat.{ℕ, zero, suc, _+_, _/_, _%_, _<_, _≤_}
+use Prim.Native.Nat.{ℕ, zero, suc, _+_, _%_, _<_, _≤_}
 use native.Mathlib.Omega.{arith}
 use mathlib.Core.Path.{_≡_, refl, subst, ap, _∙_}
+use mathlib.Core.Bool.{true}
 use mathlib.Core.List.{List, [], _∷_, List·Memᴰ}
 use mathlib.Core.Logic.{_⊎_, inl, inr}
 use lib.ListN.{length, getD, drop, drop-of-length-le}
 use lib.Seq.{drop-cons}
 use Rattle.steps.specs.State.{State}
 use Rattle.steps.specs.Step.{Step, query, insert, delete, call, Body}
-use Rattle.steps.specs.Words.{step-of, body-of}
+use Rattle.steps.specs.Words.{step-of, body-of, is-call}
 use Rattle.steps.specs.Elementary.{Onward, on, stuck, elementary}
 use Rattle.steps.proofs.WordLaws.{call-word, elementary-does}
 use Rattle.steps.proofs.Deductions.{Does}
@@ -78,7 +79,7 @@ module _ (b : Tables) (known : ℕ) where
       serves-ends a E F (x, o, e) = rw (o .action, o .state, e) at (record-ends (v .justified) Root x (omega (arith, o .below)))
 
       -- the call that the search stands at is reached
-      pub come-reached : {a : ℕ} {ev : ℕ → ℕ} {D s : State} {n : ℕ} → Reached Does (Has bodies) Root a D → Has bodies a (body-of body) → n < length body → 2 < getD body n 0 / 256
+      pub come-reached : {a : ℕ} {ev : ℕ → ℕ} {D s : State} {n : ℕ} → Reached Does (Has bodies) Root a D → Has bodies a (body-of body) → n < length body → is-call (getD body n 0) ≡ true
           → Way (EdgeT b known body) ev D n s → Reached Does (Has bodies) Root (getD body n 0 % 256) s
       come-reached {D = D} {s} {n} c o h e W =
           let w : Walk Does Serves D (body-of body) s (step-of (getD body n 0) ∷ body-of (drop (suc n) body)) = rw (drop-cons body n 0 h) at (way-walk (omega arith) W) in

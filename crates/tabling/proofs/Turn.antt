@@ -1,5 +1,5 @@
 -- One turn of the walk: each way that the code may go keeps the search's invariant or sweeps the node. Assumes nothing.
-use Prim.Native.Nat.{ℕ, _+_, _/_, _%_, _<_, _≤_}
+use Prim.Native.Nat.{ℕ, _+_, _%_, _<_, _≤_}
 use native.Mathlib.Omega.{arith}
 use native.Mathlib.Decide.{decLt}
 use mathlib.Core.Path.{_≡_, refl, sym, subst, ap, _∙_}
@@ -10,7 +10,7 @@ use lib.ListN.{length, getD, set, length-set}
 use lib.Seq.{getD-set-other}
 use Rattle.steps.specs.State.{State}
 use Rattle.steps.specs.Counting.{Outnumbers}
-use Rattle.steps.specs.Words.{step-of, body-of}
+use Rattle.steps.specs.Words.{step-of, body-of, is-call}
 use Rattle.steps.specs.Elementary.{on, stuck, elementary}
 use Rattle.steps.proofs.EachBelow.{true-not-false}
 use Rattle.steps.proofs.Deductions.{Does}
@@ -31,13 +31,13 @@ use Rattle.tabling.proofs.Marks.{Mark, Stamped, with-mark, mark-new, ma
 
 -- at place q no answer after the chosen one is left
 abbrev pub SpentRow : List ℕ → Answers → ℕ → List ℕ → ℕ → Type 0
-SpentRow body answers known chosen q = 2 < getD body q 0 / 256 → (y : ℕ) → getD chosen q 0 + 1 ≤ y → y < known → answers .call y ≡ answers .call (getD chosen q 0) → ⊥
+SpentRow body answers known chosen q = is-call (getD body q 0) ≡ true → (y : ℕ) → getD chosen q 0 + 1 ≤ y → y < known → answers .call y ≡ answers .call (getD chosen q 0) → ⊥
 
 -- The search goes back to the place before r and takes answer j there; where r is 0 it is over: by record numbers.
 pub record RetreatRow (body : List ℕ) (answers : Answers) (known : ℕ) (chosen : List ℕ) (at r j : ℕ) : Type 0 where
   pub low : r ≤ at
   pub spent : (q : ℕ) → r ≤ q → q < at → SpentRow body answers known chosen q
-  pub found : (p : ℕ) → r ≡ p + 1 → (2 < getD body p 0 / 256) × (j < known) × NextAnswer answers known (answers .call (getD chosen p 0)) (getD chosen p 0 + 1) j
+  pub found : (p : ℕ) → r ≡ p + 1 → (is-call (getD body p 0) ≡ true) × (j < known) × NextAnswer answers known (answers .call (getD chosen p 0)) (getD chosen p 0 + 1) j
 
 module _ {bodies : Bodies} {Root : ℕ → State → Type 0} {b t : Tables} {known : ℕ} (v : Valid bodies Root t) (g : Grew b t) (enough : known ≤ b .answers .count) (inside : Inside b (b .answers .count)) where
   row-of : {row y : ℕ} (c : ℕ × State) → row < t .calls .count → CallAt (t .calls) row (c .0) (c .1) → Of b known c y → t .answers .call y ≡ row
@@ -167,11 +167,11 @@ module _ (bodies : Bodies) (Root : ℕ → State → Type 0) (b : Tables) (known
       walking = walk-forward body b known walk (HeldUsed t uses row) (Held t row) from (T .walking) h (omega (arith, T .chosen-long, place-low h)) e;
     }
 
-    pub turn-stuck : at < length body → getD body at 0 / 256 ≤ 2 → elementary (step-of (getD body at 0)) s ≡ stuck → Turned t marks uses chosen at s
+    pub turn-stuck : at < length body → is-call (getD body at 0) ≡ false → elementary (step-of (getD body at 0)) s ≡ stuck → Turned t marks uses chosen at s
     turn-stuck h l e = record { turning = T; done = done-stuck body b known walk (HeldUsed t uses row) (Held t row) from (T .walking) h l e }
 
     -- ---- a call
-    module _ (h : at < length body) (e : 2 < getD body at 0 / 256) where
+    module _ (h : at < length body) (e : is-call (getD body at 0) ≡ true) where
       -- it is reached
       came : Reached Does (Has bodies) Root (getD body at 0 % 256) s
       came =

@@ -1,18 +1,19 @@
 -- The walk of a body's words as a search: its nodes are places and states, its edges elementary steps and usable answers. Assumes nothing.
-use Prim.Native.Nat.{ℕ, suc, _+_, _/_, _%_, _<_, _≤_}
+use Prim.Native.Nat.{ℕ, suc, _+_, _%_, _<_, _≤_}
 use native.Mathlib.Omega.{arith}
 use native.Mathlib.Decide.{decLt}
 use native.Mathlib.Numerals.{add-one}
 use mathlib.Core.Path.{_≡_, refl, sym, subst, ap, _∙_}
+use mathlib.Core.Bool.{Bool, true, false}
 use mathlib.Core.List.{List}
 use mathlib.Core.Logic.{_⊎_, inl, inr, ⊎-elim}
 use lib.ListN.{length, getD, set}
 use lib.Seq.{getD-set-same, getD-set-other}
 use Rattle.steps.specs.State.{State}
 use Rattle.steps.specs.Step.{Step, query, insert, delete, call}
-use Rattle.steps.specs.Words.{step-of}
+use Rattle.steps.specs.Words.{step-of, is-call}
 use Rattle.steps.specs.Elementary.{Onward, on, stuck, elementary}
-use Rattle.steps.proofs.WordLaws.{call-word, word-call, not-on}
+use Rattle.steps.proofs.WordLaws.{call-word, no-call, not-on}
 use Rattle.tabling.proofs.Storage.{CallAt}
 use Rattle.tabling.proofs.Growth.{Tables}
 use Rattle.tabling.proofs.Sweep.{Swept, Upto, Link, Search, start, push, pop, marked, over, unwind, passed, way-of, search-up, swept-marked, Way}
@@ -42,7 +43,7 @@ step-on (insert p) s t e = rw e refl
 step-on (delete p) s t e = ap front e
 step-on (call a) s t e = absurd (not-on e)
 
-pub move-call : (w : ℕ) (s : State) → 2 < w / 256 → move w s ≡ calls (w % 256, s)
+pub move-call : (w : ℕ) (s : State) → is-call w ≡ true → move w s ≡ calls (w % 256, s)
 unfolding move-step
 move-call w s l = rw (call-word w l) refl
 
@@ -56,8 +57,8 @@ step-stuck (insert p) s n e = ap front e
 step-stuck (delete p) s n e = ap front e
 step-stuck (call a) s n e = absurd (n a refl)
 
-pub move-stuck : (w : ℕ) (s : State) → w / 256 ≤ 2 → elementary (step-of w) s ≡ stuck → move w s ≡ graph.stuck
-move-stuck w s l e = step-stuck (step-of w) s (λ a h. omega (arith, word-call w a (sym h) .0)) e
+pub move-stuck : (w : ℕ) (s : State) → is-call w ≡ false → elementary (step-of w) s ≡ stuck → move w s ≡ graph.stuck
+move-stuck w s l e = step-stuck (step-of w) s (no-call w l) e
 
 -- ---- answers by their calls' contents
 
@@ -80,18 +81,18 @@ NoneIn b known c from j = (y : ℕ) → from ≤ y → y < j → Of b known c y 
 
 -- at place q no answer after the chosen one is left
 abbrev pub Spent : List ℕ → Tables → ℕ → List ℕ → ℕ → Type 0
-Spent body b known chosen q = 2 < getD body q 0 / 256 → NoneIn b known (call-of b (getD chosen q 0)) (getD chosen q 0 + 1) known
+Spent body b known chosen q = is-call (getD body q 0) ≡ true → NoneIn b known (call-of b (getD chosen q 0)) (getD chosen q 0 + 1) known
 
 -- The search goes back to the place before r and takes the answer j there; where r is 0 it is over.
 pub record Retreat (body : List ℕ) (b : Tables) (known : ℕ) (chosen : List ℕ) (at r j : ℕ) : Type 0 where
   pub low : r ≤ at
   pub spent : (q : ℕ) → r ≤ q → q < at → Spent body b known chosen q
   pub found : (p : ℕ) → r ≡ p + 1
-      → (2 < getD body p 0 / 256) × (getD chosen p 0 < j) × NoneIn b known (call-of b (getD chosen p 0)) (getD chosen p 0 + 1) j × Of b known (call-of b (getD chosen p 0)) j
+      → (is-call (getD body p 0) ≡ true) × (getD chosen p 0 < j) × NoneIn b known (call-of b (getD chosen p 0)) (getD chosen p 0 + 1) j × Of b known (call-of b (getD chosen p 0)) j
 
 -- the answers chosen at places below `at` are answers
 abbrev pub Chosen : List ℕ → ℕ → List ℕ → ℕ → Type 0
-Chosen body known chosen at = (q : ℕ) → q < at → 2 < getD body q 0 / 256 → getD chosen q 0 < known
+Chosen body known chosen at = (q : ℕ) → q < at → is-call (getD body q 0) ≡ true → getD chosen q 0 < known
 
 abbrev pub EdgeT : Tables → ℕ → List ℕ → ℕ → State → ℕ → State → Type 0
 EdgeT b known body = Edge move (Of b known) (final b) 0 body
@@ -134,7 +135,7 @@ module _ (body : List ℕ) (b : Tables) (known walk : ℕ) (C : ℕ × State →
     pub done-end : length body ≤ at → A s → Done at s
     done-end h n = ended move (Of b known) (final b) 0 body (omega (arith, W .inside)) n
 
-    pub done-stuck : at < length body → getD body at 0 / 256 ≤ 2 → elementary (step-of (getD body at 0)) s ≡ stuck → Done at s
+    pub done-stuck : at < length body → is-call (getD body at 0) ≡ false → elementary (step-of (getD body at 0)) s ≡ stuck → Done at s
     done-stuck h l e = stops move (Of b known) (final b) 0 body h (move-stuck (getD body at 0) s l e)
 
     -- the node has been searched before
@@ -147,7 +148,7 @@ module _ (body : List ℕ) (b : Tables) (known walk : ℕ) (C : ℕ × State →
 
   module _ {marks chosen : List ℕ} {top at : ℕ} {s : State} (W : Walking marks chosen top at s) where
     -- the answers of the call up to j are passed
-    walk-upto : {i j : ℕ} → 2 < getD body at 0 / 256 → Upto E G at s i → NoneIn b known (getD body at 0 % 256, s) i j → Upto E G at s j
+    walk-upto : {i j : ℕ} → is-call (getD body at 0) ≡ true → Upto E G at s i → NoneIn b known (getD body at 0 % 256, s) i j → Upto E G at s j
     walk-upto {i} {j} e u k x t l d =
         let m : Leads (Of b known) (final b) (calls (getD body at 0 % 256, s)) x t = rw (move-call (getD body at 0) s e) at (d .1) in
         elim (decLt x i) [ yes a ↦ u x t a d | no a ↦ absurd (k x (omega arith) l (m .0)) ]
@@ -161,7 +162,7 @@ module _ (body : List ℕ) (b : Tables) (known walk : ℕ) (C : ℕ × State →
         m .0 .below
 
     -- an answer j of the call in front is taken, and the node is marked or stays as it is
-    walk-take : {marks′ : List ℕ} {j : ℕ} → top ≤ suc at → at < length body → at < length chosen → 2 < getD body at 0 / 256 → C (getD body at 0 % 256, s) → Upto E G at s j → Of b known (getD body at 0 % 256, s) j
+    walk-take : {marks′ : List ℕ} {j : ℕ} → top ≤ suc at → at < length body → at < length chosen → is-call (getD body at 0) ≡ true → C (getD body at 0 % 256, s) → Upto E G at s j → Of b known (getD body at 0 % 256, s) j
         → ((q : ℕ) (u : State) → Seen b body marks′ walk q u → Seen b body marks walk q u ⊎ ((q ≡ at) × (u ≡ s)))
         → Walking marks′ (set chosen at j) (at + 1) (at + 1) (final b j)
     walk-take {marks′} {j} up h l e k u o new = record {
@@ -171,10 +172,10 @@ module _ (body : List ℕ) (b : Tables) (known walk : ℕ) (C : ℕ × State →
           (λ q i. getD-set-other chosen at q j 0 (omega arith)) new);
     }
 
-    none-from : {i : ℕ} → at < length body → 2 < getD body at 0 / 256 → C (getD body at 0 % 256, s) → Upto E G at s i → NoneIn b known (getD body at 0 % 256, s) i known → Done at s
+    none-from : {i : ℕ} → at < length body → is-call (getD body at 0) ≡ true → C (getD body at 0 % 256, s) → Upto E G at s i → NoneIn b known (getD body at 0 % 256, s) i known → Done at s
     none-from h e k u n = none-left move (Of b known) (final b) 0 body h (move-call (getD body at 0) s e) k (walk-upto e u n) (λ x o. o .below)
 
-  module _ {marks chosen : List ℕ} {at : ℕ} {s : State} (W : Walking marks chosen at at s) (h : at < length body) (e : 2 < getD body at 0 / 256) (k : C (getD body at 0 % 256, s)) where
+  module _ {marks chosen : List ℕ} {at : ℕ} {s : State} (W : Walking marks chosen at at s) (h : at < length body) (e : is-call (getD body at 0) ≡ true) (k : C (getD body at 0 % 256, s)) where
     first : Upto E G at s 0
     first x t a z = absurd (omega arith)
 
@@ -190,7 +191,7 @@ module _ (body : List ℕ) (b : Tables) (known walk : ℕ) (C : ℕ × State →
 
   -- ---- back
   module _ {marks chosen : List ℕ} {at : ℕ} {s t : State} (W : Walking marks chosen (suc at) at s) (l : Link E G at s (getD chosen at 0) t) (k : Swept E G (suc at) t) where
-    module _ (e : 2 < getD body at 0 / 256) where
+    module _ (e : is-call (getD body at 0) ≡ true) where
       -- the call of the answer that was chosen here
       chosen-here : Of b known (getD body at 0 % 256, s) (getD chosen at 0)
       chosen-here = let m : Leads (Of b known) (final b) (calls (getD body at 0 % 256, s)) (getD chosen at 0) t = rw (move-call (getD body at 0) s e) at (l .edge .1) in m .0
@@ -211,12 +212,12 @@ module _ (body : List ℕ) (b : Tables) (known walk : ℕ) (C : ℕ × State →
 
     -- a place is swept once it has no answer left
     spent-back : Spent body b known chosen at → Done at s
-    spent-back sp = by (decLt 2 (getD body at 0 / 256)) (elementary (step-of (getD body at 0)) s) refl
+    spent-back sp = by (is-call (getD body at 0)) refl (elementary (step-of (getD body at 0)) s) refl
       where
-        by : Dec (2 < getD body at 0 / 256) → (o : Onward) → elementary (step-of (getD body at 0)) s ≡ o → Done at s
-        by (yes e) o f = none-from W (l .edge .0) e (known-here e) (passed-here e) (rw (same-call e, add-one) at (sp e))
-        by (no n) (on u) f = backward move (Of b known) (final b) 0 body l (move-on (getD body at 0) s u f) k
-        by (no n) stuck f = absurd (rw (move-stuck (getD body at 0) s (omega arith) f) at (l .edge .1))
+        by : (c : Bool) → is-call (getD body at 0) ≡ c → (o : Onward) → elementary (step-of (getD body at 0)) s ≡ o → Done at s
+        by true e o f = none-from W (l .edge .0) e (known-here e) (passed-here e) (rw (same-call e, add-one) at (sp e))
+        by false n (on u) f = backward move (Of b known) (final b) 0 body l (move-on (getD body at 0) s u f) k
+        by false n stuck f = absurd (rw (move-stuck (getD body at 0) s n f) at (l .edge .1))
 
   module _ {marks chosen : List ℕ} {at j : ℕ} {s : State} (W : Walking marks chosen at at s) (k : Done at s) where
     back-to : (r : ℕ) → Retreat body b known chosen at r j → (s′ : State) × Walking marks chosen r r s′ × Swept E G r s′

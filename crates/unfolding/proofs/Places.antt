@@ -1,15 +1,16 @@
 -- Offsets: a place in the path for what each record used adds. They are laid from the asked record down. Assumes nothing.
-use Prim.Native.Nat.{ℕ, zero, suc, _+_, _/_, _<_, _≤_, _^_}
+use Prim.Native.Nat.{ℕ, zero, suc, _+_, _<_, _≤_, _^_}
 use native.Mathlib.Omega.{arith}
 use mathlib.Core.Path.{_≡_, refl, sym, ap, subst, _∙_}
 use mathlib.Core.Bool.{Bool, true, false, cond}
 use mathlib.Core.List.{List, _∷_, _++_}
 use lib.ListN.{length, getD, set, length-set, length-append, replicate}
 use lib.Seq.{getD-set-same, getD-set-other}
-use lib.Dec.{eqb, ltb}
-use borrow.Author.Tests.{eqb-true, eqb-false, ltb-true, ltb-false}
+use lib.Dec.{eqb}
+use borrow.Author.Tests.{eqb-true, eqb-false}
 use Rattle.steps.specs.State.{State}
-use Rattle.steps.specs.Words.{step-of}
+use Rattle.steps.proofs.EachBelow.{true-not-false}
+use Rattle.steps.specs.Words.{step-of, is-call}
 use Rattle.unfolding.specs.Path.{adds}
 use Rattle.unfolding.proofs.Walk.{Checked, LeadsTo, leads-below, adds-call, wordsAt, stepAt, evidenceAt, addedBy, startAt, Stands, left, stands-next, left-first, left-next, left-end}
 use Rattle.unfolding.proofs.Sizes.{Sized, Turned, turned-exact}
@@ -28,7 +29,7 @@ no-place (suc n) (suc x) = no-place n x
 module _ (rules goal calls answers : List ℕ) where
   -- The records used by the first q steps of record n have places.
   abbrev pub Linked : ℕ → ℕ → List ℕ → Type 0
-  Linked n q offsets = (j : ℕ) → j < q → 2 < stepAt rules goal answers n j / 256 → 0 < getD offsets (evidenceAt answers n j) 0
+  Linked n q offsets = (j : ℕ) → j < q → is-call (stepAt rules goal answers n j) ≡ true → 0 < getD offsets (evidenceAt answers n j) 0
 
   -- What the steps of a record need for their sizes to be exact: room for all that it adds.
   pub record Roomy (sizes : List ℕ) (n p : ℕ) : Type 0 where
@@ -86,7 +87,7 @@ module _ (rules goal calls answers : List ℕ) where
 
     -- a call's is that of the record it uses
     pub exact-call : {sizes : List ℕ} {t : State} {size : ℕ} → Roomy sizes n p → Turned calls answers sizes n (stepAt rules goal answers n q) s (evidenceAt answers n q) t size
-        → 2 < stepAt rules goal answers n q / 256 → size ≡ length (addedBy rules goal calls answers (evidenceAt answers n q))
+        → is-call (stepAt rules goal answers n q) ≡ true → size ≡ length (addedBy rules goal calls answers (evidenceAt answers n q))
     exact-call {t = t} r u k = exact r u ∙ ap length (adds-call (addedBy rules goal calls answers) (stepAt rules goal answers n q) s t (evidenceAt answers n q) k)
 
     -- there is room for it
@@ -127,7 +128,7 @@ module _ (rules goal calls answers : List ℕ) where
     e = evidenceAt answers n q
 
     -- a call: its record has a place here
-    laying-call : 2 < stepAt rules goal answers n q / 256 → Laying n (q + 1) old (set offsets e at)
+    laying-call : is-call (stepAt rules goal answers n q) ≡ true → Laying n (q + 1) old (set offsets e at)
     laying-call k = record { long = simp length-set (y .long); high = λ x h. getD-set-other offsets e x at 0 (λ z. omega (arith, smaller)) ∙ y .high x h; grows = grow; placed = place; linked = link }
       where
         smaller : e < n
@@ -166,22 +167,22 @@ module _ (rules goal calls answers : List ℕ) where
             by false z = let d : (j ≡ q → ⊥) = eqb-false j q z in later _ (y .linked j (omega arith) c)
 
     -- any other step: nothing changes
-    laying-other : stepAt rules goal answers n q / 256 ≤ 2 → Laying n (q + 1) old offsets
+    laying-other : is-call (stepAt rules goal answers n q) ≡ false → Laying n (q + 1) old offsets
     laying-other k = record { long = y .long; high = y .high; grows = y .grows; placed = y .placed; linked = link }
       where
         link : Linked n (q + 1) offsets
         link j h c = by (eqb j q) refl
           where
             by : (b : Bool) → eqb j q ≡ b → 0 < getD offsets (evidenceAt answers n j) 0
-            by true z = let z′ : j ≡ q = eqb-true j q z in let c′ : 2 < stepAt rules goal answers n q / 256 = rw z′ at c in absurd (omega arith)
+            by true z = let z′ : j ≡ q = eqb-true j q z in let c′ : is-call (stepAt rules goal answers n q) ≡ true = rw z′ at c in absurd (true-not-false (sym c′ ∙ k))
             by false z = let d : (j ≡ q → ⊥) = eqb-false j q z in y .linked j (omega arith) c
 
-    pub laying-more : Laying n (q + 1) old (cond (ltb 2 (stepAt rules goal answers n q / 256)) (set offsets e at) offsets)
-    laying-more = by (ltb 2 (stepAt rules goal answers n q / 256)) refl
+    pub laying-more : Laying n (q + 1) old (cond (is-call (stepAt rules goal answers n q)) (set offsets e at) offsets)
+    laying-more = by (is-call (stepAt rules goal answers n q)) refl
       where
-        by : (b : Bool) → ltb 2 (stepAt rules goal answers n q / 256) ≡ b → Laying n (q + 1) old (cond b (set offsets e at) offsets)
-        by true z = laying-call (ltb-true 2 _ z)
-        by false z = laying-other (ltb-false 2 _ z)
+        by : (b : Bool) → is-call (stepAt rules goal answers n q) ≡ b → Laying n (q + 1) old (cond b (set offsets e at) offsets)
+        by true z = laying-call z
+        by false z = laying-other z
 
   -- ---- all records, from the asked one down
 

@@ -1,5 +1,5 @@
 -- Sizes: how many states each record adds, counted up to a cap. Assumes nothing.
-use Prim.Native.Nat.{ℕ, _+_, _/_, _<_, _≤_, min}
+use Prim.Native.Nat.{ℕ, _+_, _<_, _≤_, min}
 use native.Mathlib.Omega.{arith}
 use native.Mathlib.Nat.{zero-add}
 use mathlib.Core.Path.{_≡_, refl, sym, ap, _∙_}
@@ -7,10 +7,10 @@ use mathlib.Core.Bool.{Bool, true, false, cond}
 use mathlib.Core.List.{List}
 use lib.ListN.{length, getD, take, set, length-append}
 use lib.Seq.{getD-take, getD-set-same, getD-set-other}
-use lib.Dec.{eqb, ltb}
-use borrow.Author.Tests.{eqb-true, eqb-false, lt-ltb, le-ltb, ltb-true, ltb-false}
+use lib.Dec.{eqb}
+use borrow.Author.Tests.{eqb-true, eqb-false}
 use Rattle.steps.specs.State.{State}
-use Rattle.steps.specs.Words.{step-of}
+use Rattle.steps.specs.Words.{step-of, is-call}
 use Rattle.unfolding.specs.Path.{shown, adds}
 use Rattle.unfolding.proofs.Walk.{LeadsTo, leads-below, adds-call, adds-shown, shown-small, wordsAt, stepAt, evidenceAt, addedBy, startAt, Stands, left, stands-next, left-first, left-next, left-end}
 
@@ -36,59 +36,53 @@ sized-take {sizes = sizes} {n} z = record { at = λ x h. getD-take n sizes x 0 h
 
 -- How many states a step word adds, by the sizes of the records below.
 unfoldable pub size-of : List ℕ → ℕ → State → State → ℕ → ℕ
-size-of sizes w s t e = cond (ltb 2 (w / 256)) (getD sizes e 0) (length (shown (step-of w) s t))
+size-of sizes w s t e = cond (is-call w) (getD sizes e 0) (length (shown (step-of w) s t))
 
 -- What one step of a walk gives: the state that it leads to, and how many states it adds.
 pub record Turned (calls answers sizes : List ℕ) (n w : ℕ) (s : State) (e : ℕ) (t : State) (size : ℕ) : Type 0 where
   pub to : LeadsTo calls answers n w s e t
   pub sized : size ≡ size-of sizes w s t e
 
-size-call : (sizes : List ℕ) (w : ℕ) (s t : State) (e : ℕ) → 2 < w / 256 → size-of sizes w s t e ≡ getD sizes e 0
+size-call : (sizes : List ℕ) (w : ℕ) (s t : State) (e : ℕ) → is-call w ≡ true → size-of sizes w s t e ≡ getD sizes e 0
 unfolding size-of
-size-call sizes w s t e l = rw (lt-ltb 2 (w / 256) l) refl
+size-call sizes w s t e l = rw l refl
 
-size-shown : (sizes : List ℕ) (w : ℕ) (s t : State) (e : ℕ) → w / 256 ≤ 2 → size-of sizes w s t e ≡ length (shown (step-of w) s t)
+size-shown : (sizes : List ℕ) (w : ℕ) (s t : State) (e : ℕ) → is-call w ≡ false → size-of sizes w s t e ≡ length (shown (step-of w) s t)
 unfolding size-of
-size-shown sizes w s t e l = rw (le-ltb 2 (w / 256) l) refl
+size-shown sizes w s t e l = rw l refl
 
 module _ (f : ℕ → List State) {calls answers sizes : List ℕ} {n w : ℕ} {s : State} {e : ℕ} {t : State} {size cap : ℕ}
     (z : Sized f sizes n cap) (u : Turned calls answers sizes n w s e t size) where
   -- it counts what the step adds, up to the cap
   pub turned-size : min cap size ≡ min cap (length (adds f (step-of w) s t e))
-  turned-size = by (ltb 2 (w / 256)) refl
+  turned-size = by (is-call w) refl
     where
-      by : (b : Bool) → ltb 2 (w / 256) ≡ b → min cap size ≡ min cap (length (adds f (step-of w) s t e))
-      by true q =
-          let l = ltb-true 2 (w / 256) q in
+      by : (b : Bool) → is-call w ≡ b → min cap size ≡ min cap (length (adds f (step-of w) s t e))
+      by true l =
           rw (adds-call f w s t e l) (let h : size ≡ getD sizes e 0 = u .sized ∙ size-call sizes w s t e l in omega (arith, z .at e (leads-below l (u .to))))
-      by false q =
-          let l = ltb-false 2 (w / 256) q in
+      by false l =
           rw (adds-shown f w s t e l) (ap (min cap) (u .sized ∙ size-shown sizes w s t e l))
 
   pub turned-small : size ≤ cap + 1
-  turned-small = by (ltb 2 (w / 256)) refl
+  turned-small = by (is-call w) refl
     where
-      by : (b : Bool) → ltb 2 (w / 256) ≡ b → size ≤ cap + 1
-      by true q =
-          let l = ltb-true 2 (w / 256) q in
+      by : (b : Bool) → is-call w ≡ b → size ≤ cap + 1
+      by true l =
           (let h : size ≡ getD sizes e 0 = u .sized ∙ size-call sizes w s t e l in omega (arith, z .at e (leads-below l (u .to))))
-      by false q =
-          let l = ltb-false 2 (w / 256) q in
+      by false l =
           (let h : size ≡ length (shown (step-of w) s t) = u .sized ∙ size-shown sizes w s t e l in omega (arith, shown-small (step-of w) s t))
 
   -- exactly, where there is room
   pub turned-exact : length (adds f (step-of w) s t e) ≤ cap → 0 < cap → size ≡ length (adds f (step-of w) s t e)
-  turned-exact r p = by (ltb 2 (w / 256)) refl
+  turned-exact r p = by (is-call w) refl
     where
-      by : (b : Bool) → ltb 2 (w / 256) ≡ b → size ≡ length (adds f (step-of w) s t e)
-      by true q =
-          let l = ltb-true 2 (w / 256) q in
+      by : (b : Bool) → is-call w ≡ b → size ≡ length (adds f (step-of w) s t e)
+      by true l =
           (let h : size ≡ getD sizes e 0 = u .sized ∙ size-call sizes w s t e l in
           let k : adds f (step-of w) s t e ≡ f e = adds-call f w s t e l in
           let k′ : length (adds f (step-of w) s t e) ≡ length (f e) = ap length k in
           omega (arith, z .at e (leads-below l (u .to))))
-      by false q =
-          let l = ltb-false 2 (w / 256) q in
+      by false l =
           u .sized ∙ size-shown sizes w s t e l ∙ sym (ap length (adds-shown f w s t e l))
 
 -- ---- counting one record

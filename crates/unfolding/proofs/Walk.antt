@@ -7,14 +7,14 @@ use mathlib.Core.Bool.{Bool, true, false, cond}
 use mathlib.Core.List.{List, [], _∷_, _++_}
 use lib.ListN.{length, getD, drop, drop-of-length-le}
 use lib.Seq.{drop-cons}
-use lib.Dec.{eqb, ltb}
-use borrow.Author.Tests.{eqb-true, ltb-true, ltb-false}
+use lib.Dec.{eqb}
+use borrow.Author.Tests.{eqb-true}
 use Rattle.steps.specs.State.{State}
-use Rattle.steps.specs.Step.{Step, Body}
-use Rattle.steps.specs.Words.{step-by, step-of, body-of}
+use Rattle.steps.specs.Step.{Step, query, insert, delete, call, Body}
+use Rattle.steps.specs.Words.{step-by, step-of, body-of, is-call}
 use Rattle.steps.specs.Elementary.{Onward, on, stuck, elementary}
 use Rattle.steps.proofs.EachBelow.{true-not-false}
-use Rattle.steps.proofs.WordLaws.{call-word, not-on}
+use Rattle.steps.proofs.WordLaws.{call-word, no-call, not-on}
 use Rattle.tabling.specs.Records.{Calls, Answers, calls-in, answers-in, bodies-of, follow, follows}
 use Rattle.bodies.specs.Short.{Short}
 use Rattle.checks.specs.Readable.{Readable}
@@ -70,35 +70,35 @@ pub record LeadsTo (calls answers : List ℕ) (n w : ℕ) (s : State) (e : ℕ) 
   pub leads : follow (callsOf calls) (answersOf answers) n (step-of w) s e ≡ on t
 
 -- a call uses a smaller record
-pub leads-below : {calls answers : List ℕ} {n w : ℕ} {s : State} {e : ℕ} {t : State} → 2 < w / 256 → LeadsTo calls answers n w s e t → e < n
+pub leads-below : {calls answers : List ℕ} {n w : ℕ} {s : State} {e : ℕ} {t : State} → is-call w ≡ true → LeadsTo calls answers n w s e t → e < n
 leads-below {calls} {answers} {n} {w} {s} {e} {t} l h =
     call-below (callsOf calls) (answersOf answers) n (w % 256) s t e (rw (call-word w l) at (h .leads))
 
 -- any evidence is at most the record's own number
 pub leads-most : {calls answers : List ℕ} {n w : ℕ} {s : State} {e : ℕ} {t : State} → LeadsTo calls answers n w s e t → e ≤ n
-leads-most {calls} {answers} {n} {w} {s} {e} {t} h = by (ltb 2 (w / 256)) refl
+leads-most {calls} {answers} {n} {w} {s} {e} {t} h = by (is-call w) refl
   where
     none : (b : Bool) → eqb e 0 ≡ b → cond b (elementary (step-of w) s) stuck ≡ on t → e ≤ n
     none true z k = let q : e ≡ 0 = eqb-true e 0 z in omega arith
     none false z k = absurd (not-on k)
 
-    by : (b : Bool) → ltb 2 (w / 256) ≡ b → e ≤ n
-    by true z = omega (arith, leads-below (ltb-true 2 (w / 256) z) h)
-    by false z = none (eqb e 0) refl (sym (follow-elementary (callsOf calls) (answersOf answers) n w s e (ltb-false 2 (w / 256) z)) ∙ h .leads)
+    by : (b : Bool) → is-call w ≡ b → e ≤ n
+    by true z = omega (arith, leads-below z h)
+    by false z = none (eqb e 0) refl (sym (follow-elementary (callsOf calls) (answersOf answers) n w s e z) ∙ h .leads)
 
-pub adds-call : (f : ℕ → List State) (w : ℕ) (s t : State) (e : ℕ) → 2 < w / 256 → adds f (step-of w) s t e ≡ f e
+pub adds-call : (f : ℕ → List State) (w : ℕ) (s t : State) (e : ℕ) → is-call w ≡ true → adds f (step-of w) s t e ≡ f e
 unfolding adds
 adds-call f w s t e l = rw (call-word w l) refl
 
-adds-by : (f : ℕ → List State) (k i : ℕ) (s t : State) (e : ℕ) → k ≤ 2 → adds f (step-by k i) s t e ≡ shown (step-by k i) s t
-unfolding adds step-by
-adds-by f zero i s t e l = refl
-adds-by f (suc zero) i s t e l = refl
-adds-by f (suc (suc zero)) i s t e l = refl
-adds-by f (suc (suc (suc k))) i s t e l = absurd (omega arith)
+adds-by : (f : ℕ → List State) (x : Step) (s t : State) (e : ℕ) → ((a : ℕ) → x ≡ call a → ⊥) → adds f x s t e ≡ shown x s t
+unfolding adds
+adds-by f (call a) s t e l = absurd (l a refl)
+adds-by f (query p) s t e l = refl
+adds-by f (insert p) s t e l = refl
+adds-by f (delete p) s t e l = refl
 
-pub adds-shown : (f : ℕ → List State) (w : ℕ) (s t : State) (e : ℕ) → w / 256 ≤ 2 → adds f (step-of w) s t e ≡ shown (step-of w) s t
-adds-shown f w s t e l = adds-by f (w / 256) (w % 256) s t e l
+pub adds-shown : (f : ℕ → List State) (w : ℕ) (s t : State) (e : ℕ) → is-call w ≡ false → adds f (step-of w) s t e ≡ shown (step-of w) s t
+adds-shown f w s t e l = adds-by f (step-of w) s t e (no-call w l)
 
 -- all that the code knows of `shown`: it is the new state or nothing
 pub shown-small : (x : Step) (s t : State) → length (shown x s t) ≤ 1

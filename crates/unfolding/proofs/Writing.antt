@@ -1,5 +1,5 @@
 -- Writing the path: each record that has a place is written there, from the first record up. Assumes nothing.
-use Prim.Native.Nat.{ℕ, suc, _+_, _-_, _/_, _<_, _≤_, _^_}
+use Prim.Native.Nat.{ℕ, suc, _+_, _-_, _<_, _≤_, _^_}
 use native.Mathlib.Omega.{arith}
 use native.Mathlib.Nat.{add-zero}
 use mathlib.Core.Path.{_≡_, refl, sym, ap, subst, _∙_}
@@ -10,7 +10,7 @@ use lib.Seq.{getD-set-same, getD-set-other, getD-append-add, getD-drop, ext-getD
 use lib.Dec.{eqb, ltb}
 use borrow.Author.Tests.{eqb-true, eqb-false, ltb-true, ltb-false}
 use Rattle.steps.specs.State.{State}
-use Rattle.steps.specs.Words.{step-of}
+use Rattle.steps.specs.Words.{step-of, is-call}
 use Rattle.unfolding.specs.Path.{shown, adds}
 use Rattle.unfolding.proofs.Walk.{Checked, checked-less, LeadsTo, leads-below, adds-call, adds-shown, shown-small, shown-new, wordsAt, stepAt, evidenceAt, addedBy, startAt}
 use Rattle.unfolding.proofs.Sizes.{Sized, sized-less}
@@ -21,8 +21,8 @@ use Rattle.unfolding.proofs.Places.{Placed, Linked, Roomy, Along, piece
 
 -- What is wanted of one step: a call's states stand already elsewhere, and any other step adds at most its new state.
 pub record Source (wanted l : List ℕ) (w from at size : ℕ) (t : State) : Type 0 where
-  pub copied : 2 < w / 256 → Twice wanted l from at size
-  pub stored : w / 256 ≤ 2 → 0 < size → (size ≡ 1) × (t ≡ getD wanted at 0)
+  pub copied : is-call w ≡ true → Twice wanted l from at size
+  pub stored : is-call w ≡ false → 0 < size → (size ≡ 1) × (t ≡ getD wanted at 0)
 
 -- m is l with one step's states written.
 pub record Stepped (l m : List ℕ) (w from at size : ℕ) (t : State) : Type 0 where
@@ -30,13 +30,13 @@ pub record Stepped (l m : List ℕ) (w from at size : ℕ) (t : State) : Type 0 
   pub keeps : (wanted : List ℕ) → Source wanted l w from at size t → (x : ℕ) → Agree wanted l x → Agree wanted m x
   pub fills : (wanted : List ℕ) → Source wanted l w from at size t → (i : ℕ) → i < size → Agree wanted m (at + i)
 
-pub stepped-copy : {l m : List ℕ} {w from at size : ℕ} {t : State} → 2 < w / 256 → Copied l m from at size size → Stepped l m w from at size t
+pub stepped-copy : {l m : List ℕ} {w from at size : ℕ} {t : State} → is-call w ≡ true → Copied l m from at size size → Stepped l m w from at size t
 stepped-copy k c = record { long = c .long; keeps = λ d s. c .keeps d (s .copied k); fills = λ d s. c .fills d (s .copied k) }
 
 pub stepped-none : {l : List ℕ} {w from at size : ℕ} {t : State} → size ≡ 0 → Stepped l l w from at size t
 stepped-none e = record { long = refl; keeps = λ d s x a. a; fills = λ d s i h. absurd (omega arith) }
 
-pub stepped-store : {l : List ℕ} {w from at size : ℕ} {t : State} → w / 256 ≤ 2 → 0 < size → at < length l → Stepped l (set l at t) w from at size t
+pub stepped-store : {l : List ℕ} {w from at size : ℕ} {t : State} → is-call w ≡ false → 0 < size → at < length l → Stepped l (set l at t) w from at size t
 stepped-store {l} {w} {from} {at} {size} {t} k p r = record {
   long = length-set l at t;
   keeps = λ d s. agree-keep d l at t r (s .stored k p .1);
@@ -86,7 +86,7 @@ module _ (rules goal calls answers : List ℕ) where
     source : (wanted : List ℕ) → Placed (addedBy rules goal calls answers) offsets wanted → Done offsets n wanted l → Source wanted m w (getD offsets e 0) at size t
     source d p o = record { copied = copy; stored = store }
       where
-        copy : 2 < w / 256 → Twice d m (getD offsets e 0) at size
+        copy : is-call w ≡ true → Twice d m (getD offsets e 0) at size
         copy c =
             let f : adds (addedBy rules goal calls answers) (step-of w) s t e ≡ addedBy rules goal calls answers e = adds-call (addedBy rules goal calls answers) w s t e c in
             let z : size ≡ length (addedBy rules goal calls answers e) = exact ∙ ap length f in
@@ -97,7 +97,7 @@ module _ (rules goal calls answers : List ℕ) where
               have = λ i h. y .keeps d p o _ (o e (leads-below c to) pos i (omega arith));
             }
 
-        store : w / 256 ≤ 2 → 0 < size → (size ≡ 1) × (t ≡ getD d at 0)
+        store : is-call w ≡ false → 0 < size → (size ≡ 1) × (t ≡ getD d at 0)
         store c g =
             let f : adds (addedBy rules goal calls answers) (step-of w) s t e ≡ shown (step-of w) s t = adds-shown (addedBy rules goal calls answers) w s t e c in
             let z : size ≡ length (shown (step-of w) s t) = exact ∙ ap length f in

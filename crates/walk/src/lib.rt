@@ -12,9 +12,11 @@ use storage::marks;
 use storage::tables;
 use storage::uses;
 ghost use mathlib.Core.Path.{_≡_};
+ghost use mathlib.Core.Bool.{true};
 ghost use mathlib.Core.List.{List};
-ghost use Prim.Native.Nat.{ℕ, _+_, _-_, _*_, _/_, _<_, _≤_};
+ghost use Prim.Native.Nat.{ℕ, _+_, _-_, _*_, _<_, _≤_};
 ghost use lib.ListN.{length, getD, drop};
+ghost use Rattle.steps.specs.Words.{is-call};
 ghost use Rattle.tabling.specs.Records.{Bodies, calls-in, answers-in};
 ghost use Rattle.tabling.proofs.Storage.{Stored};
 ghost use Rattle.tabling.proofs.Growth.{Tables};
@@ -103,7 +105,7 @@ fn enter(
     requires { ⌜ Indexed (now calls) n (now «call_index») (now answers) m (now «answer_index») ⌝ }
     ensures { λ r. ⌜ (length (now (calls .exit)) ≡ length (now (calls .entry))) × Stored 2 (now (calls .exit)) (r .calls) × (r .answers ≡ m) × UsesGrew (now (uses .entry)) (now (uses .exit)) ⌝ }
     ensures { λ r. ⌜ CallIndex (calls-in 2 (now (calls .exit)) (r .calls)) (now («call_index» .exit)) ⌝ }
-    ensures { λ r. ⌜ ((bodies : Bodies) (roots : List (ℕ × ℕ)) (b : Tables) (body : List ℕ) → at < length body → 2 < getD body at 0 / 256 → getD body at 0 ≡ step
+    ensures { λ r. ⌜ ((bodies : Bodies) (roots : List (ℕ × ℕ)) (b : Tables) (body : List ℕ) → at < length body → is-call (getD body at 0) ≡ true → getD body at 0 ≡ step
         → Turning bodies (Among roots) b (job .known) (job .rule) (job .row) (job .walk) body (in-words (now (calls .entry)) n (now (answers .entry)) m) (now (marks .entry)) (now (uses .entry)) (now (chosen .entry)) at (state .0)
         → Stepped (r .front) bodies (Among roots) b job body (length (now (calls .entry))) (length (now (answers .entry))) (now (chosen .entry)) at (state .0)
         (in-words (now (calls .exit)) (r .calls) (now (answers .entry)) m) (now (marks .exit)) (now (uses .exit)) (now (chosen .exit))) ⌝ }

@@ -1,11 +1,11 @@
 -- `advance` meets its contract: the body's end, a call or an elementary step. Assumes nothing.
-use Prim.Native.Nat.{_/_, _<_, _≤_}
 use native.Mathlib.Omega.{arith}
-use mathlib.Core.Path.{refl, sym, ap, _∙_}
+use mathlib.Core.Path.{_≡_, refl, sym, ap, _∙_}
+use mathlib.Core.Bool.{true, false}
 use lib.ListN.{getD, set}
 use lib.Seq.{getD-set-other}
 use borrow.Author.Needs.{needs}
-use borrow.Author.Tests.{ltb-true, ltb-false}
+use Rattle.steps.specs.Words.{is-call}
 use Rattle.steps.specs.Elementary.{elementary}
 use Rattle.steps.specs.Next.{onward}
 use Rattle.tabling.proofs.Evidence.{Among}
@@ -82,7 +82,7 @@ returns-2 c =
     let d = c .before .before .before .before .before .before .before .before .before .before .before .before .before .before .before .before .before .before .before in
     let i = start (d .before) in
     let a = i .args in
-    let yes : 2 < getD (a .rest .now) 0 0 / 256 = ltb-true 2 _ (sym (t .before .is-call .ensures) ∙ t .if2 .taken) in (
+    let yes : is-call (getD (a .rest .now) 0 0) ≡ true = sym (t .before .is-call .ensures) ∙ t .if2 .taken in (
       record {
         calls-long = f .0 .0;
         answers-long = refl;
@@ -137,7 +137,7 @@ returns-4 c =
     let a = i .args in
     let j = a .job in
     let went = sym (e .elementary .ensures) ∙ ap onward (c .enum-told .given .1) in
-    let no : getD (a .rest .now) 0 0 / 256 ≤ 2 = ltb-false 2 _ (sym (l .before .is-call .ensures) ∙ l .if2 .left) in (
+    let no : is-call (getD (a .rest .now) 0 0) ≡ false = sym (l .before .is-call .ensures) ∙ l .if2 .left in (
       record { calls-long = refl; answers-long = refl; kept = i .pre .0 .0; indexed = i .pre .1; uses-more = uses-refl _ },
       λ bodies roots b body q T.
           (let w = tail-word (a .rest .now) body (a .at) q in

@@ -1,10 +1,12 @@
 -- `retreat` meets its contract. The loop's invariant: the places from `place` on have no answer left; the measure is `place`. Assumes nothing.
-use Prim.Native.Nat.{ℕ, _-_, _/_, _<_, _≤_}
+use Prim.Native.Nat.{ℕ, _-_, _<_, _≤_}
 use native.Mathlib.Omega.{arith}
 use mathlib.Core.Path.{_≡_, sym, _∙_}
+use mathlib.Core.Bool.{true, false}
 use borrow.Author.Needs.{needs}
-use borrow.Author.Tests.{ltb-true, ltb-false}
 use lib.ListN.{getD}
+use Rattle.steps.specs.Words.{is-call}
+use Rattle.steps.proofs.EachBelow.{true-not-false}
 use Rattle.tabling.specs.Records.{answers-in}
 use Rattle.tabling.proofs.Sweep.{from-here}
 use Rattle.tabling.proofs.Turn.{SpentRow}
@@ -33,8 +35,8 @@ is-call-requires : tie.Need-is-call-requires Inv-loop μ-loop
 is-call-requires c κs = search needs
 
 -- at a call step: the step is a call, and its chosen answer is one
-a-call : (c : tie.Then1 Inv-loop μ-loop) → 2 < getD (c .before .before .before .before .before .before .before .before .args .body .now) (c .before .before .before .before .loop .place - 1) 0 / 256
-a-call c = ltb-true 2 _ (sym (c .before .is-call .ensures) ∙ c .if1 .taken)
+a-call : (c : tie.Then1 Inv-loop μ-loop) → is-call (getD (c .before .before .before .before .before .before .before .before .args .body .now) (c .before .before .before .before .loop .place - 1) 0) ≡ true
+a-call c = sym (c .before .is-call .ensures) ∙ c .if1 .taken
 
 chosen-below : (c : tie.Then1 Inv-loop μ-loop) → getD (c .before .before .before .before .before .before .before .before .args .chosen .now) (c .before .before .before .before .loop .place - 1) 0 < c .before .before .before .before .before .before .before .before .args .known
 chosen-below c = c .before .before .before .before .before .before .before .before .pre .0 .3 (c .before .before .before .before .loop .place - 1) (omega arith) (a-call c)
@@ -78,8 +80,8 @@ loop-again-2 : tie.Need-loop-again-2 Inv-loop μ-loop
 loop-again-2 c =
     let l = c .before .before .before .before in
     let a = l .before .before .before .before .args in
-    let no : getD (a .body .now) (l .loop .place - 1) 0 / 256 ≤ 2 = ltb-false 2 _ (sym (c .before .is-call .ensures) ∙ c .if1 .left) in
-    (omega arith, from-here (SpentRow (a .body .now) (answers-in 19 (a .answers .now) (a .known)) (a .known) (a .chosen .now)) (λ q b d. l .loop .inv .1 q (omega arith) d) (λ k. absurd (omega arith)))
+    let no : is-call (getD (a .body .now) (l .loop .place - 1) 0) ≡ false = sym (c .before .is-call .ensures) ∙ c .if1 .left in
+    (omega arith, from-here (SpentRow (a .body .now) (answers-in 19 (a .answers .now) (a .known)) (a .known) (a .chosen .now)) (λ q b d. l .loop .inv .1 q (omega arith) d) (λ k. absurd (true-not-false (sym k ∙ no))))
 
 returns-2 : tie.Need-returns-2 Inv-loop μ-loop
 returns-2 c = record { low = omega arith; spent = λ q a b. c .before .loop .inv .1 q (omega arith) b; found = λ p e. absurd (omega arith) }

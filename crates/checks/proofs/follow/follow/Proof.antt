@@ -2,7 +2,7 @@
 use native.Mathlib.Omega.{arith}
 use mathlib.Core.Path.{refl, sym, _∙_}
 use borrow.Author.Needs.{needs}
-use borrow.Author.Tests.{ltb-true, ltb-false, lt-ltb, le-ltb, eq-eqb, ne-eqb}
+use borrow.Author.Tests.{lt-ltb, le-ltb, eq-eqb, ne-eqb}
 use Rattle.steps.specs.Next.{onward}
 use Rattle.checks.proofs.FollowLaws.{follow-call, follow-elementary}
 use Rattle.checks.proofs.follow.follow.Statement.{statement}
@@ -21,24 +21,24 @@ take-requires c κs =
 
 returns : tie.Need-returns
 returns c k m =
-    rw (follow-call _ _ _ _ _ _ (ltb-true 2 _ (sym (c .before .before .before .before .is-call .ensures) ∙ c .before .before .before .if1 .taken)), lt-ltb _ _ (c .before .before .if2 .taken), ← c .before .index .ensures) (c .take .ensures)
+    rw (follow-call _ _ _ _ _ _ (sym (c .before .before .before .before .is-call .ensures) ∙ c .before .before .before .if1 .taken), lt-ltb _ _ (c .before .before .if2 .taken), ← c .before .index .ensures) (c .take .ensures)
 
 returns-2 : tie.Need-returns-2
 unfolding onward
 returns-2 c k m =
-    rw (follow-call _ _ _ _ _ _ (ltb-true 2 _ (sym (c .before .before .is-call .ensures) ∙ c .before .if1 .taken)), le-ltb _ _ (c .if2 .left)) refl
+    rw (follow-call _ _ _ _ _ _ (sym (c .before .before .is-call .ensures) ∙ c .before .if1 .taken), le-ltb _ _ (c .if2 .left)) refl
 
 elementary-requires : tie.Need-elementary-requires
 elementary-requires c κs = search needs
 
 returns-3 : tie.Need-returns-3
 returns-3 c k m =
-    rw (follow-elementary _ _ _ _ _ _ (ltb-false 2 _ (sym (c .before .before .before .is-call .ensures) ∙ c .before .before .if1 .left)), eq-eqb _ 0 (c .before .if3 .taken)) (c .elementary .ensures)
+    rw (follow-elementary _ _ _ _ _ _ (sym (c .before .before .before .is-call .ensures) ∙ c .before .before .if1 .left), eq-eqb _ 0 (c .before .if3 .taken)) (c .elementary .ensures)
 
 returns-4 : tie.Need-returns-4
 unfolding onward
 returns-4 c k m =
-    rw (follow-elementary _ _ _ _ _ _ (ltb-false 2 _ (sym (c .before .before .is-call .ensures) ∙ c .before .if1 .left)), ne-eqb _ 0 (c .if3 .left)) refl
+    rw (follow-elementary _ _ _ _ _ _ (sym (c .before .before .is-call .ensures) ∙ c .before .if1 .left), ne-eqb _ 0 (c .if3 .left)) refl
 
 pub follow-spec : {M : Type 1} → statement M
 follow-spec =

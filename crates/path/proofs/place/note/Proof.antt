@@ -2,7 +2,6 @@
 use native.Mathlib.Omega.{arith}
 use mathlib.Core.Path.{refl, sym, _∙_}
 use borrow.Author.Needs.{needs}
-use borrow.Author.Tests.{ltb-true}
 use Rattle.path.proofs.place.note.Statement.{statement}
 use Rattle.path.proofs.place.note.Tie as tie
 
@@ -10,10 +9,10 @@ is-call-requires : tie.Need-is-call-requires
 is-call-requires c κs = search needs
 
 mul-offsets : tie.Need-mul-offsets
-mul-offsets c = omega (arith, c .before .before .before .pre (ltb-true 2 _ (sym (c .before .is-call .ensures) ∙ c .if1 .taken)))
+mul-offsets c = omega (arith, c .before .before .before .pre (sym (c .before .is-call .ensures) ∙ c .if1 .taken))
 
 slice-write-offsets : tie.Need-slice-write-offsets
-slice-write-offsets c = c .before .before .before .pre (ltb-true 2 _ (sym (c .before .is-call .ensures) ∙ c .if1 .taken))
+slice-write-offsets c = c .before .before .before .pre (sym (c .before .is-call .ensures) ∙ c .if1 .taken)
 
 same-length : tie.Need-same-length
 same-length c = search needs

@@ -2,7 +2,6 @@
 use native.Mathlib.Omega.{arith}
 use mathlib.Core.Path.{refl, sym, _∙_}
 use borrow.Author.Needs.{needs}
-use borrow.Author.Tests.{ltb-true}
 use Rattle.unfolding.proofs.Walk.{leads-below}
 use Rattle.unfolding.proofs.Sizes.{size-of}
 use Rattle.path.proofs.walk.take_step.Statement.{statement}
@@ -15,10 +14,10 @@ is-call-requires : tie.Need-is-call-requires
 is-call-requires c κs = search needs
 
 mul-t11 : tie.Need-mul-t11
-mul-t11 c = omega (arith, leads-below (ltb-true 2 _ (sym (c .before .is-call .ensures) ∙ c .if1 .taken)) (c .before .before .after .ensures), c .before .before .before .before .before .before .pre .0 .most)
+mul-t11 c = omega (arith, leads-below (sym (c .before .is-call .ensures) ∙ c .if1 .taken) (c .before .before .after .ensures), c .before .before .before .before .before .before .pre .0 .most)
 
 shared-slice-read-t13 : tie.Need-shared-slice-read-t13
-shared-slice-read-t13 c = omega (arith, leads-below (ltb-true 2 _ (sym (c .before .before .is-call .ensures) ∙ c .before .if1 .taken)) (c .before .before .before .after .ensures), c .before .before .before .before .before .before .before .pre .1)
+shared-slice-read-t13 c = omega (arith, leads-below (sym (c .before .before .is-call .ensures) ∙ c .before .if1 .taken) (c .before .before .before .after .ensures), c .before .before .before .before .before .before .before .pre .1)
 
 returns : tie.Need-returns
 unfolding size-of

@@ -2,7 +2,6 @@
 use native.Mathlib.Omega.{arith}
 use mathlib.Core.Path.{sym, _∙_}
 use borrow.Author.Needs.{needs}
-use borrow.Author.Tests.{ltb-true, ltb-false}
 use Rattle.unfolding.proofs.Lies.{copied-same}
 use Rattle.unfolding.proofs.Writing.{stepped-copy, stepped-none, stepped-store}
 use Rattle.path.proofs.write.write_step.Statement.{statement}
@@ -12,16 +11,16 @@ is-call-requires : tie.Need-is-call-requires
 is-call-requires c κs = search needs
 
 copy-requires : tie.Need-copy-requires
-copy-requires c κs = (c .before .before .before .before .before .pre .1 (ltb-true 2 _ (sym (c .before .before .before .is-call .ensures) ∙ c .before .before .if1 .taken)), c .before .before .before .before .before .pre .0)
+copy-requires c κs = (c .before .before .before .before .before .pre .1 (sym (c .before .before .before .is-call .ensures) ∙ c .before .before .if1 .taken), c .before .before .before .before .before .pre .0)
 
 same-length : tie.Need-same-length
 same-length c = search needs
 
 returns : tie.Need-returns
-returns c = stepped-copy (ltb-true 2 _ (sym (c .before .before .before .before .before .before .is-call .ensures) ∙ c .before .before .before .before .before .if1 .taken)) (c .before .before .copy .ensures)
+returns c = stepped-copy (sym (c .before .before .before .before .before .before .is-call .ensures) ∙ c .before .before .before .before .before .if1 .taken) (c .before .before .copy .ensures)
 
 returns-2 : tie.Need-returns-2
-returns-2 c = stepped-copy (ltb-true 2 _ (sym (c .before .before .is-call .ensures) ∙ c .before .if1 .taken)) (rw (c .if2 .left) (copied-same _ _ _))
+returns-2 c = stepped-copy (sym (c .before .before .is-call .ensures) ∙ c .before .if1 .taken) (rw (c .if2 .left) (copied-same _ _ _))
 
 mul-list : tie.Need-mul-list
 mul-list c = search needs
@@ -33,7 +32,7 @@ same-length-2 : tie.Need-same-length-2
 same-length-2 c = search needs
 
 returns-3 : tie.Need-returns-3
-returns-3 c = stepped-store (ltb-false 2 _ (sym (c .before .before .is-call .ensures) ∙ c .before .if1 .left)) (omega (arith, c .if3 .taken)) (omega arith)
+returns-3 c = stepped-store (sym (c .before .before .is-call .ensures) ∙ c .before .if1 .left) (omega (arith, c .if3 .taken)) (omega arith)
 
 returns-4 : tie.Need-returns-4
 returns-4 c = stepped-none (c .if3 .left)
