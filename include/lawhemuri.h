@@ -94,7 +94,7 @@ extern "C" {
  *
  * State: 64 bits; fluent k holds exactly if bit k is set.
  * Step: 256 times kind plus index. Kinds: 0 query, 1 insert, 2 delete of a fluent,
- *   3 call of an action.
+ *   3 call of an action, 4 denial of a fluent (goes on if it does not hold).
  * Rule: 18 words: head, step count, 16 step words, unused ones 0.
  * Call record: 2 words: action (64 for the goal), state.
  * Answer record: 19 words: call record number; final state; rule number (256 for the

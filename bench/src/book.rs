@@ -6,6 +6,7 @@ pub const QUERY: u16 = 0;
 pub const INSERT: u16 = 256;
 pub const DELETE: u16 = 512;
 pub const CALL: u16 = 768;
+pub const DENY: u16 = 1024;
 
 /// A book of rules with its goal and start.
 pub struct Book {

@@ -1,20 +1,18 @@
 //! Families of books that grow with a size.
 
-use crate::book::{Book, CALL, DELETE, INSERT, QUERY};
+use crate::book::{Book, CALL, DELETE, DENY, INSERT, QUERY};
 
 /// Deep recursion: a counter of n bits runs from 0 to all ones, one call deeper for each number.
-/// Fluent 2i: bit i is zero; fluent 2i + 1: it is one. Action 0 runs on, action 1 + i adds at bit i.
+/// Fluent i: bit i is one. Action 0 runs on, action 1 + i adds at bit i.
 pub fn counter(n: u16) -> Book {
-    let zeros = (0..n).fold(0u64, |s, i| s | 1 << (2 * i));
-    let mut book = Book::new(2 * u64::from(n), u64::from(n) + 1, zeros);
+    let mut book = Book::new(u64::from(n), u64::from(n) + 1, 0);
     book.rule(0, &[CALL + 1, CALL]);
-    let ones: Vec<u16> = (0..n).map(|i| QUERY + 2 * i + 1).collect();
+    let ones: Vec<u16> = (0..n).map(|i| QUERY + i).collect();
     book.rule(0, &ones);
     for i in 0..n {
-        let (zero, one) = (2 * i, 2 * i + 1);
-        book.rule(1 + i, &[QUERY + zero, DELETE + zero, INSERT + one]);
+        book.rule(1 + i, &[DENY + i, INSERT + i]);
         if i + 1 < n {
-            book.rule(1 + i, &[QUERY + one, DELETE + one, INSERT + zero, CALL + 2 + i]);
+            book.rule(1 + i, &[QUERY + i, DELETE + i, CALL + 2 + i]);
         }
     }
     book.goal(&[CALL])

@@ -66,6 +66,8 @@ impl Tables {
             0 => {}
             1 => self.go(on(p.state | bit)),
             2 => self.go(on(p.state & !bit)),
+            4 if p.state & bit == 0 => self.go(on(p.state)),
+            4 => {}
             _ => {
                 let callee = self.call(book, word % 256, p.state);
                 self.waiting[callee].push(p);

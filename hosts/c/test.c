@@ -139,6 +139,21 @@ static void test_refused_questions(void) {
     EXPECT(lawhemuri_evaluate(0, 0, NULL, 0, NULL, 0, 0, NULL, 0, NULL, 0, NULL, 0).refusal == LAWHEMURI_TABLES_FULL);
 }
 
+/* The step `~`: goes on where the fluent does not hold, and nowhere else. */
+static void test_denial(void) {
+    static const uint16_t deny_b[1] = {1025}, deny_none[1] = {1026}, kind_five[1] = {1280};
+    lawhemuri_sheet s = read_text("fluent\ta\nfluent\tb\nstart\ngoal\t~b\t?a\n", NULL, 0);
+    EXPECT(s.refusal == LAWHEMURI_OK && s.goal_len == 2 && s.goal[0] == 1025 && s.goal[1] == 0);
+    EXPECT(read_text("action\tg\nstart\ngoal\t~g\n", NULL, 0).refusal == LAWHEMURI_UNDEFINED);
+#define DENY(goal, start) \
+    lawhemuri_evaluate(2, 0, NULL, 0, goal, 1, start, calls, WORDS(calls), answers, WORDS(answers), ends, WORDS(ends))
+    lawhemuri_run r = DENY(deny_b, 1);
+    EXPECT(r.refusal == LAWHEMURI_OK && r.ends == 1 && r.calls == 1 && r.answers == 1 && ends[0] == 1);
+    r = DENY(deny_b, 2);
+    EXPECT(r.refusal == LAWHEMURI_OK && r.ends == 0 && r.calls == 1 && r.answers == 0);
+    EXPECT(DENY(deny_none, 0).refusal == LAWHEMURI_BAD_GOAL && DENY(kind_five, 0).refusal == LAWHEMURI_BAD_GOAL);
+}
+
 /* Drill D1: the path of the goal's answer, and each refusal of the path. */
 static void test_path(void) {
     static const uint16_t rules[36] = {0, 1, 256, [18] = 1, 4, 768, 0, 257, 512};
@@ -171,6 +186,7 @@ int main(void) {
     test_refused_sheets();
     test_rooms();
     test_refused_questions();
+    test_denial();
     test_path();
     printf("hosts/c: %s\n", failures == 0 ? "ok" : "failed");
     return failures != 0;

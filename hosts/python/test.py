@@ -56,6 +56,21 @@ class Sheets(unittest.TestCase):
             self.assertEqual((path[0], path[-1]), (str(start_of(text.decode())), end[1]))
 
 
+class Denial(unittest.TestCase):
+    """The step `~`: goes on where the fluent does not hold, and nowhere else."""
+
+    def test_ends(self):
+        for start, ends in (b"a", [1]), (b"b", []):
+            sheet, rules = LIBRARY.read(b"fluent\ta\nfluent\tb\nstart\t" + start + b"\ngoal\t~b\n")
+            self.assertEqual(list(sheet.goal[:2]), [1025, 0])
+            self.assertEqual(LIBRARY.evaluate(sheet, rules)[1], ends)
+
+    def test_action(self):
+        with self.assertRaises(lawhemuri.Refused) as refused:
+            LIBRARY.read(b"action\tg\nstart\ngoal\t~g\n")
+        self.assertEqual((refused.exception.number, refused.exception.line), (16, 3))
+
+
 class ShortList(unittest.TestCase):
     """Drill D2 with a list of one place: 31."""
 

@@ -8,7 +8,7 @@ use lib.ListN.{length, getD, drop, drop-of-length-le}
 use lib.Seq.{drop-cons}
 use lib.Dec.{eqb, ltb}
 use Rattle.steps.specs.State.{State}
-use Rattle.steps.specs.Step.{Step, query, insert, delete, call, Body}
+use Rattle.steps.specs.Step.{Step, query, insert, delete, call, deny, Body}
 use Rattle.steps.specs.Words.{step-of, body-of, is-call}
 use Rattle.steps.specs.Acceptance.{each-below}
 use Rattle.steps.specs.Elementary.{Onward, on, stuck, elementary}
@@ -28,6 +28,7 @@ module _ (calls : Calls) (answers : Answers) (n : ℕ) where
   follow-by (query p) s e l = refl
   follow-by (insert p) s e l = refl
   follow-by (delete p) s e l = refl
+  follow-by (deny p) s e l = refl
 
   -- any other step is done
   pub follow-elementary : (w : ℕ) (s : State) (e : ℕ) → is-call w ≡ false → follow calls answers n (step-of w) s e ≡ cond (eqb e 0) (elementary (step-of w) s) stuck

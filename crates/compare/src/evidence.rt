@@ -34,6 +34,11 @@ fn after(calls: &[u64], answers: &[u64], x: u64, word: u16, e: u64, state: u64) 
             return NONE;
         }
     }
+    if kind == 4 {
+        if relation::has(state, index) {
+            return NONE;
+        }
+    }
     relation::stepped(kind, index, state)
 }
 

@@ -29,6 +29,7 @@ fn put_step(text: &mut [u8], at: usize, word: u16) -> usize {
         0 => put(text, at, &[b'\t', b'?', fluent(index)]),
         1 => put(text, at, &[b'\t', b'+', fluent(index)]),
         2 => put(text, at, &[b'\t', b'-', fluent(index)]),
+        4 => put(text, at, &[b'\t', b'~', fluent(index)]),
         _ => put(text, at, &[b'\t', b'!', action(index)]),
     }
 }

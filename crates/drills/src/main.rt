@@ -1,5 +1,6 @@
-// Drills D11 to D13, a goal cut in two, the path of D9, and each refusal from 10 to 43, with what every buffer holds afterwards.
+// Drills D11 to D13, a goal cut in two, denials, the path of D9, and each refusal from 10 to 43, with what every buffer holds afterwards.
 mod cuts;
+mod denials;
 mod paths;
 mod print;
 mod runs;
@@ -9,5 +10,6 @@ fn main() {
     sheets::all();
     runs::all();
     cuts::all();
+    denials::all();
     paths::all();
 }

@@ -2,7 +2,7 @@
 use crate::print;
 
 // Evaluates with these buffers, and prints what it gives and leaves.
-fn shown<'a>(
+pub fn shown<'a>(
     name: &[u8],
     fluents: u64,
     rules: &'a [u16],

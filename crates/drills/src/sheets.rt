@@ -2,7 +2,7 @@
 use crate::print;
 
 // Prints what the reader gives and leaves.
-fn drill(name: &[u8], text: &[u8]) {
+pub fn drill(name: &[u8], text: &[u8]) {
     let mut rules = [7u16; 40];
     let r = sheet::read(text, &mut rules);
     let goal = r.goal;

@@ -55,6 +55,11 @@ fn image(word: u16, s: u64, rel: &[u64; 32]) -> u64 {
             return 0;
         }
     }
+    if kind == 4 {
+        if has(s, index) {
+            return 0;
+        }
+    }
     single(stepped(kind, index, s))
 }
 

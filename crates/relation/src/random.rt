@@ -18,12 +18,15 @@ fn action(x: u64) -> u16 {
     (pick(x, 13) / 4 % 4) as u16
 }
 
-// A query, insert or delete: of four, one is a query, two are inserts.
+// A query, insert, delete or denial: of five, two are inserts.
 fn elementary(x: u64) -> u16 {
-    let kind = pick(x, 4);
+    let kind = pick(x, 5);
     let fluent = pick(next(x), 3) % 3;
     if kind == 0 {
         return fluent as u16;
+    }
+    if kind == 4 {
+        return (1024 + fluent) as u16;
     }
     (kind % 4 / 3 * 256 + 256 + fluent) as u16
 }

@@ -8,7 +8,7 @@ use lib.Dec.{ltb, eqb}
 use lib.ListN.{length, getD, take, drop, replicate}
 use lib.Seq.{take-append-seam, drop-drop, getD-drop}
 use borrow.Author.Tests.{ltb-true, eqb-true}
-use Rattle.steps.specs.Step.{Step, query, insert, delete, call}
+use Rattle.steps.specs.Step.{Step, query, insert, delete, call, deny}
 use Rattle.steps.specs.Words.{step-by, step-of, body-of, rule-of}
 use Rattle.chars.specs.Bytes.{text, isName}
 use Rattle.chars.specs.Places.{place, placeAfter, among, byteAt}
@@ -19,12 +19,13 @@ use Rattle.sheet.proofs.Verdicts.{followed, required, same-value, not-b
 use Rattle.sheet.proofs.AcceptedLines.{judged-accepted}
 use Rattle.sheet.proofs.Valid.{used-below}
 
--- The step that a field writes: `?`, `+`, `-` (query, insert, delete of a fluent) or `!` (call), then a name. Its index is the name's place among the fluents, for a call among the actions.
+-- The step that a field writes: `?`, `+`, `-` (query, insert, delete of a fluent), `!` (call) or `~` (denial of a fluent), then a name. Its index is the name's place among the fluents, for a call among the actions.
 pub data Writes (y : Symbols) (field : List ℕ) (step : Step) : Type 0 where
   queries : (name : List ℕ) → field ≡ text "?" ++ name → step ≡ query (place name (y .fluents)) → Writes y field step
   inserts : (name : List ℕ) → field ≡ text "+" ++ name → step ≡ insert (place name (y .fluents)) → Writes y field step
   deletes : (name : List ℕ) → field ≡ text "-" ++ name → step ≡ delete (place name (y .fluents)) → Writes y field step
   calls : (name : List ℕ) → field ≡ text "!" ++ name → step ≡ call (place name (y .actions)) → Writes y field step
+  denies : (name : List ℕ) → field ≡ text "~" ++ name → step ≡ deny (place name (y .fluents)) → Writes y field step
 
 -- the byte at its own place
 byte-is : (b : ℕ) (bs : List ℕ) → byteAt b bs < length bs → getD bs (byteAt b bs) 0 ≡ b
@@ -50,13 +51,14 @@ word-step kind index l =
 
 module _ (y : Symbols) (few-fluents : length (y .fluents) ≤ 64) (few-actions : length (y .actions) ≤ 64) where
   -- the kinds, by their marks
-  by-kind : (kind mark : ℕ) (name : List ℕ) (step : Step) → kind < 4 → getD marks kind 0 ≡ mark → step ≡ step-by kind (place name (namesOf y kind)) → Writes y (mark ∷ name) step
+  by-kind : (kind mark : ℕ) (name : List ℕ) (step : Step) → kind < 5 → getD marks kind 0 ≡ mark → step ≡ step-by kind (place name (namesOf y kind)) → Writes y (mark ∷ name) step
   unfolding step-by
   by-kind zero mark name step l m e = queries name (ap (λ (b : ℕ). b ∷ name) (sym m)) e
   by-kind (suc zero) mark name step l m e = inserts name (ap (λ (b : ℕ). b ∷ name) (sym m)) e
   by-kind (suc (suc zero)) mark name step l m e = deletes name (ap (λ (b : ℕ). b ∷ name) (sym m)) e
   by-kind (suc (suc (suc zero))) mark name step l m e = calls name (ap (λ (b : ℕ). b ∷ name) (sym m)) e
-  by-kind (suc (suc (suc (suc k)))) mark name step l m e = absurd (omega arith)
+  by-kind (suc (suc (suc (suc zero)))) mark name step l m e = denies name (ap (λ (b : ℕ). b ∷ name) (sym m)) e
+  by-kind (suc (suc (suc (suc (suc k))))) mark name step l m e = absurd (omega arith)
 
   few-names : (kind : ℕ) → length (namesOf y kind) ≤ 64
   few-names kind = by (eqb kind 3)
@@ -71,12 +73,12 @@ module _ (y : Symbols) (few-fluents : length (y .fluents) ≤ 64) (few-actions :
   step-decoded [] w e = absurd (not-both 14 w e)
   step-decoded (mark ∷ name) w e =
       let kind = byteAt mark marks in
-      let (k, r) = required (ltb kind 4) 14 (λ _. stepFrom kind (usedName (namesOf y kind) name)) w e in
+      let (k, r) = required (ltb kind 5) 14 (λ _. stepFrom kind (usedName (namesOf y kind) name)) w e in
       let (index, u, v) = followed (usedName (namesOf y kind) name) (λ index. accept (256 * kind + index)) w r in
       let few = few-names kind in
       let low = used-below (namesOf y kind) name index u in
       let d = word-step kind index (omega arith) ∙ ap (step-by kind) (used-place (namesOf y kind) name index u) in
-      by-kind kind mark name (step-of w) (ltb-true kind 4 k) (byte-is mark marks (ltb-true kind 4 k)) (ap step-of (sym (same-value v)) ∙ d)
+      by-kind kind mark name (step-of w) (ltb-true kind 5 k) (byte-is mark marks (ltb-true kind 5 k)) (ap step-of (sym (same-value v)) ∙ d)
 
   -- and so do the words of a body, fields from the left
   pub steps-decoded : (fs : List (List ℕ)) (ws : List ℕ) → stepWords y fs ≡ accept ws → Forall₂ (Writes y) fs (body-of ws)

@@ -111,13 +111,13 @@ module _ (s : List ℕ) (a e : ℕ) (y : Symbols) where
   step-empty h = ap (λ (k : ℕ). stepWord y (slice k e s)) h ∙ ap (stepWord y) (slice-empty e s)
 
   module _ (h : a < e) (k : e ≤ length s) where
-    pub step-unmarked : byteAt (getD s a 0) marks ≡ 4 → stepWord y (slice a e s) ≡ refuse 14
+    pub step-unmarked : byteAt (getD s a 0) marks ≡ 5 → stepWord y (slice a e s) ≡ refuse 14
     unfolding stepWord
     step-unmarked q = ap (stepWord y) (slice-cons a e s 0 h k) ∙ rw q
 
-    pub step-marked : (j : ℕ) → byteAt (getD s a 0) marks ≡ j → (j ≡ 4 → ⊥) → stepWord y (slice a e s) ≡ stepFrom j (usedName (namesOf y j) (slice (a + 1) e s))
+    pub step-marked : (j : ℕ) → byteAt (getD s a 0) marks ≡ j → (j ≡ 5 → ⊥) → stepWord y (slice a e s) ≡ stepFrom j (usedName (namesOf y j) (slice (a + 1) e s))
     unfolding stepWord
     step-marked j q p =
         let l = mark-le (getD s a 0) marks in
-        let m : j < 4 = omega arith in
-        ap (stepWord y) (slice-cons a e s 0 h k) ∙ rw (q, lt-ltb j 4 m, add-one)
+        let m : j < 5 = omega arith in
+        ap (stepWord y) (slice-cons a e s 0 h k) ∙ rw (q, lt-ltb j 5 m, add-one)

@@ -73,7 +73,7 @@ unfolding stepWord
 step-word y [] = refuses 14 (λ z. omega arith)
 step-word y (mark ∷ name) =
     let kind = byteAt mark marks in
-    then (require (ltb kind 4) 14) (λ _. stepFrom kind (usedName (namesOf y kind) name)) (requires (ltb kind 4) 14 (λ z. omega arith))
+    then (require (ltb kind 5) 14) (λ _. stepFrom kind (usedName (namesOf y kind) name)) (requires (ltb kind 5) 14 (λ z. omega arith))
     (λ _. then (usedName (namesOf y kind) name) (λ index. accept (256 * kind + index)) (used-name (namesOf y kind) name) (λ index. accepts (256 * kind + index)))
 
 step-words : (y : Symbols) (fs : List (List ℕ)) → Numbered (stepWords y fs)

@@ -19,7 +19,7 @@ use Rattle.sheet.specs.Field.{usedName, stepWord, stepWords, stepFrom, n
 use Rattle.sheet.proofs.Verdicts.{followed, required, same-value, not-both}
 use Rattle.sheet.proofs.AcceptedLines.{action, start, goal, judged-accepted}
 
--- the step words of a body are good, where there are so many fluents and actions: at most 16, each of one of the four kinds and with an index below the count
+-- the step words of a body are good, where there are so many fluents and actions: at most 16, each of one of the five kinds and with an index below the count
 pub record GoodSteps (fluents actions : ℕ) (steps : List ℕ) : Type 0 where
   pub few : length steps ≤ 16
   pub each : (i : ℕ) → i < length steps → good-step fluents actions (getD steps i 0) ≡ true
@@ -46,7 +46,7 @@ module _ (f f′ a a′ : ℕ) (p : f ≤ f′) (q : a ≤ a′) where
   step-more : (w : ℕ) → good-step f a w ≡ true → good-step f′ a′ w ≡ true
   unfolding good-step
   step-more w e =
-      let (k, i) = both (ltb (w / 256) 4) (ltb (w % 256) (cond (eqb (w / 256) 3) a f)) e in
+      let (k, i) = both (ltb (w / 256) 5) (ltb (w % 256) (cond (eqb (w / 256) 3) a f)) e in
       rw k (by (eqb (w / 256) 3) i)
     where
       by : (t : Bool) → ltb (w % 256) (cond t a f) ≡ true → ltb (w % 256) (cond t a′ f′) ≡ true
@@ -81,13 +81,13 @@ module _ (y : Symbols) (few-fluents : length (y .fluents) ≤ 64) (few-actions :
       by false l = (l, omega arith)
 
   -- 256 times kind plus index is a good step
-  word-good : (kind index : ℕ) → kind < 4 → index < length (namesOf y kind) → good-step (length (y .fluents)) (length (y .actions)) (256 * kind + index) ≡ true
+  word-good : (kind index : ℕ) → kind < 5 → index < length (namesOf y kind) → good-step (length (y .fluents)) (length (y .actions)) (256 * kind + index) ≡ true
   unfolding good-step
   word-good kind index k l =
       let (i, j) = index-below kind index l in
       let d : (256 * kind + index) / 256 ≡ kind = omega arith in
       let m : (256 * kind + index) % 256 ≡ index = omega arith in
-      rw (d, m, lt-ltb kind 4 k) (lt-ltb index (cond (eqb kind 3) (length (y .actions)) (length (y .fluents))) i)
+      rw (d, m, lt-ltb kind 5 k) (lt-ltb index (cond (eqb kind 3) (length (y .actions)) (length (y .fluents))) i)
 
   -- the word of an accepted step is a good step
   step-good : (f : List ℕ) (w : ℕ) → stepWord y f ≡ accept w → good-step (length (y .fluents)) (length (y .actions)) w ≡ true
@@ -95,9 +95,9 @@ module _ (y : Symbols) (few-fluents : length (y .fluents) ≤ 64) (few-actions :
   step-good [] w e = absurd (not-both 14 w e)
   step-good (mark ∷ name) w e =
       let kind = byteAt mark marks in
-      let (k, r) = required (ltb kind 4) 14 (λ _. stepFrom kind (usedName (namesOf y kind) name)) w e in
+      let (k, r) = required (ltb kind 5) 14 (λ _. stepFrom kind (usedName (namesOf y kind) name)) w e in
       let (index, u, v) = followed (usedName (namesOf y kind) name) (λ index. accept (256 * kind + index)) w r in
-      let g = word-good kind index (ltb-true kind 4 k) (used-below (namesOf y kind) name index u) in
+      let g = word-good kind index (ltb-true kind 5 k) (used-below (namesOf y kind) name index u) in
       subst (λ (x : ℕ). good-step (length (y .fluents)) (length (y .actions)) x ≡ true) (same-value v) g
 
   -- one good step before others

@@ -43,9 +43,10 @@ startNames b state (f ∷ fs) = do
   next ← startName b state f
   startNames b next fs
 
--- A step is `?`, `+`, `-` (query, insert, delete of a fluent) or `!` (call), then a name. The kinds are numbered in this order.
+-- A step is `?`, `+`, `-` (query, insert, delete of a fluent), `!` (call) or `~` (denial of a fluent), then a name. The kinds are numbered in
+-- this order.
 abbrev pub marks : List ℕ
-marks = text "?+-!"
+marks = text "?+-!~"
 
 -- The names that a step of this kind uses.
 abbrev pub namesOf : Symbols → ℕ → List (List ℕ)
@@ -62,7 +63,7 @@ unfoldable pub stepWord : Symbols → List ℕ → Verdict ℕ
 unfolding byteAt usedName
 stepWord b [] = refuse badField
 stepWord b (mark ∷ name) = do
-  _ ← require (ltb (byteAt mark marks) 4) badField
+  _ ← require (ltb (byteAt mark marks) 5) badField
   stepFrom (byteAt mark marks) (usedName (namesOf b (byteAt mark marks)) name)
 
 -- The words of a body's steps, fields from the left.

@@ -98,7 +98,7 @@ pub fn used_name(s: &[u8], a: usize, e: usize, n: Names, lo: usize, hi: usize) -
     }
 }
 
-// The kind of the step with this mark, or 4.
+// The kind of the step with this mark, or 5.
 fn mark_kind(mark: u8) -> usize
     ensures { λ r. ⌜ r ≡ byteAt mark marks ⌝ }
 {
@@ -107,15 +107,16 @@ fn mark_kind(mark: u8) -> usize
         b'+' => 1,
         b'-' => 2,
         b'!' => 3,
-        _ => 4,
+        b'~' => 4,
+        _ => 5,
     }
 }
 
 // The word of a step of this kind, from the number of its name.
 fn step_of(kind: usize, name: Checked) -> Checked
-    requires { ⌜ (kind < 4) × (name .value < 64) ⌝ }
+    requires { ⌜ (kind < 5) × (name .value < 64) ⌝ }
     ensures { λ r. ⌜ answer (r .refusal) (r .value) ≡ stepFrom kind (answer (name .refusal) (name .value)) ⌝ }
-    ensures { λ r. ⌜ r .value < 1024 ⌝ }
+    ensures { λ r. ⌜ r .value < 1280 ⌝ }
 {
     let r = name.refusal;
     let v = name.value;
@@ -133,7 +134,7 @@ pub fn step(s: &[u8], a: usize, e: usize, n: Names) -> Checked
     requires { ⌜ Held (now s) n ⌝ }
     requires { ⌜ (a ≤ e) × (e ≤ length (now s)) ⌝ }
     ensures { λ r. ⌜ answer (r .refusal) (r .value) ≡ stepWord (symbolsOf (now (s .entry)) n) (slice a e (now (s .entry))) ⌝ }
-    ensures { λ r. ⌜ r .value < 1024 ⌝ }
+    ensures { λ r. ⌜ r .value < 1280 ⌝ }
 {
     if a == e {
         return Checked {
@@ -142,7 +143,7 @@ pub fn step(s: &[u8], a: usize, e: usize, n: Names) -> Checked
         };
     }
     let kind = mark_kind(s[a]);
-    if kind == 4 {
+    if kind == 5 {
         return Checked {
             refusal: refusals::BAD_FIELD,
             value: 0,

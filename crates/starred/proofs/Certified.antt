@@ -6,11 +6,11 @@ use mathlib.Core.List.{List, [], _∷_, _++_, List·Memᴰ, List·Memᴰ·head, 
 use mathlib.Core.Logic.{inl, ⊎-elim}
 use lib.Dec.{T, eqb, eqb→eq, eqb-refl, T-not}
 use Rattle.steps.specs.State.{State, holds, added, removed}
-use Rattle.steps.specs.Step.{Step, query, insert, delete, call, Body, Rule}
+use Rattle.steps.specs.Step.{Step, query, insert, delete, call, deny, Body, Rule}
 use Rattle.steps.specs.Run.{Run, Goal}
 use Rattle.starred.proofs.ListTests.{both, both-l, both-r, both-in, either, true-holds, every, any, every-at, any-at, select, select-in, select-out, flat, flat-in, flat-out}
 use Rattle.steps.proofs.Execution.{Ends}
-use Rattle.steps.proofs.Deductions.{Does, asks, adds, drops}
+use Rattle.steps.proofs.Deductions.{Does, asks, adds, drops, lacks}
 use Rattle.steps.proofs.Tables.{Walk, stands, walks, takes, walk-runs, walk-reached}
 use Rattle.steps.proofs.Exactness.{BodyOf, of-goal, of-rule, Root, Reached, Closed, Exact, exact, Apart, Separate}
 
@@ -32,6 +32,7 @@ unfoldable pub next : List AnswerRow → Step → State → List State
 next A (query p) D = cond (holds D p) (D ∷ []) []
 next A (insert p) D = added D p ∷ []
 next A (delete p) D = removed D p ∷ []
+next A (deny p) D = cond (holds D p) [] (D ∷ [])
 next A (call b) D = select (λ (t : AnswerRow). eqb (t .0) b && eqb (t .1) D) (λ t. t .2) A
 
 abbrev pub Place : Type 0
@@ -47,6 +48,7 @@ module _ (A : List AnswerRow) where
   does-next (asks h) = rw h (List·Memᴰ·head refl)
   does-next adds = List·Memᴰ·head refl
   does-next drops = List·Memᴰ·head refl
+  does-next (lacks h) = rw h (List·Memᴰ·head refl)
 
   takes-next : {b : ℕ} {D D₁ : State} → InAnswers A b D D₁ → List·Memᴰ D₁ (next A (call b) D)
   unfolding next
@@ -68,6 +70,11 @@ module _ (A : List AnswerRow) where
       go false e k = absurd (List·Memᴰ·not-nil k)
   next-walk (insert p) m w = walks adds (rw (List·Memᴰ·eq-of-singleton m) at w)
   next-walk (delete p) m w = walks drops (rw (List·Memᴰ·eq-of-singleton m) at w)
+  next-walk (deny p) {D} {D₁} {E} {rest} {left} m w = go (holds D p) refl m
+    where
+      go : (b : Bool) → holds D p ≡ b → List·Memᴰ D₁ (cond b [] (D ∷ [])) → Walk Does (InAnswers A) D (deny p ∷ rest) E left
+      go true e k = absurd (List·Memᴰ·not-nil k)
+      go false e k = walks (lacks e) (rw (List·Memᴰ·eq-of-singleton k) at w)
   next-walk (call b) {D} {D₁} m w = takes (go (select-out (λ (t : AnswerRow). eqb (t .0) b && eqb (t .1) D) (λ t. t .2) A m)) w
     where
       go : ((t : AnswerRow) × List·Memᴰ t A × T (eqb (t .0) b && eqb (t .1) D) × (D₁ ≡ t .2)) → InAnswers A b D D₁
@@ -127,6 +134,7 @@ kept C A c E [] = any (answer-row (c .0, c .1, E)) A
 kept C A c E (query p ∷ left) = true
 kept C A c E (insert p ∷ left) = true
 kept C A c E (delete p ∷ left) = true
+kept C A c E (deny p ∷ left) = true
 kept C A c E (call b ∷ left) = any (call-row (b, E)) C
 
 unfoldable pub ends-at : State → State → Body → Bool
@@ -138,6 +146,7 @@ comes-at c E [] = false
 comes-at c E (query p ∷ left) = false
 comes-at c E (insert p ∷ left) = false
 comes-at c E (delete p ∷ left) = false
+comes-at c E (deny p ∷ left) = false
 comes-at c E (call b ∷ left) = eqb b (c .0) && eqb E (c .1)
 
 -- some, or every, place of a walk of a body of a call
@@ -178,6 +187,7 @@ unfoldable pub apart : Step → Bool
 apart (query p) = true
 apart (insert p) = true
 apart (delete p) = true
+apart (deny p) = true
 apart (call b) = not (eqb b Goal)
 
 unfoldable pub separate : Run → Bool
@@ -238,6 +248,7 @@ some-come run A c k t = go (some-walk (comes-at k) run A c t)
     go (body, E, query p ∷ left, o, w, h) = absurd h
     go (body, E, insert p ∷ left, o, w, h) = absurd h
     go (body, E, delete p ∷ left, o, w, h) = absurd h
+    go (body, E, deny p ∷ left, o, w, h) = absurd h
     go (body, E, call b ∷ left, o, w, h) =
         let (e, f) = both (eqb b (k .0)) (eqb E (k .1)) h in
         (body, left, o, rw (eqb→eq b (k .0) e, eqb→eq E (k .1) f) at w)

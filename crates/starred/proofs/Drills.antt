@@ -2,16 +2,16 @@
 use Prim.Native.Nat.{ℕ, zero, suc}
 use mathlib.Core.Path.{refl}
 use mathlib.Core.Bool.{Bool, true, cond, not, _&&_, _||_}
-use mathlib.Core.List.{List, [], _∷_, List·Memᴰ, Memᴰ·cast}
+use mathlib.Core.List.{List, [], _∷_, _++_, List·Memᴰ, Memᴰ·cast, Memᴰ·append-left, Memᴰ·append-right}
 use mathlib.Core.Logic.{⊎-elim}
 use lib.Dec.{T, eqb, ltb, eqb→eq, T-not}
 use borrow.Author.Tests.{ltb-true}
 use lib.ListN.{length}
 use Rattle.steps.specs.State.{State}
-use Rattle.steps.specs.Step.{query, insert, delete, call, Body}
+use Rattle.steps.specs.Step.{query, insert, delete, call, deny, Body}
 use Rattle.steps.specs.Run.{Run, Goal}
 use Rattle.steps.specs.Counting.{Rising, rising-nil, rising-cons}
-use Rattle.starred.specs.Drills.{Shown, Drill, run, Shows, Holds, AllHold, word, drills, drill, path, _⟵_}
+use Rattle.starred.specs.Drills.{Shown, Drill, run, Shows, Holds, AllHold, DenialsHold, word, drills, denials, drill, path, _⟵_}
 use Rattle.steps.specs.Words.{step-by, rules-from}
 use Rattle.steps.specs.Acceptance.{each-below, good-step, good-word, good-rule, bad-counts, bad-length, bad-rules, bad-goal, bad-start, words-refusal, refusal-of}
 use Rattle.starred.proofs.ListTests.{both, both-l, both-r, either, holds-true, every, any, every-at, any-at, distinct, distinct-of}
@@ -29,6 +29,7 @@ note c E [] (C, A) = (C, cond (any (answer-row (c .0, c .1, E)) A) A ((c .0, c .
 note c E (query p ∷ left) t = t
 note c E (insert p ∷ left) t = t
 note c E (delete p ∷ left) t = t
+note c E (deny p ∷ left) t = t
 note c E (call b ∷ left) (C, A) = (cond (any (call-row (b, E)) C) C ((b, E) ∷ C), A)
 
 abbrev fold : {X Y : Type 0} → (X → Y → Y) → List X → Y → Y
@@ -45,7 +46,7 @@ rounds : ℕ → Run → Tables → Tables
 rounds zero run t = t
 rounds (suc n) run t = rounds n run (round run t)
 
--- eight rounds are enough for each of the ten
+-- eight rounds are enough for each row
 tables : Run → Tables
 unfolding rounds round note answer-row call-row places bodies next
 tables run = rounds 8 run ((Goal, run .start) ∷ [], [])
@@ -110,11 +111,19 @@ proved d C A t shows =
 passes : Drill → Bool
 passes d = let t = tables (run d) in proves d (t .0) (t .1)
 
-pass : T (every passes drills)
-unfolding passes proves listed answered tables certified drills drill path _⟵_ separate apart closed every-place kept justified some-place ends-at reached comes-at owned call-row answer-row word step-by rules-from refusal-of words-refusal bad-counts bad-length bad-rules bad-goal bad-start each-below good-step good-word good-rule
+pass : T (every passes (drills ++ denials))
+unfolding passes proves listed answered tables certified drills denials drill path _⟵_ separate apart closed every-place kept justified some-place ends-at reached comes-at owned call-row answer-row word step-by rules-from refusal-of words-refusal bad-counts bad-length bad-rules bad-goal bad-start each-below good-step good-word good-rule
 pass = tt
+
+row-holds : (d : Drill) → List·Memᴰ d (drills ++ denials) → Holds d
+unfolding passes
+row-holds d m = proved d (tables (run d) .0) (tables (run d) .1) (every-at passes pass m) (paths-show d m)
 
 -- Every row holds.
 pub drills-hold : AllHold
-unfolding passes drills
-drills-hold = (refl, λ d m. proved d (tables (run d) .0) (tables (run d) .1) (every-at passes pass m) (paths-show d m))
+unfolding drills
+drills-hold = (refl, λ d m. row-holds d (Memᴰ·append-left denials m))
+
+pub denials-hold : DenialsHold
+unfolding denials
+denials-hold = (refl, λ d m. row-holds d (Memᴰ·append-right drills m))

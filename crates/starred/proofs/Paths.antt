@@ -2,7 +2,7 @@
 use Prim.Native.Nat.{ℕ}
 use mathlib.Core.Path.{_≡_, refl, ap₂}
 use mathlib.Core.Bool.{Bool, true, false, _&&_}
-use mathlib.Core.List.{List, [], _∷_, List·Memᴰ}
+use mathlib.Core.List.{List, [], _∷_, _++_, List·Memᴰ}
 use lib.Dec.{T, eqb, eqb→eq}
 use Rattle.steps.specs.Run.{Goal}
 use Rattle.steps.specs.Words.{step-by, rules-from}
@@ -13,7 +13,7 @@ use Rattle.tabling.specs.Records.{follow, follows, justified}
 use Rattle.checks.specs.Checks.{over-room, good-call, good-calls, all-justified, bad-records}
 use Rattle.unfolding.specs.Path.{shown, adds, walked, below, path-of}
 use Rattle.path.specs.Outcome.{fault, answer-records, too-short, refusal-of, count-of, list-after}
-use Rattle.starred.specs.Drills.{Shown, Drill, lent, Shows, word, _⟵_, drill, path, drills}
+use Rattle.starred.specs.Drills.{Shown, Drill, lent, Shows, word, _⟵_, drill, path, drills, denials}
 use Rattle.starred.proofs.ListTests.{both, both-l, both-r, every, every-at}
 use Rattle.starred.proofs.Certified.{certified, separate, closed, justified as grounded, reached, owned, kept, apart, some-place, every-place, ends-at, comes-at, call-row, call-same, answer-row, places, bodies, next}
 use Rattle.starred.proofs.RunTables.{call-at, of-run, finished}
@@ -58,10 +58,10 @@ right-shows d p t =
 all-right : Drill → Bool
 all-right d = every (right d) (d .paths)
 
-pass : T (every all-right drills)
-unfolding all-right right of-goal of-run rows certified separate apart closed every-place kept grounded some-place ends-at reached comes-at owned call-row answer-row places bodies next rules-from same drills drill path _⟵_ word refusal-of count-of list-after fault too-short words-refusal bad-counts bad-length bad-rules bad-goal good-rule good-word good-step each-below over-room bad-records good-calls good-call all-justified bad-start justified follows follow elementary step-by path-of below walked adds shown
+pass : T (every all-right (drills ++ denials))
+unfolding all-right right of-goal of-run rows certified separate apart closed every-place kept grounded some-place ends-at reached comes-at owned call-row answer-row places bodies next rules-from same drills denials drill path _⟵_ word refusal-of count-of list-after fault too-short words-refusal bad-counts bad-length bad-rules bad-goal good-rule good-word good-step each-below over-room bad-records good-calls good-call all-justified bad-start justified follows follow elementary step-by path-of below walked adds shown
 pass = tt
 
-pub paths-show : (d : Drill) → List·Memᴰ d drills → (p : Shown) → List·Memᴰ p (d .paths) → Shows d p
+pub paths-show : (d : Drill) → List·Memᴰ d (drills ++ denials) → (p : Shown) → List·Memᴰ p (d .paths) → Shows d p
 unfolding all-right
 paths-show d m p k = right-shows d p (every-at (right d) (every-at all-right pass m) k)

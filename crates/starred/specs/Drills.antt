@@ -1,11 +1,12 @@
--- The starred drills D1 to D10 of document 01, ten rows of one table, and what a row says of its run and its paths. Assumes nothing.
+-- The starred drills D1 to D10 of document 01, ten rows of one table, rows for request R-2 beside them, and what a row says of its run and its
+-- paths. Assumes nothing.
 use Prim.Native.Nat.{ℕ, _+_, _-_}
 use mathlib.Core.Path.{_≡_}
 use mathlib.Core.List.{List, [], _∷_, _++_, map, List·Memᴰ}
 use mathlib.Core.Logic.{_↔_}
 use lib.ListN.{length, replicate}
 use Rattle.steps.specs.State.{State}
-use Rattle.steps.specs.Step.{Step, query, insert, delete, call, Body}
+use Rattle.steps.specs.Step.{Step, query, insert, delete, call, deny, Body}
 use Rattle.steps.specs.Run.{Run, Goal, End}
 use Rattle.steps.specs.Counting.{Counts, Rising}
 use Rattle.steps.specs.Words.{run-of}
@@ -81,6 +82,7 @@ word (query p) = p
 word (insert p) = 256 + p
 word (delete p) = 512 + p
 word (call a) = 768 + a
+word (deny p) = 1024 + p
 
 infix 20 _⟵_
 unfoldable pub _⟵_ : ℕ → Body → List ℕ
@@ -140,6 +142,24 @@ drills =
     ∷ drill 64 0 [] 0 (insert 63 ∷ []) (9223372036854775808 ∷ []) 1 1 []
     ∷ []
 
+-- Rows for the fifth step (request R-2), beside the ten.
+unfoldable pub denials : List Drill
+unfolding _⟵_ drill path
+denials =
+    -- D14: `~b` goes on in the same state where b does not hold, and has no continuation where it holds, start 2
+    drill 2 0 [] 0 (deny 1 ∷ []) (0 ∷ []) 1 1 []
+    ∷ drill 2 0 [] 2 (deny 1 ∷ []) [] 1 0 []
+    -- D15: in a rule that calls itself first
+    ∷ drill 2 1 ((0 ⟵ call 0 ∷ deny 0 ∷ insert 0 ∷ []) ++ (0 ⟵ insert 1 ∷ [])) 0 (call 0 ∷ []) (2 ∷ 3 ∷ []) 2 4 []
+    -- D16: it adds no state to a path
+    ∷ drill 2 1 (0 ⟵ deny 0 ∷ insert 0 ∷ deny 1 ∷ []) 0 (call 0 ∷ []) (1 ∷ []) 2 2
+    (path (called 64 0 ++ called 0 0) (answered 1 1 0 [] ++ answered 0 1 256 (0 ∷ [])) 1 (replicate 3 9) 0 2 (0 ∷ 1 ∷ 9 ∷ []) ∷ [])
+    ∷ []
+
 -- The statement: ten rows, and each holds.
 abbrev pub AllHold : Type 0
 AllHold = (length drills ≡ 10) × ((d : Drill) → List·Memᴰ d drills → Holds d)
+
+-- The four rows beside them hold too.
+abbrev pub DenialsHold : Type 0
+DenialsHold = (length denials ≡ 4) × ((d : Drill) → List·Memᴰ d denials → Holds d)

@@ -1,2 +1,2 @@
--- Drills: the ten starred drills of document 01 and what a row says.
+-- The starred drills, rows for request R-2 beside them, and what a row says.
 pub mod Drills

@@ -13,8 +13,8 @@ use lib.Seq.{getD-take, getD-drop}
 use lib.Dec.{eqb, ltb}
 use borrow.Author.Tests.{lt-ltb, ltb-true, ltb-false, eqb-true, not-false}
 use Rattle.steps.specs.State.{State, holds, added, removed}
-use Rattle.steps.specs.Step.{Step, query, insert, delete, call, Body, Rule, Book}
-use Rattle.steps.specs.Deduction.{ComesToCall, _⊢_, Move, queries, inserts, deletes, calls, Deduction, done, move}
+use Rattle.steps.specs.Step.{Step, query, insert, delete, call, deny, Body, Rule, Book}
+use Rattle.steps.specs.Deduction.{ComesToCall, _⊢_, Move, queries, inserts, deletes, calls, denies, Deduction, done, move}
 use Rattle.steps.specs.Run.{Goal}
 use Rattle.steps.specs.Words.{step-by, step-of, body-of, head-of, count-of, words-of, book-of, run-of}
 use Rattle.steps.specs.Acceptance.{good-step, good-word, good-rule, bad-counts, bad-length, bad-rules, bad-goal, bad-start, words-refusal, refusal-of}
@@ -32,6 +32,7 @@ Indexed fluents actions (query p) = p < fluents
 Indexed fluents actions (insert p) = p < fluents
 Indexed fluents actions (delete p) = p < fluents
 Indexed fluents actions (call a) = a < actions
+Indexed fluents actions (deny p) = p < fluents
 
 -- rule words and goal that meet none of 20 to 23
 pub record AcceptedWords (fluents actions : ℕ) (rules goal : List ℕ) : Type 0 where
@@ -105,19 +106,20 @@ start-accepted fluents actions rules goal start e = by (eqb (words-refusal fluen
 
 -- ---- indices
 
-step-indexed : (fluents actions k i : ℕ) → k < 4 → i < cond (eqb k 3) actions fluents → Indexed fluents actions (step-by k i)
+step-indexed : (fluents actions k i : ℕ) → k < 5 → i < cond (eqb k 3) actions fluents → Indexed fluents actions (step-by k i)
 unfolding step-by
 step-indexed fluents actions zero i l h = h
 step-indexed fluents actions (suc zero) i l h = h
 step-indexed fluents actions (suc (suc zero)) i l h = h
 step-indexed fluents actions (suc (suc (suc zero))) i l h = h
-step-indexed fluents actions (suc (suc (suc (suc k)))) i l h = absurd (omega arith)
+step-indexed fluents actions (suc (suc (suc (suc zero)))) i l h = h
+step-indexed fluents actions (suc (suc (suc (suc (suc k))))) i l h = absurd (omega arith)
 
 pub good-indexed : (fluents actions w : ℕ) → good-step fluents actions w ≡ true → Indexed fluents actions (step-of w)
 unfolding good-step
 good-indexed fluents actions w e =
-    let (k, i) = both (ltb (w / 256) 4) (ltb (w % 256) (cond (eqb (w / 256) 3) actions fluents)) e in
-    step-indexed fluents actions (w / 256) (w % 256) (ltb-true (w / 256) 4 k) (ltb-true (w % 256) _ i)
+    let (k, i) = both (ltb (w / 256) 5) (ltb (w % 256) (cond (eqb (w / 256) 3) actions fluents)) e in
+    step-indexed fluents actions (w / 256) (w % 256) (ltb-true (w / 256) 5 k) (ltb-true (w % 256) _ i)
 
 -- every step of a body has its index in range
 abbrev pub IndexedBody : ℕ → ℕ → Body → Type 0
@@ -183,6 +185,7 @@ module _ {fluents actions : ℕ} {book : Book} (rules-indexed : (r : Rule) → L
 
   move-kept : {D D′ : State} {xs ys : Body} → Move book (D ⊢ xs) (D′ ⊢ ys) → Kept D xs → Kept D′ ys
   move-kept (queries h) (l, indexed) = (l, tail-indexed indexed)
+  move-kept (denies h) (l, indexed) = (l, tail-indexed indexed)
   move-kept (inserts {D} {p}) (l, indexed) = (added-below fluents p D (indexed (insert p) (List·Memᴰ·head refl)) l, tail-indexed indexed)
   move-kept (deletes {D} {p}) (l, indexed) = (removed-below p D (2 ^ fluents) l, tail-indexed indexed)
   move-kept (calls r m e) (l, indexed) = (l, λ x k. ⊎-elim (rules-indexed r m x) (tail-indexed indexed x) (List·Memᴰ·append-cases (r .body) k))

@@ -1,12 +1,12 @@
 -- Deductions and executions say the same; deductions of a body in two parts. Assumes nothing.
 use Prim.Native.Nat.{ℕ}
 use mathlib.Core.Path.{_≡_, refl}
-use mathlib.Core.Bool.{true}
+use mathlib.Core.Bool.{true, false}
 use mathlib.Core.List.{_∷_, _++_, List·Memᴰ, append-assoc}
 use mathlib.Core.Logic.{_⊎_, _↔_, ⊎-map, ⊎-elim}
 use Rattle.steps.specs.State.{State, holds, added, removed}
-use Rattle.steps.specs.Step.{Step, query, insert, delete, call, Body, Rule, Book}
-use Rattle.steps.specs.Deduction.{Sequent, _⊢_, Move, queries, inserts, deletes, calls, Deduction, done, move, Final, ComesToCall}
+use Rattle.steps.specs.Step.{Step, query, insert, delete, call, deny, Body, Rule, Book}
+use Rattle.steps.specs.Deduction.{Sequent, _⊢_, Move, queries, inserts, deletes, calls, denies, Deduction, done, move, Final, ComesToCall}
 use Rattle.steps.proofs.Execution.{Runs, ended, does, uses, Comes, here, past, inside, after, runs-join, runs-split, comes-left, comes-right, comes-split}
 
 -- An elementary step takes a state to the next one.
@@ -14,6 +14,7 @@ pub data Does : Step → State → State → Type 0 where
   asks : {p : ℕ} {D : State} → holds D p ≡ true → Does (query p) D D
   adds : {p : ℕ} {D : State} → Does (insert p) D (added D p)
   drops : {p : ℕ} {D : State} → Does (delete p) D (removed D p)
+  lacks : {p : ℕ} {D : State} → holds D p ≡ false → Does (deny p) D D
 
 -- The bodies that the rules of a book give an action.
 pub data RuleOf (book : Book) (a : ℕ) : Body → Type 0 where
@@ -24,6 +25,7 @@ module _ {book : Book} where
   runs-move (queries h) p = does (asks h) p
   runs-move inserts p = does adds p
   runs-move deletes p = does drops p
+  runs-move (denies h) p = does (lacks h) p
   runs-move (calls r m e) p = let (n, a, b) = runs-split (r .body) p in uses (rule r m e) a b
 
   pub to-runs : {D D′ : State} {xs : Body} → Final book D xs D′ → Runs Does (RuleOf book) D xs D′
@@ -34,6 +36,7 @@ module _ {book : Book} where
   comes-move (queries h) p = past (asks h) p
   comes-move inserts p = past adds p
   comes-move deletes p = past drops p
+  comes-move (denies h) p = past (lacks h) p
   comes-move (calls r m e) p = ⊎-elim (inside (rule r m e)) (λ (n, a, c). after (rule r m e) a c) (comes-split (r .body) p)
 
   pub to-comes : {b : ℕ} {D E : State} {xs rest : Body} → Deduction book (D ⊢ xs) (E ⊢ call b ∷ rest) → Comes Does (RuleOf book) b E D xs
@@ -45,6 +48,7 @@ module _ {book : Book} where
   move-before zs (queries h) = queries h
   move-before zs inserts = inserts
   move-before zs deletes = deletes
+  move-before zs (denies h) = denies h
   move-before zs (calls r m e) = rw append-assoc (calls r m e)
 
   deduce-before : {D D′ : State} {xs ys : Body} (zs : Body) → Deduction book (D ⊢ xs) (D′ ⊢ ys) → Deduction book (D ⊢ xs ++ zs) (D′ ⊢ ys ++ zs)
@@ -59,11 +63,13 @@ module _ {book : Book} where
   does-move (asks h) = queries h
   does-move adds = inserts
   does-move drops = deletes
+  does-move (lacks h) = denies h
 
   pub move-does : {s : Step} {D D₁ : State} {rest ys : Body} → ((a : ℕ) → s ≡ call a → ⊥) → Move book (D ⊢ s ∷ rest) (D₁ ⊢ ys) → Does s D D₁
   move-does no-call (queries h) = asks h
   move-does no-call inserts = adds
   move-does no-call deletes = drops
+  move-does no-call (denies h) = lacks h
   move-does no-call (calls {a = a} r m e) = absurd (no-call a refl)
 
   -- a deduction of a rule's body, then of the rest, is one of the call and the rest

@@ -20,12 +20,17 @@ module _ (w : ℕ) (s : State) where
   unfolding step-by elementary
   delete-word e = rw e refl
 
-call-by : (k i : ℕ) (s : State) → (k ≡ 0 → ⊥) → (k ≡ 1 → ⊥) → (k ≡ 2 → ⊥) → elementary (step-by k i) s ≡ stuck
-unfolding step-by elementary
-call-by zero i s a b c = absurd (a refl)
-call-by (suc zero) i s a b c = absurd (b refl)
-call-by (suc (suc zero)) i s a b c = absurd (c refl)
-call-by (suc (suc (suc k))) i s a b c = refl
+  pub call-stuck : w / 256 ≡ 3 → elementary (step-of w) s ≡ stuck
+  unfolding step-by elementary
+  call-stuck e = rw e refl
 
-pub other-word : (w : ℕ) (s : State) → (w / 256 ≡ 0 → ⊥) → (w / 256 ≡ 1 → ⊥) → (w / 256 ≡ 2 → ⊥) → elementary (step-of w) s ≡ stuck
-other-word w s = call-by (w / 256) (w % 256) s
+deny-by : (k i : ℕ) (s : State) → (k ≡ 0 → ⊥) → (k ≡ 1 → ⊥) → (k ≡ 2 → ⊥) → (k ≡ 3 → ⊥) → elementary (step-by k i) s ≡ cond (holds s i) stuck (on s)
+unfolding step-by elementary
+deny-by zero i s a b c d = absurd (a refl)
+deny-by (suc zero) i s a b c d = absurd (b refl)
+deny-by (suc (suc zero)) i s a b c d = absurd (c refl)
+deny-by (suc (suc (suc zero))) i s a b c d = absurd (d refl)
+deny-by (suc (suc (suc (suc k)))) i s a b c d = refl
+
+pub deny-word : (w : ℕ) (s : State) → (w / 256 ≡ 0 → ⊥) → (w / 256 ≡ 1 → ⊥) → (w / 256 ≡ 2 → ⊥) → (w / 256 ≡ 3 → ⊥) → elementary (step-of w) s ≡ cond (holds s (w % 256)) stuck (on s)
+deny-word w s = deny-by (w / 256) (w % 256) s

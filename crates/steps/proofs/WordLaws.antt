@@ -8,38 +8,35 @@ use mathlib.Core.Logic.{_↔_}
 use mathlib.Core.List.{List, _∷_, List·Memᴰ, List·Memᴰ·head, List·Memᴰ·tail, List·Memᴰ·not-nil}
 use lib.ListN.{getD, drop, length, length-take}
 use lib.Dec.{ltb}
-use borrow.Author.Tests.{lt-ltb}
+use borrow.Author.Tests.{lt-ltb, eqb-true, eqb-false}
 use Rattle.steps.specs.State.{State, holds, added}
-use Rattle.steps.specs.Step.{Step, query, insert, delete, call, Body, Rule, Book}
+use Rattle.steps.specs.Step.{Step, query, insert, delete, call, deny, Body, Rule, Book}
 use Rattle.steps.specs.Deduction.{_⊢_, Move}
 use Rattle.steps.specs.Words.{is-call, step-by, step-of, count-of, words-of, rule-of, rules-from}
 use Rattle.steps.specs.Elementary.{on, stuck, elementary}
-use Rattle.steps.proofs.EachBelow.{true-not-false}
-use Rattle.steps.proofs.Deductions.{Does, asks, adds, drops, does-move, move-does}
+use Rattle.steps.proofs.Deductions.{Does, asks, adds, drops, lacks, does-move, move-does}
 
 -- ---- calls
 
-call-by : (k i : ℕ) → ltb 2 k ≡ true → step-by k i ≡ call i
+call-by : (k i : ℕ) → k ≡ 3 → step-by k i ≡ call i
 unfolding step-by
-call-by zero i l = absurd (true-not-false (sym l))
-call-by (suc zero) i l = absurd (true-not-false (sym l))
-call-by (suc (suc zero)) i l = absurd (true-not-false (sym l))
-call-by (suc (suc (suc k))) i l = refl
+call-by k i l = rw l refl
 
 -- a word that is a call is one of its index
 pub call-word : (w : ℕ) → is-call w ≡ true → step-of w ≡ call (w % 256)
-call-word w l = call-by (w / 256) (w % 256) l
+call-word w l = call-by (w / 256) (w % 256) (eqb-true (w / 256) 3 l)
 
-by-call : (k i b : ℕ) → ltb 2 k ≡ false → call b ≡ step-by k i → ⊥
+by-call : (k i b : ℕ) → (k ≡ 3 → ⊥) → call b ≡ step-by k i → ⊥
 unfolding step-by
 by-call zero i b l e = let z : _≡_ {A = ℕ} 0 1 = cc in absurd (omega arith)
 by-call (suc zero) i b l e = let z : _≡_ {A = ℕ} 0 1 = cc in absurd (omega arith)
 by-call (suc (suc zero)) i b l e = let z : _≡_ {A = ℕ} 0 1 = cc in absurd (omega arith)
-by-call (suc (suc (suc k))) i b l e = absurd (true-not-false (rw (lt-ltb 2 (suc (suc (suc k))) (omega arith)) at l))
+by-call (suc (suc (suc zero))) i b l e = absurd (l refl)
+by-call (suc (suc (suc (suc k)))) i b l e = let z : _≡_ {A = ℕ} 0 1 = cc in absurd (omega arith)
 
 -- a word that is no call is none as a step
 pub no-call : (w : ℕ) → is-call w ≡ false → (b : ℕ) → step-of w ≡ call b → ⊥
-no-call w l b e = by-call (w / 256) (w % 256) b l (sym e)
+no-call w l b e = by-call (w / 256) (w % 256) b (eqb-false (w / 256) 3 l) (sym e)
 
 call-index : {a b : ℕ} → call a ≡ call b → a ≡ b
 call-index e = cc
@@ -59,6 +56,7 @@ Low (query p) = p < 64
 Low (insert p) = p < 64
 Low (delete p) = p < 64
 Low (call a) = Unit {0}
+Low (deny p) = p < 64
 
 pub on-same : {s t : State} → on s ≡ on t → s ≡ t
 on-same e = cc
@@ -81,12 +79,18 @@ elementary-does (insert p) s t e = by (ltb p 64) e
     by false f = absurd (not-on f)
 elementary-does (delete p) s t e = subst (λ (t : State). Does (delete p) s t) (on-same e) drops
 elementary-does (call a) s t e = absurd (not-on e)
+elementary-does (deny p) s t e = by (holds s p) refl e
+  where
+    by : (b : Bool) → holds s p ≡ b → cond b stuck (on s) ≡ on t → Does (deny p) s t
+    by true h f = absurd (not-on f)
+    by false h f = subst (λ (t : State). Does (deny p) s t) (on-same f) (lacks h)
 
 pub does-elementary : (x : Step) (s t : State) → Low x → Does x s t → elementary x s ≡ on t
 unfolding elementary
 does-elementary (query p) s t l (asks h) = rw h refl
 does-elementary (insert p) s t l adds = rw (lt-ltb p 64 l) refl
 does-elementary (delete p) s t l drops = refl
+does-elementary (deny p) s t l (lacks h) = rw h refl
 
 -- An elementary step is the move of its step in front.
 pub elementary-move : (book : Book) (x : Step) (s t : State) (rest : Body) → Low x → ((a : ℕ) → x ≡ call a → ⊥) → (elementary x s ≡ on t) ↔ Move book (s ⊢ x ∷ rest) (t ⊢ rest)

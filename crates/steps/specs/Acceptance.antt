@@ -5,16 +5,16 @@ use mathlib.Core.Bool.{Bool, true, cond, not, _&&_, _||_}
 use mathlib.Core.List.{List}
 use lib.ListN.{getD, length}
 use lib.Dec.{eqb, ltb}
-use Rattle.steps.specs.Words.{head-of, count-of}
+use Rattle.steps.specs.Words.{kind-of, index-of, is-call, head-of, count-of}
 
 -- The test holds of each number below n.
 unfoldable pub each-below : ℕ → (ℕ → Bool) → Bool
 each-below zero p = true
 each-below (suc n) p = each-below n p && p n
 
--- A good step: its kind is one of the four, and its index is below the count of fluents (of actions for a call).
+-- A good step: its kind is one of the five, and its index is below the count of fluents (of actions for a call).
 unfoldable pub good-step : ℕ → ℕ → ℕ → Bool
-good-step fluents actions w = ltb (w / 256) 4 && ltb (w % 256) (cond (eqb (w / 256) 3) actions fluents)
+good-step fluents actions w = ltb (kind-of w) 5 && ltb (index-of w) (cond (is-call w) actions fluents)
 
 -- Step word i of a rule with n steps is a good step, or unused and 0.
 unfoldable pub good-word : ℕ → ℕ → ℕ → ℕ → ℕ → Bool

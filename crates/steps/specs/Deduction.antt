@@ -1,10 +1,11 @@
--- Deductions: figure 4 of source document 000 for ground rules, with insert and delete as the elementary updates. Assumes nothing.
+-- Deductions: figure 4 of source document 000 for ground rules, with insert and delete as the elementary updates, and the step of request R-2.
+-- Assumes nothing.
 use Prim.Native.Nat.{ℕ}
 use mathlib.Core.Path.{_≡_}
-use mathlib.Core.Bool.{true}
+use mathlib.Core.Bool.{true, false}
 use mathlib.Core.List.{[], _∷_, _++_, List·Memᴰ}
 use Rattle.steps.specs.State.{State, holds, added, removed}
-use Rattle.steps.specs.Step.{query, insert, delete, call, Body, Rule, Book}
+use Rattle.steps.specs.Step.{query, insert, delete, call, deny, Body, Rule, Book}
 
 -- "A sequent is a state and the steps still to do."
 infix 20 _⊢_
@@ -21,6 +22,8 @@ pub data Move (book : Book) : Sequent → Sequent → Type 0 where
   deletes : {D : State} {p : ℕ} {rest : Body} → Move book (D ⊢ delete p ∷ rest) (removed D p ⊢ rest)
   -- "A call of action a in front: is replaced by the body of any one rule whose head is a" (Applying transaction definitions).
   calls : {D : State} {a : ℕ} {rest : Body} (r : Rule) → List·Memᴰ r book → r .head ≡ a → Move book (D ⊢ call a ∷ rest) (D ⊢ r .body ++ rest)
+  -- Request R-2: "goes on in the same state exactly if the fluent does not hold".
+  denies : {D : State} {p : ℕ} {rest : Body} → holds D p ≡ false → Move book (D ⊢ deny p ∷ rest) (D ⊢ rest)
 
 -- A deduction "goes on by any finite number of the moves above".
 pub data Deduction (book : Book) : Sequent → Sequent → Type 0 where

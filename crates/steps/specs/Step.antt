@@ -2,9 +2,9 @@
 use Prim.Native.Nat.{ℕ}
 use mathlib.Core.List.{List}
 
--- "A step is a query, an insert, a delete or a call": the first three of a fluent, the last of an action.
+-- "A step is a query, an insert, a delete or a call", or (request R-2) a denial: the call of an action, the others of a fluent.
 pub data Step : Type 0 where
-  query insert delete call : ℕ → Step
+  query insert delete call deny : ℕ → Step
 
 -- "A body is 0 to 16 steps": that it has at most 16 is what acceptance gives.
 abbrev pub Body : Type 0

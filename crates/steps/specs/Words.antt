@@ -3,9 +3,9 @@ use Prim.Native.Nat.{ℕ, zero, suc, _+_, _*_, _/_, _%_}
 use mathlib.Core.Bool.{Bool}
 use mathlib.Core.List.{List, [], _∷_, map}
 use lib.ListN.{getD, take, drop, length}
-use lib.Dec.{ltb}
+use lib.Dec.{eqb}
 use Rattle.steps.specs.State.{State}
-use Rattle.steps.specs.Step.{Step, query, insert, delete, call, Body, Rule, Book}
+use Rattle.steps.specs.Step.{Step, query, insert, delete, call, deny, Body, Rule, Book}
 use Rattle.steps.specs.Run.{Run}
 
 -- "Step: a 16-bit word, 256 times kind plus index."
@@ -15,16 +15,17 @@ kind-of w = w / 256
 abbrev pub index-of : ℕ → ℕ
 index-of w = w % 256
 
--- A word from kind 3 on is a call: an accepted word has no kind above 3.
+-- A word of kind 3 is a call.
 abbrev pub is-call : ℕ → Bool
-is-call w = ltb 2 (kind-of w)
+is-call w = eqb (kind-of w) 3
 
--- "Kinds: 0 query, 1 insert, 2 delete, 3 call." (A word of another kind is refused, so what it would mean is of no account.)
+-- "Kinds: 0 query, 1 insert, 2 delete, 3 call"; "a fifth step, kind 4". (A word of another kind is refused, so what it would mean is of no account.)
 unfoldable pub step-by : ℕ → ℕ → Step
 step-by zero i = query i
 step-by (suc zero) i = insert i
 step-by (suc (suc zero)) i = delete i
-step-by (suc (suc (suc k))) i = call i
+step-by (suc (suc (suc zero))) i = call i
+step-by (suc (suc (suc (suc k)))) i = deny i
 
 -- The step of a word.
 abbrev pub step-of : ℕ → Step

@@ -25,7 +25,7 @@ fn good_step(fluents: u64, actions: u64, step: u16) -> bool
     if kind == 3 {
         return index < actions;
     }
-    if kind < 4 {
+    if kind < 5 {
         return index < fluents;
     }
     false

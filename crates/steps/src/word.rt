@@ -5,7 +5,7 @@ ghost use Rattle.steps.specs.Words.{kind-of, index-of, is-call, step-of}
 ghost use Rattle.steps.specs.Elementary.{elementary};
 ghost use Rattle.steps.specs.Next.{onward};
 
-// The kind of a step word: 0 query, 1 insert, 2 delete, 3 call.
+// The kind of a step word: 0 query, 1 insert, 2 delete, 3 call, 4 denial.
 pub(crate) fn kind(word: u16) -> u64
     ensures { λ r. ⌜ r ≡ kind-of word ⌝ }
 {
@@ -19,11 +19,11 @@ pub fn index(word: u16) -> u64
     (word % 256) as u64
 }
 
-// Whether a step word is a call. (An accepted word has no kind above 3.)
+// Whether a step word is a call.
 pub fn is_call(word: u16) -> bool
     ensures { λ r. ⌜ r ≡ is-call word ⌝ }
 {
-    2 < word / 256
+    word / 256 == 3
 }
 
 // How a step comes out: it goes on in a state, or has no continuation.
@@ -32,7 +32,7 @@ pub enum Next {
     Stuck,
 }
 
-// One elementary step on a state: what a query, an insert and a delete do is said here alone.
+// One elementary step on a state: what a query, an insert, a delete and a denial do is said here alone.
 pub fn elementary(word: u16, state: State) -> Next
     ensures { λ r. ⌜ onward r ≡ elementary (step-of word) (state .0) ⌝ }
 {
@@ -53,5 +53,11 @@ pub fn elementary(word: u16, state: State) -> Next
     if which == 2 {
         return Next::On(state.delete(k));
     }
-    Next::Stuck
+    if which == 3 {
+        return Next::Stuck;
+    }
+    if state.holds(k) {
+        return Next::Stuck;
+    }
+    Next::On(state)
 }

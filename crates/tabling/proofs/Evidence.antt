@@ -8,7 +8,7 @@ use mathlib.Core.Logic.{_⊎_, inl, inr}
 use lib.ListN.{length, getD, drop, drop-of-length-le}
 use lib.Seq.{drop-cons}
 use Rattle.steps.specs.State.{State}
-use Rattle.steps.specs.Step.{Step, query, insert, delete, call, Body}
+use Rattle.steps.specs.Step.{Step, query, insert, delete, call, deny, Body}
 use Rattle.steps.specs.Words.{step-of, body-of, is-call}
 use Rattle.steps.specs.Elementary.{Onward, on, stuck, elementary}
 use Rattle.steps.proofs.WordLaws.{call-word, elementary-does}
@@ -54,6 +54,7 @@ module _ (b : Tables) (known : ℕ) where
   took (query p) s e t l = did (query p) s e t (elementary (query p) s) refl l
   took (insert p) s e t l = did (insert p) s e t (elementary (insert p) s) refl l
   took (delete p) s e t l = did (delete p) s e t (elementary (delete p) s) refl l
+  took (deny p) s e t l = did (deny p) s e t (elementary (deny p) s) refl l
 
   -- the answers that serve as evidence, as a relation
   abbrev pub Serves : ℕ → State → State → Type 0

@@ -8,12 +8,12 @@ use lib.ListN.{length, length-map}
 use lib.Dec.{eqb, ltb}
 use borrow.Author.Tests.{ltb-true, lt-ltb, eqb-true, eq-eqb}
 use Rattle.steps.specs.State.{State}
-use Rattle.steps.specs.Step.{Step, query, insert, delete, call, Body}
+use Rattle.steps.specs.Step.{Step, query, insert, delete, call, deny, Body}
 use Rattle.steps.specs.Words.{step-of, body-of}
 use Rattle.steps.specs.Elementary.{Onward, on, stuck, elementary}
 use Rattle.steps.proofs.EachBelow.{both, each-at, each-all, true-not-false}
 use Rattle.steps.proofs.WordLaws.{Low, elementary-does, does-elementary, not-on, on-same}
-use Rattle.steps.proofs.Deductions.{Does, asks, adds, drops}
+use Rattle.steps.proofs.Deductions.{Does, asks, adds, drops, lacks}
 use Rattle.steps.proofs.Execution.{Ends}
 use Rattle.steps.proofs.Tables.{Walk, stands, walks, takes, justified-ends}
 use Rattle.tabling.specs.Records.{Bodies, follow, follows, justified}
@@ -48,6 +48,7 @@ module _ (t : Tables) (n : ℕ) where
   follow-out (query p) s e s′ h = elementary-follow (query p) s e s′ (eqb e 0) refl h
   follow-out (insert p) s e s′ h = elementary-follow (insert p) s e s′ (eqb e 0) refl h
   follow-out (delete p) s e s′ h = elementary-follow (delete p) s e s′ (eqb e 0) refl h
+  follow-out (deny p) s e s′ h = elementary-follow (deny p) s e s′ (eqb e 0) refl h
   follow-out (call a) s e s′ h = by (ltb e n && (eqb (t .calls .action (t .answers .call e)) a && eqb (t .calls .state (t .answers .call e)) s)) refl h
     where
       by : (b : Bool) → (ltb e n && (eqb (t .calls .action (t .answers .call e)) a && eqb (t .calls .state (t .answers .call e)) s)) ≡ b → cond b (on (t .answers .final e)) stuck ≡ on s′ → Follow (call a) s e s′
@@ -63,6 +64,7 @@ module _ (t : Tables) (n : ℕ) where
   follow-in l (steps {s = s} {s′} (asks {p} h)) = does-elementary (query p) s s′ l (asks h)
   follow-in l (steps {s = s} {s′} (adds {p})) = does-elementary (insert p) s s′ l adds
   follow-in l (steps {s = s} {s′} (drops {p})) = does-elementary (delete p) s s′ l drops
+  follow-in l (steps {s = s} {s′} (lacks {p} h)) = does-elementary (deny p) s s′ l (lacks h)
 
   follows-out : (xs : Body) (q : ℕ) (s : State) → follows (t .calls) (t .answers) n xs q s ≡ true → Follows xs q s
   unfolding follows

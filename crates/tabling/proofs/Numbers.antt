@@ -7,7 +7,7 @@ use mathlib.Core.List.{List, List·Memᴰ}
 use lib.ListN.{length}
 use lib.Dec.{eqb, ltb}
 use borrow.Author.Tests.{ltb-true, lt-ltb, le-ltb, eqb-true, eqb-false, eq-eqb, ne-eqb}
-use Rattle.steps.specs.Step.{Step, query, insert, delete, call}
+use Rattle.steps.specs.Step.{Step, query, insert, delete, call, deny}
 use Rattle.steps.specs.Run.{Goal}
 use Rattle.steps.specs.Words.{body-of, head-of, words-of}
 use Rattle.steps.proofs.EachBelow.{both}
@@ -48,6 +48,7 @@ module _ (rules goal : List ℕ) where
     indexed-low (query p) h = omega (arith, acc .few-fluents)
     indexed-low (insert p) h = omega (arith, acc .few-fluents)
     indexed-low (delete p) h = omega (arith, acc .few-fluents)
+    indexed-low (deny p) h = omega (arith, acc .few-fluents)
     indexed-low (call a) h = tt
 
     -- Accepted bodies have at most 16 steps, of fluents that a state has.

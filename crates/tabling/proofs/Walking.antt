@@ -10,7 +10,7 @@ use mathlib.Core.Logic.{_⊎_, inl, inr, ⊎-elim}
 use lib.ListN.{length, getD, set}
 use lib.Seq.{getD-set-same, getD-set-other}
 use Rattle.steps.specs.State.{State}
-use Rattle.steps.specs.Step.{Step, query, insert, delete, call}
+use Rattle.steps.specs.Step.{Step, query, insert, delete, call, deny}
 use Rattle.steps.specs.Words.{step-of, is-call}
 use Rattle.steps.specs.Elementary.{Onward, on, stuck, elementary}
 use Rattle.steps.proofs.WordLaws.{call-word, no-call, not-on}
@@ -32,6 +32,7 @@ move-step (call a) s = calls (a, s)
 move-step (query p) s = front (elementary (query p) s)
 move-step (insert p) s = front (elementary (insert p) s)
 move-step (delete p) s = front (elementary (delete p) s)
+move-step (deny p) s = front (elementary (deny p) s)
 
 abbrev pub move : ℕ → State → Front State (ℕ × State)
 move w s = move-step (step-of w) s
@@ -41,6 +42,7 @@ unfolding move-step elementary
 step-on (query p) s t e = rw e refl
 step-on (insert p) s t e = rw e refl
 step-on (delete p) s t e = ap front e
+step-on (deny p) s t e = rw e refl
 step-on (call a) s t e = absurd (not-on e)
 
 pub move-call : (w : ℕ) (s : State) → is-call w ≡ true → move w s ≡ calls (w % 256, s)
@@ -55,6 +57,7 @@ unfolding move-step
 step-stuck (query p) s n e = ap front e
 step-stuck (insert p) s n e = ap front e
 step-stuck (delete p) s n e = ap front e
+step-stuck (deny p) s n e = ap front e
 step-stuck (call a) s n e = absurd (n a refl)
 
 pub move-stuck : (w : ℕ) (s : State) → is-call w ≡ false → elementary (step-of w) s ≡ stuck → move w s ≡ graph.stuck

@@ -5,7 +5,7 @@ use mathlib.Core.List.{List, [], _∷_}
 use lib.ListN.{getD, length}
 use lib.Dec.{eqb, ltb}
 use Rattle.steps.specs.State.{State}
-use Rattle.steps.specs.Step.{Step, query, insert, delete, call, Body}
+use Rattle.steps.specs.Step.{Step, query, insert, delete, call, deny, Body}
 use Rattle.steps.specs.Run.{Goal}
 use Rattle.steps.specs.Words.{body-of, head-of, words-of}
 use Rattle.steps.specs.Acceptance.{each-below}
@@ -64,6 +64,7 @@ module _ (calls : Calls) (answers : Answers) (n : ℕ) where
   follow (query p) s e = cond (eqb e 0) (elementary (query p) s) stuck
   follow (insert p) s e = cond (eqb e 0) (elementary (insert p) s) stuck
   follow (delete p) s e = cond (eqb e 0) (elementary (delete p) s) stuck
+  follow (deny p) s e = cond (eqb e 0) (elementary (deny p) s) stuck
 
   -- Walking the steps from place q on, from state s, ends in record n's final state; evidence past the steps is 0.
   unfoldable pub follows : Body → ℕ → State → Bool

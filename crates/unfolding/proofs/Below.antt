@@ -7,7 +7,7 @@ use mathlib.Core.List.{List, [], _∷_, _++_}
 use lib.Dec.{eqb, ltb}
 use borrow.Author.Tests.{eq-eqb, ne-eqb, eqb-true, eqb-false, ltb-true}
 use Rattle.steps.specs.State.{State}
-use Rattle.steps.specs.Step.{Step, query, insert, delete, call, Body}
+use Rattle.steps.specs.Step.{Step, query, insert, delete, call, deny, Body}
 use Rattle.steps.specs.Words.{body-of}
 use Rattle.steps.specs.Elementary.{Onward, on, stuck}
 use Rattle.steps.proofs.EachBelow.{both}
@@ -31,6 +31,7 @@ module _ (calls : Calls) (answers : Answers) (n : ℕ) (f g : ℕ → List State
   adds-same (query p) s t e h = refl
   adds-same (insert p) s t e h = refl
   adds-same (delete p) s t e h = refl
+  adds-same (deny p) s t e h = refl
   adds-same (call a) s t e h = same e (call-below calls answers n a s t e h)
 
   -- only what the records below add counts
@@ -92,6 +93,7 @@ module _ (calls answers : List ℕ) (k m k′ m′ : ℕ) where
   follow-uncounted n (query p) s e = refl
   follow-uncounted n (insert p) s e = refl
   follow-uncounted n (delete p) s e = refl
+  follow-uncounted n (deny p) s e = refl
   follow-uncounted n (call a) s e = refl
 
   pub follows-uncounted : (n : ℕ) (xs : Body) (q : ℕ) (s : State) → follows C A n xs q s ≡ follows C′ A′ n xs q s

@@ -9,15 +9,15 @@ use lib.ListN.{length}
 use lib.Dec.{eqb, ltb}
 use borrow.Author.Tests.{eqb-true, eqb-false, ne-eqb, ltb-true}
 use Rattle.steps.specs.State.{State}
-use Rattle.steps.specs.Step.{Step, query, insert, delete, call, Body, Rule, Book}
-use Rattle.steps.specs.Deduction.{_⊢_, queries, inserts, deletes, calls as replaces, Deduction, done, move, Final}
+use Rattle.steps.specs.Step.{Step, query, insert, delete, call, deny, Body, Rule, Book}
+use Rattle.steps.specs.Deduction.{_⊢_, queries, inserts, deletes, calls as replaces, denies, Deduction, done, move, Final}
 use Rattle.steps.specs.Run.{Goal, body-of-call}
 use Rattle.steps.specs.Words.{body-of, words-of, rule-of, book-of, run-of}
 use Rattle.steps.specs.Elementary.{Onward, on, stuck, elementary}
 use Rattle.steps.proofs.EachBelow.{both, true-not-false}
 use Rattle.steps.proofs.Lists.{at-member}
 use Rattle.steps.proofs.WordLaws.{elementary-does, not-on, on-same, book-length, book-at}
-use Rattle.steps.proofs.Deductions.{Does, asks, adds, drops}
+use Rattle.steps.proofs.Deductions.{Does, asks, adds, drops, lacks}
 use Rattle.steps.proofs.Exactness.{Apart, Separate}
 use Rattle.steps.proofs.AcceptanceLaws.{AcceptedWords, separate}
 use Rattle.tabling.specs.Records.{Calls, Answers, Bodies, bodies-of, follow, follows, justified}
@@ -41,6 +41,7 @@ unfolding states move-states
 does-step (asks h) d = (move (queries h) d, refl)
 does-step adds d = (move inserts d, refl)
 does-step drops d = (move deletes d, refl)
+does-step (lacks h) d = (move (denies h) d, refl)
 
 done-step : {book : Book} (x : Step) {s t f : State} {rest : Body} (b : Bool) → cond b (elementary x s) stuck ≡ on t → (d : Final book t rest f)
     → (d′ : Final book s (x ∷ rest) f) × (shown x s t ++ states d ≡ states d′)
@@ -87,6 +88,7 @@ module _ (rules goal : List ℕ) (calls : Calls) (answers : Answers) (apart : Se
     step (query p) rest s t e ne h d = done-step (query p) (eqb e 0) h d
     step (insert p) rest s t e ne h d = done-step (insert p) (eqb e 0) h d
     step (delete p) rest s t e ne h d = done-step (delete p) (eqb e 0) h d
+    step (deny p) rest s t e ne h d = done-step (deny p) (eqb e 0) h d
     step (call a) rest s t e ne h d = by (ltb e n && (eqb (calls .action (answers .call e)) a && eqb (calls .state (answers .call e)) s)) refl h
       where
         by : (b : Bool) → (ltb e n && (eqb (calls .action (answers .call e)) a && eqb (calls .state (answers .call e)) s)) ≡ b → cond b (on (answers .final e)) stuck ≡ on t

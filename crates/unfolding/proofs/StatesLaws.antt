@@ -8,8 +8,8 @@ use lib.ListN.{length, length-append}
 use lib.Pow.{pow-pos}
 use borrow.Author.Tests.{eq-eqb, ne-eqb}
 use Rattle.steps.specs.State.{State, holds, added, removed}
-use Rattle.steps.specs.Step.{Step, query, insert, delete, Body, Book}
-use Rattle.steps.specs.Deduction.{Sequent, _⊢_, queries, inserts, deletes, calls, Deduction, done, move}
+use Rattle.steps.specs.Step.{Step, query, insert, delete, deny, Body, Book}
+use Rattle.steps.specs.Deduction.{Sequent, _⊢_, queries, inserts, deletes, calls, denies, Deduction, done, move}
 use Rattle.steps.proofs.StateLaws.{held, has}
 use Rattle.unfolding.specs.Path.{shown}
 use Rattle.unfolding.specs.States.{move-states, states, move-changes, changes, gains, loses, Chain, ends, next}
@@ -64,6 +64,7 @@ module _ {book : Book} where
   states-chain (move (inserts {p = p}) d) = one-added (insert p) p (states d) (states-chain d)
   states-chain (move (deletes {p = p}) d) = one-removed (delete p) p (states d) (states-chain d)
   states-chain (move (calls r m e) d) = states-chain d
+  states-chain {D} {D′} (move (denies {p = p} h) d) = rw (shown-same (deny p) D) (states-chain d)
 
   -- there are as many as changes
   pub states-length : {S T : Sequent} (d : Deduction book S T) → length (states d) ≡ changes d
@@ -81,6 +82,7 @@ module _ {book : Book} where
       by true = refl
       by false = refl
   states-length (move (calls r m e) d) = rw (states-length d) (omega arith)
+  states-length (move (denies {D} {p} h) d) = rw (shown-same (deny p) D, states-length d) (omega arith)
 
   -- ---- deductions in parts
 
@@ -99,6 +101,7 @@ module _ {book : Book} where
   before zs (move (queries h) d) = let (d′, e) = before zs d in (move (queries h) d′, rw e refl)
   before zs (move inserts d) = let (d′, e) = before zs d in (move inserts d′, rw e refl)
   before zs (move deletes d) = let (d′, e) = before zs d in (move deletes d′, rw e refl)
+  before zs (move (denies h) d) = let (d′, e) = before zs d in (move (denies h) d′, rw e refl)
   before {D} {D′} {ys = ys} zs (move (calls {rest = rest} r m e) d) =
       let (d′, f) = subst (λ (us : Body). (d′ : Deduction book (D ⊢ us) (D′ ⊢ ys ++ zs)) × (states d′ ≡ states d)) (append-assoc (r .body) rest zs) (before zs d) in
       (move (calls r m e) d′, f)

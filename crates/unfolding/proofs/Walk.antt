@@ -10,7 +10,7 @@ use lib.Seq.{drop-cons}
 use lib.Dec.{eqb}
 use borrow.Author.Tests.{eqb-true}
 use Rattle.steps.specs.State.{State}
-use Rattle.steps.specs.Step.{Step, query, insert, delete, call, Body}
+use Rattle.steps.specs.Step.{Step, query, insert, delete, call, deny, Body}
 use Rattle.steps.specs.Words.{step-by, step-of, body-of, is-call}
 use Rattle.steps.specs.Elementary.{Onward, on, stuck, elementary}
 use Rattle.steps.proofs.EachBelow.{true-not-false}
@@ -96,6 +96,7 @@ adds-by f (call a) s t e l = absurd (l a refl)
 adds-by f (query p) s t e l = refl
 adds-by f (insert p) s t e l = refl
 adds-by f (delete p) s t e l = refl
+adds-by f (deny p) s t e l = refl
 
 pub adds-shown : (f : ℕ → List State) (w : ℕ) (s t : State) (e : ℕ) → is-call w ≡ false → adds f (step-of w) s t e ≡ shown (step-of w) s t
 adds-shown f w s t e l = adds-by f (step-of w) s t e (no-call w l)

@@ -4,7 +4,7 @@ use mathlib.Core.Bool.{cond}
 use mathlib.Core.List.{List, [], _∷_, _++_}
 use lib.Dec.{eqb}
 use Rattle.steps.specs.State.{State}
-use Rattle.steps.specs.Step.{Step, query, insert, delete, call, Body}
+use Rattle.steps.specs.Step.{Step, query, insert, delete, call, deny, Body}
 use Rattle.steps.specs.Words.{body-of}
 use Rattle.steps.specs.Elementary.{on, stuck}
 use Rattle.tabling.specs.Records.{Calls, Answers, Bodies, follow}
@@ -19,6 +19,7 @@ adds earlier (call a) s t e = earlier e
 adds earlier (query p) s t e = shown (query p) s t
 adds earlier (insert p) s t e = shown (insert p) s t
 adds earlier (delete p) s t e = shown (delete p) s t
+adds earlier (deny p) s t e = shown (deny p) s t
 
 -- What walking the steps of record n from place q on, from state s, adds.
 unfoldable pub walked : Calls → Answers → ℕ → (ℕ → List State) → Body → ℕ → State → List State

@@ -4,8 +4,8 @@ use mathlib.Core.Path.{_≡_}
 use mathlib.Core.Bool.{true, false, cond}
 use mathlib.Core.List.{List, [], _∷_, _++_}
 use Rattle.steps.specs.State.{State, holds, added, removed}
-use Rattle.steps.specs.Step.{query, insert, delete, Book}
-use Rattle.steps.specs.Deduction.{Sequent, Move, queries, inserts, deletes, calls, Deduction, done, move}
+use Rattle.steps.specs.Step.{query, insert, delete, deny, Book}
+use Rattle.steps.specs.Deduction.{Sequent, Move, queries, inserts, deletes, calls, denies, Deduction, done, move}
 use Rattle.unfolding.specs.Path.{shown}
 
 module _ {book : Book} where
@@ -15,6 +15,7 @@ module _ {book : Book} where
   move-states (inserts {D} {p}) = shown (insert p) D (added D p)
   move-states (deletes {D} {p}) = shown (delete p) D (removed D p)
   move-states (calls r m e) = []
+  move-states (denies {D} {p} h) = shown (deny p) D D
 
   -- The states of a deduction after its first.
   unfoldable pub states : {S T : Sequent} → Deduction book S T → List State
@@ -28,6 +29,7 @@ module _ {book : Book} where
   move-changes (inserts {D} {p}) = cond (holds D p) 0 1
   move-changes (deletes {D} {p}) = cond (holds D p) 1 0
   move-changes (calls r m e) = 0
+  move-changes (denies h) = 0
 
   unfoldable pub changes : {S T : Sequent} → Deduction book S T → ℕ
   unfolding move-changes

@@ -112,6 +112,24 @@ fn refused_questions_leave_the_buffers() {
     }
 }
 
+/// The step `~` goes on where the fluent does not hold, and nowhere else.
+#[test]
+fn denial() {
+    let sheet = read(b"fluent\ta\nfluent\tb\nstart\ngoal\t~b\t?a\n", &mut []).unwrap();
+    assert_eq!(sheet.goal(), [1025, 0]);
+    let refused = read(b"action\tg\nstart\ngoal\t~g\n", &mut []).unwrap_err();
+    assert_eq!(refused, Unread { refusal: Refusal::Undefined, line: 3 });
+    let asked = Question { fluents: 2, actions: 0, rules: &[], goal: &[1025], start: 1 };
+    let (run, _, _, ends) = with_rooms(&asked, 2, 2, 2);
+    assert_eq!((run, ends), (Ok(Run { ends: 1, calls: 1, answers: 1 }), vec![1, MARK]));
+    let (run, ..) = with_rooms(&Question { start: 2, ..asked }, 2, 2, 2);
+    assert_eq!(run, Ok(Run { ends: 0, calls: 1, answers: 0 }));
+    for goal in [[1026], [1280]] {
+        let (run, ..) = with_rooms(&Question { goal: &goal, ..asked }, 2, 2, 2);
+        assert_eq!(run.unwrap_err().refusal, Refusal::BadGoal);
+    }
+}
+
 #[test]
 fn numbers_of_refusals() {
     let numbers = [10, 11, 12, 13, 14, 15, 16, 17, 18, 19, 20, 21, 22, 23, 24, 30, 31, 40, 41, 42, 43];

@@ -30,9 +30,14 @@ returns-4 c =
 returns-5 : tie.Need-returns-5
 unfolding byteAt
 returns-5 c =
+    ap (λ (m : ℕ). byteAt m marks) (sym (c .match .keys5))
+
+returns-6 : tie.Need-returns-6
+unfolding byteAt
+returns-6 c =
     let m = c .before .args .mark in
     let r = c .match .rest in
-    rw (ne-eqb 63 m (λ e. r .0 .0 .0 .1 (sym e)), ne-eqb 43 m (λ e. r .0 .0 .1 (sym e)), ne-eqb 45 m (λ e. r .0 .1 (sym e)), ne-eqb 33 m (λ e. r .1 (sym e)))
+    rw (ne-eqb 63 m (λ e. r .0 .0 .0 .0 .1 (sym e)), ne-eqb 43 m (λ e. r .0 .0 .0 .1 (sym e)), ne-eqb 45 m (λ e. r .0 .0 .1 (sym e)), ne-eqb 33 m (λ e. r .0 .1 (sym e)), ne-eqb 126 m (λ e. r .1 (sym e)))
 
 pub mark-kind-spec : {M : Type 1} → statement M
-mark-kind-spec = tie.close (tie.spec returns returns-2 returns-3 returns-4 returns-5)
+mark-kind-spec = tie.close (tie.spec returns returns-2 returns-3 returns-4 returns-5 returns-6)

@@ -48,7 +48,7 @@ returns-3 c =
     let b = c .before .before .before .before .before .before .before .before .before in
     let a = b .args in
     let q = sym (c .before .before .before .before .before .mark-kind .ensures) ∙ c .before .before .before .if3 .taken in
-    let f = step-marked (now (a .s)) (a .a) (a .e) (symbolsOf (now (a .s)) (a .n)) (omega arith) (b .pre .1 .1) 3 q (eqb-false 3 4 refl) in
+    let f = step-marked (now (a .s)) (a .a) (a .e) (symbolsOf (now (a .s)) (a .n)) (omega arith) (b .pre .1 .1) 3 q (eqb-false 3 5 refl) in
     let g : a .n .fluents + a .n .actions - a .n .fluents ≡ a .n .actions = omega arith in
     let u = c .before .used-name .ensures .0 in
     (c .step-of .ensures .0 ∙ ap (stepFrom 3) (rw g at u) ∙ sym f, c .step-of .ensures .1)

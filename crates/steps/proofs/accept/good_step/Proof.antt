@@ -23,13 +23,13 @@ returns-2 : tie.Need-returns-2
 unfolding good-step
 returns-2 c =
     let e = c .before .before .before .kind .ensures in
-    rw (← e, lt-ltb _ 4 (c .if2 .taken), ne-eqb _ 3 (c .before .if1 .left), c .before .before .index .ensures) refl
+    rw (← e, lt-ltb _ 5 (c .if2 .taken), ne-eqb _ 3 (c .before .if1 .left), c .before .before .index .ensures) refl
 
 returns-3 : tie.Need-returns-3
 unfolding good-step
 returns-3 c =
     let e = c .before .before .before .kind .ensures in
-    rw (← e, le-ltb _ 4 (c .if2 .left)) refl
+    rw (← e, le-ltb _ 5 (c .if2 .left)) refl
 
 pub good-step-spec : {M : Type 1} → statement M
 good-step-spec = tie.close (tie.spec kind-requires index-requires returns returns-2 returns-3)

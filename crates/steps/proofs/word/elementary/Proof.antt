@@ -5,7 +5,7 @@ use mathlib.Core.Path.{refl, sym, _∙_}
 use borrow.Author.Needs.{needs}
 use borrow.Author.Tests.{lt-ltb, le-ltb}
 use Rattle.steps.specs.Next.{onward}
-use Rattle.steps.proofs.ElementaryLaws.{query-word, insert-word, delete-word, other-word}
+use Rattle.steps.proofs.ElementaryLaws.{query-word, insert-word, delete-word, call-stuck, deny-word}
 use Rattle.steps.proofs.word.elementary.Statement.{statement}
 use Rattle.steps.proofs.word.elementary.Tie as tie
 
@@ -63,10 +63,28 @@ returns-5 c =
 returns-6 : tie.Need-returns-6
 unfolding onward
 returns-6 c =
-    let i = c .before .before .before in
+    let i = c .before .before .before .before in
+    let a = i .before .before .args in
+    sym (call-stuck (a .word) (a .state .0) (sym (i .before .kind .ensures) ∙ c .if6 .taken))
+
+holds-requires-2 : tie.Need-holds-requires-2
+holds-requires-2 c κs = search needs
+
+returns-7 : tie.Need-returns-7
+unfolding onward
+returns-7 c =
+    let i = c .before .before .before .before .before .before in
     let a = i .before .before .args in
     let k = i .before .kind .ensures in
-    sym (other-word (a .word) (a .state .0) (λ e. c .before .before .if1 .left (k ∙ e)) (λ e. c .before .if3 .left (k ∙ e)) (λ e. c .if5 .left (k ∙ e)))
+    rw (deny-word (a .word) (a .state .0) (λ e. c .before .before .before .before .before .if1 .left (k ∙ e)) (λ e. c .before .before .before .before .if3 .left (k ∙ e)) (λ e. c .before .before .before .if5 .left (k ∙ e)) (λ e. c .before .before .if6 .left (k ∙ e)), ← i .index .ensures, ← c .before .holds2 .ensures, c .if7 .taken) refl
+
+returns-8 : tie.Need-returns-8
+unfolding onward
+returns-8 c =
+    let i = c .before .before .before .before .before .before in
+    let a = i .before .before .args in
+    let k = i .before .kind .ensures in
+    rw (deny-word (a .word) (a .state .0) (λ e. c .before .before .before .before .before .if1 .left (k ∙ e)) (λ e. c .before .before .before .before .if3 .left (k ∙ e)) (λ e. c .before .before .before .if5 .left (k ∙ e)) (λ e. c .before .before .if6 .left (k ∙ e)), ← i .index .ensures, ← c .before .holds2 .ensures, c .if7 .left) refl
 
 pub elementary-spec : {M : Type 1} → statement M
 elementary-spec =
@@ -82,4 +100,7 @@ elementary-spec =
     returns-4
     delete-requires
     returns-5
-    returns-6)
+    returns-6
+    holds-requires-2
+    returns-7
+    returns-8)
