@@ -185,11 +185,11 @@ lawhemuri_run lawhemuri_evaluate(uint64_t fluents, uint64_t actions,
                                  uint64_t *ends, size_t ends_len);
 
 /* Lists the path of an answer record (refusals 20 to 23, then 40 to 43): the call's
- * state, then the state after each update of the execution that the record's evidence
- * unfolds to; equal neighbours are joined into one. The tables may come from anybody:
- * all records counted are checked first. The tables that lawhemuri_evaluate leaves,
- * with the same counts, rules and goal and with the record counts of its result, are
- * never refused with 42.
+ * state, then one state for each update of the execution that the record's evidence
+ * unfolds to, also where the update changes nothing; queries and denials add none. The
+ * tables may come from anybody: all records counted are checked first. The tables that
+ * lawhemuri_evaluate leaves, with the same counts, rules and goal and with the record
+ * counts of its result, are never refused with 42.
  *
  * states: no refusal, the first result.states words are the states and the list past
  *   them is unchanged; refused, it is unchanged. The tables are only read.

@@ -12,10 +12,11 @@ struct Chain {
     others: &'static [u16],
 }
 
-const CHAINS: [Chain; 4] = [
+const CHAINS: [Chain; 5] = [
     Chain { name: "right", first: &[], others: &[INSERT, DELETE, CALL] },
     Chain { name: "left", first: &[], others: &[CALL, INSERT, DELETE] },
     Chain { name: "twice", first: &[INSERT, DELETE], others: &[CALL, CALL] },
+    Chain { name: "idle", first: &[], others: &[CALL, DELETE, DELETE] },
     Chain { name: "empty", first: &[], others: &[CALL, CALL] },
 ];
 

@@ -180,6 +180,20 @@ static void test_path(void) {
     EXPECT(p.refusal == LAWHEMURI_BAD_RECORD && p.states == 0 && all(states, WORDS(states), MARK));
 }
 
+/* Drill D5: an insert of what holds is an update too, so its path has two states. */
+static void test_idle_update(void) {
+    static const uint16_t goal[1] = {256};
+    uint64_t states[3];
+    lawhemuri_run r = lawhemuri_evaluate(2, 0, NULL, 0, goal, 1, 1, calls, WORDS(calls), answers, WORDS(answers), ends, WORDS(ends));
+    EXPECT(r.refusal == LAWHEMURI_OK && r.ends == 1 && ends[0] == 1);
+#define IDLE(places) lawhemuri_path(2, 0, NULL, 0, goal, 1, calls, WORDS(calls), r.calls, answers, WORDS(answers), r.answers, 0, states, places)
+    fill(states, WORDS(states));
+    lawhemuri_states p = IDLE(1);
+    EXPECT(p.refusal == LAWHEMURI_STATES_SHORT && p.states == 0 && all(states, WORDS(states), MARK));
+    p = IDLE(3);
+    EXPECT(p.refusal == LAWHEMURI_OK && p.states == 2 && states[0] == 1 && states[1] == 1 && states[2] == MARK);
+}
+
 int main(void) {
     test_example();
     test_names();
@@ -188,6 +202,7 @@ int main(void) {
     test_refused_questions();
     test_denial();
     test_path();
+    test_idle_update();
     printf("hosts/c: %s\n", failures == 0 ? "ok" : "failed");
     return failures != 0;
 }

@@ -11,8 +11,8 @@ import lawhemuri
 SHEETS = os.path.join(os.path.dirname(os.path.abspath(__file__)), "..", "..", "sheets")
 LIBRARY = lawhemuri.Library(os.environ["LAWHEMURI_SO"])
 
-# Document 01's path of drill D1, and a path of 65,537 states.
-PATHS = {"example": [["0", "1", "3", "2"]], "long_path": [["refused", "43"]]}
+# The paths of drills D1 and D5, and a path of 65,537 states.
+PATHS = {"example": [["0", "1", "3", "2"]], "idle_update": [["1", "1"]], "long_path": [["refused", "43"]]}
 
 
 def content(path):

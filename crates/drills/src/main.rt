@@ -1,4 +1,4 @@
-// Drills D11 to D13, a goal cut in two, denials, the path of D9, and each refusal from 10 to 43, with what every buffer holds afterwards.
+// Drills D11 to D13, a goal cut in two, denials, the path of D9, updates that change nothing, and each refusal from 10 to 43, with what every buffer holds afterwards.
 mod cuts;
 mod denials;
 mod paths;

@@ -1,4 +1,5 @@
-// Paths of the tables of drill D9, written here by hand, and questions that are refused. Every word of the list is 7 before.
+// Paths of tables written here by hand: those of drill D9, of goals without calls, and questions that are refused. Every word of the list is 7
+// before.
 use crate::print;
 
 // Asks for the path of a record, and prints what it gives and leaves. The rules are p: `+a -a`; q: `!p !p`.
@@ -115,8 +116,37 @@ fn changes() {
     changed(b"41 before 42", 769, 2, 2, 1, 0, 3);
 }
 
+// The path of a goal without calls over one fluent, whose one answer ends in this state (request R-3).
+fn of_updates(name: &[u8], goal: &[u16], start: u64, end: u64, states: &mut [u64]) {
+    let mut answers = [0u64; 19];
+    answers[1] = end;
+    answers[2] = 256;
+    let none = [0u16; 0];
+    let r = path::path(1, 0, &none, goal, &[64, start], 1, &answers, 1, 0, states);
+    print::text(name);
+    print::number(b"refusal", r.refusal);
+    print::number(b"states", r.states);
+    print::buffer(b"list", states);
+    print::text(b"\n");
+}
+
+// In a list of at most 6.
+fn updates(name: &[u8], goal: &[u16], start: u64, end: u64, room: usize) {
+    let mut states = [7u64; 6];
+    let l = 6 - room % 7;
+    of_updates(name, goal, start, end, &mut states[l..]);
+}
+
+fn idle_updates() {
+    updates(b"D5 room 2", &[256], 1, 1, 2);
+    updates(b"D5 room 1", &[256], 1, 1, 1);
+    updates(b"-a +a +a ?a", &[512, 256, 256, 0], 0, 1, 6);
+    updates(b"a goal of no steps", &[], 1, 1, 2);
+}
+
 pub fn all() {
     rooms();
+    idle_updates();
     counts();
     changes();
 }

@@ -6,7 +6,7 @@ use steps::word::is_call;
 ghost use mathlib.Core.Path.{_≡_};
 ghost use Prim.Native.Nat.{ℕ, _+_, _≤_};
 ghost use lib.ListN.{length};
-ghost use Rattle.steps.specs.Step.{Step};
+ghost use Rattle.steps.specs.Words.{step-of};
 ghost use Rattle.checks.specs.Readable.{Readable};
 ghost use Rattle.unfolding.specs.Path.{shown};
 ghost use Rattle.unfolding.proofs.Walk.{LeadsTo, startAt};
@@ -27,11 +27,12 @@ pub fn start(calls: &[u64], answers: &[u64], n: usize) -> u64
     calls[2 * call + 1]
 }
 
-// How many states an elementary step adds that leads from one state to the other: equal neighbours are joined.
-fn shown(before: u64, after: u64) -> usize
-    ensures { λ r. ⌜ ((x : Step) → r ≡ length (shown x before after)) ⌝ }
+// How many states an elementary step adds: an insert and a delete one each, any other none.
+fn shown(step: u16) -> usize
+    ensures { λ r. ⌜ ((t : ℕ) → r ≡ length (shown (step-of step) t)) ⌝ }
 {
-    if after == before { 0 } else { 1 }
+    let kind = step / 256;
+    if (kind == 1) | (kind == 2) { 1 } else { 0 }
 }
 
 // The state after a step of record n that goes on.
@@ -68,6 +69,6 @@ pub fn take_step(
     }
     Turn {
         state: next,
-        size: shown(state, next),
+        size: shown(step),
     }
 }

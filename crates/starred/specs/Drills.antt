@@ -126,9 +126,11 @@ drills =
     ∷ drill 2 1 (0 ⟵ call 0 ∷ []) 0 (call 0 ∷ []) [] 2 0 []
     -- D4: the empty goal, start 2
     ∷ drill 2 0 [] 2 [] (2 ∷ []) 1 1 []
-    -- D5: an insert of what holds, start 1
+    -- D5: an insert of what holds, start 1; its path has two states, and room 1 is 43
     ∷ drill 2 0 [] 1 (insert 0 ∷ []) (1 ∷ []) 1 1
-    (path (called 64 1) (answered 0 1 256 []) 0 (replicate 1 9) 0 1 (1 ∷ []) ∷ [])
+    (path (called 64 1) (answered 0 1 256 []) 0 (replicate 2 9) 0 2 (1 ∷ 1 ∷ [])
+    ∷ path (called 64 1) (answered 0 1 256 []) 0 (replicate 1 9) 43 0 (replicate 1 9)
+    ∷ [])
     -- D6: a delete of what does not hold
     ∷ drill 2 0 [] 0 (delete 0 ∷ []) (0 ∷ []) 1 1 []
     -- D7: a call after which the goal fails

@@ -26,7 +26,7 @@ call-below calls answers n a s t e h =
     by false z k = absurd (not-on k)
 
 module _ (calls : Calls) (answers : Answers) (n : ℕ) (f g : ℕ → List State) (same : (e : ℕ) → e < n → f e ≡ g e) where
-  adds-same : (x : Step) (s t : State) (e : ℕ) → follow calls answers n x s e ≡ on t → adds f x s t e ≡ adds g x s t e
+  adds-same : (x : Step) (s t : State) (e : ℕ) → follow calls answers n x s e ≡ on t → adds f x t e ≡ adds g x t e
   unfolding adds
   adds-same (query p) s t e h = refl
   adds-same (insert p) s t e h = refl
@@ -43,8 +43,8 @@ module _ (calls : Calls) (answers : Answers) (n : ℕ) (f g : ℕ → List State
       by : (o : Onward) → follow calls answers n x s (answers .evidence n q) ≡ o
           → ((t : State) → walked calls answers n f rest (suc q) t ≡ walked calls answers n g rest (suc q) t)
           → _≡_ {A = List State}
-          (elim o [ on t ↦ adds f x s t (answers .evidence n q) ++ walked calls answers n f rest (suc q) t | stuck ↦ [] ])
-          (elim o [ on t ↦ adds g x s t (answers .evidence n q) ++ walked calls answers n g rest (suc q) t | stuck ↦ [] ])
+          (elim o [ on t ↦ adds f x t (answers .evidence n q) ++ walked calls answers n f rest (suc q) t | stuck ↦ [] ])
+          (elim o [ on t ↦ adds g x t (answers .evidence n q) ++ walked calls answers n g rest (suc q) t | stuck ↦ [] ])
       by (on t) e later = rw (adds-same x s t (answers .evidence n q) e, later t) refl
       by stuck e later = refl
 
@@ -112,12 +112,12 @@ module _ (calls answers : List ℕ) (k m k′ m′ : ℕ) where
   unfolding walked
   walked-uncounted n f [] q s = refl
   walked-uncounted n f (x ∷ rest) q s =
-      subst (λ (o : Onward). _≡_ {A = List State} (walked C A n f (x ∷ rest) q s) (elim o [ on t ↦ adds f x s t (A .evidence n q) ++ walked C′ A′ n f rest (suc q) t | stuck ↦ [] ]))
+      subst (λ (o : Onward). _≡_ {A = List State} (walked C A n f (x ∷ rest) q s) (elim o [ on t ↦ adds f x t (A .evidence n q) ++ walked C′ A′ n f rest (suc q) t | stuck ↦ [] ]))
       (follow-uncounted n x s (A .evidence n q)) (by (follow C A n x s (A .evidence n q)) (walked-uncounted n f rest (suc q)))
     where
       by : (o : Onward) → ((t : State) → walked C A n f rest (suc q) t ≡ walked C′ A′ n f rest (suc q) t)
-          → _≡_ {A = List State} (elim o [ on t ↦ adds f x s t (A .evidence n q) ++ walked C A n f rest (suc q) t | stuck ↦ [] ])
-          (elim o [ on t ↦ adds f x s t (A .evidence n q) ++ walked C′ A′ n f rest (suc q) t | stuck ↦ [] ])
+          → _≡_ {A = List State} (elim o [ on t ↦ adds f x t (A .evidence n q) ++ walked C A n f rest (suc q) t | stuck ↦ [] ])
+          (elim o [ on t ↦ adds f x t (A .evidence n q) ++ walked C′ A′ n f rest (suc q) t | stuck ↦ [] ])
       by (on t) later = rw (later t) refl
       by stuck later = refl
 

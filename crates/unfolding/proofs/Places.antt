@@ -57,7 +57,7 @@ module _ (rules goal calls answers : List ℕ) where
   module _ (n p q : ℕ) (s : State) (at : ℕ) (a : Along n p q s at) (l : q < length (wordsAt rules goal answers n)) where
     -- what this step adds
     abbrev pub piece : State → List State
-    piece t = adds (addedBy rules goal calls answers) (step-of (stepAt rules goal answers n q)) s t (evidenceAt answers n q)
+    piece t = adds (addedBy rules goal calls answers) (step-of (stepAt rules goal answers n q)) t (evidenceAt answers n q)
 
     module _ (t : State) (to : LeadsTo calls answers n (stepAt rules goal answers n q) s (evidenceAt answers n q) t) where
       split : left rules goal calls answers n q s ≡ piece t ++ left rules goal calls answers n (q + 1) t
@@ -88,7 +88,7 @@ module _ (rules goal calls answers : List ℕ) where
     -- a call's is that of the record it uses
     pub exact-call : {sizes : List ℕ} {t : State} {size : ℕ} → Roomy sizes n p → Turned calls answers sizes n (stepAt rules goal answers n q) s (evidenceAt answers n q) t size
         → is-call (stepAt rules goal answers n q) ≡ true → size ≡ length (addedBy rules goal calls answers (evidenceAt answers n q))
-    exact-call {t = t} r u k = exact r u ∙ ap length (adds-call (addedBy rules goal calls answers) (stepAt rules goal answers n q) s t (evidenceAt answers n q) k)
+    exact-call {t = t} r u k = exact r u ∙ ap length (adds-call (addedBy rules goal calls answers) (stepAt rules goal answers n q) t (evidenceAt answers n q) k)
 
     -- there is room for it
     pub room-left : {sizes : List ℕ} {t : State} {size : ℕ} → Roomy sizes n p → Turned calls answers sizes n (stepAt rules goal answers n q) s (evidenceAt answers n q) t size
@@ -154,7 +154,7 @@ module _ (rules goal calls answers : List ℕ) where
             by : (b : Bool) → eqb x e ≡ b → Lies (addedBy rules goal calls answers x) (getD (set offsets e at) x 0) w
             by true z =
                 rw (eqb-true x e z, here)
-                (subst (λ (a : List State). Lies a at w) (adds-call (addedBy rules goal calls answers) (stepAt rules goal answers n q) s t e k) (piece-lies n (getD old n 0) q s at a l t to w h))
+                (subst (λ (a : List State). Lies a at w) (adds-call (addedBy rules goal calls answers) (stepAt rules goal answers n q) t e k) (piece-lies n (getD old n 0) q s at a l t to w h))
             by false z =
                 let o = getD-set-other offsets e x at 0 (eqb-false x e z) in
                 rw o (y .placed w h p x (rw o at g))

@@ -35,55 +35,55 @@ pub sized-take : {f : ℕ → List State} {sizes : List ℕ} {n cap : ℕ} → S
 sized-take {sizes = sizes} {n} z = record { at = λ x h. getD-take n sizes x 0 h ∙ z .at x h }
 
 -- How many states a step word adds, by the sizes of the records below.
-unfoldable pub size-of : List ℕ → ℕ → State → State → ℕ → ℕ
-size-of sizes w s t e = cond (is-call w) (getD sizes e 0) (length (shown (step-of w) s t))
+unfoldable pub size-of : List ℕ → ℕ → State → ℕ → ℕ
+size-of sizes w t e = cond (is-call w) (getD sizes e 0) (length (shown (step-of w) t))
 
 -- What one step of a walk gives: the state that it leads to, and how many states it adds.
 pub record Turned (calls answers sizes : List ℕ) (n w : ℕ) (s : State) (e : ℕ) (t : State) (size : ℕ) : Type 0 where
   pub to : LeadsTo calls answers n w s e t
-  pub sized : size ≡ size-of sizes w s t e
+  pub sized : size ≡ size-of sizes w t e
 
-size-call : (sizes : List ℕ) (w : ℕ) (s t : State) (e : ℕ) → is-call w ≡ true → size-of sizes w s t e ≡ getD sizes e 0
+size-call : (sizes : List ℕ) (w : ℕ) (t : State) (e : ℕ) → is-call w ≡ true → size-of sizes w t e ≡ getD sizes e 0
 unfolding size-of
-size-call sizes w s t e l = rw l refl
+size-call sizes w t e l = rw l refl
 
-size-shown : (sizes : List ℕ) (w : ℕ) (s t : State) (e : ℕ) → is-call w ≡ false → size-of sizes w s t e ≡ length (shown (step-of w) s t)
+size-shown : (sizes : List ℕ) (w : ℕ) (t : State) (e : ℕ) → is-call w ≡ false → size-of sizes w t e ≡ length (shown (step-of w) t)
 unfolding size-of
-size-shown sizes w s t e l = rw l refl
+size-shown sizes w t e l = rw l refl
 
 module _ (f : ℕ → List State) {calls answers sizes : List ℕ} {n w : ℕ} {s : State} {e : ℕ} {t : State} {size cap : ℕ}
     (z : Sized f sizes n cap) (u : Turned calls answers sizes n w s e t size) where
   -- it counts what the step adds, up to the cap
-  pub turned-size : min cap size ≡ min cap (length (adds f (step-of w) s t e))
+  pub turned-size : min cap size ≡ min cap (length (adds f (step-of w) t e))
   turned-size = by (is-call w) refl
     where
-      by : (b : Bool) → is-call w ≡ b → min cap size ≡ min cap (length (adds f (step-of w) s t e))
+      by : (b : Bool) → is-call w ≡ b → min cap size ≡ min cap (length (adds f (step-of w) t e))
       by true l =
-          rw (adds-call f w s t e l) (let h : size ≡ getD sizes e 0 = u .sized ∙ size-call sizes w s t e l in omega (arith, z .at e (leads-below l (u .to))))
+          rw (adds-call f w t e l) (let h : size ≡ getD sizes e 0 = u .sized ∙ size-call sizes w t e l in omega (arith, z .at e (leads-below l (u .to))))
       by false l =
-          rw (adds-shown f w s t e l) (ap (min cap) (u .sized ∙ size-shown sizes w s t e l))
+          rw (adds-shown f w t e l) (ap (min cap) (u .sized ∙ size-shown sizes w t e l))
 
   pub turned-small : size ≤ cap + 1
   turned-small = by (is-call w) refl
     where
       by : (b : Bool) → is-call w ≡ b → size ≤ cap + 1
       by true l =
-          (let h : size ≡ getD sizes e 0 = u .sized ∙ size-call sizes w s t e l in omega (arith, z .at e (leads-below l (u .to))))
+          (let h : size ≡ getD sizes e 0 = u .sized ∙ size-call sizes w t e l in omega (arith, z .at e (leads-below l (u .to))))
       by false l =
-          (let h : size ≡ length (shown (step-of w) s t) = u .sized ∙ size-shown sizes w s t e l in omega (arith, shown-small (step-of w) s t))
+          (let h : size ≡ length (shown (step-of w) t) = u .sized ∙ size-shown sizes w t e l in omega (arith, shown-small (step-of w) t))
 
   -- exactly, where there is room
-  pub turned-exact : length (adds f (step-of w) s t e) ≤ cap → 0 < cap → size ≡ length (adds f (step-of w) s t e)
+  pub turned-exact : length (adds f (step-of w) t e) ≤ cap → 0 < cap → size ≡ length (adds f (step-of w) t e)
   turned-exact r p = by (is-call w) refl
     where
-      by : (b : Bool) → is-call w ≡ b → size ≡ length (adds f (step-of w) s t e)
+      by : (b : Bool) → is-call w ≡ b → size ≡ length (adds f (step-of w) t e)
       by true l =
-          (let h : size ≡ getD sizes e 0 = u .sized ∙ size-call sizes w s t e l in
-          let k : adds f (step-of w) s t e ≡ f e = adds-call f w s t e l in
-          let k′ : length (adds f (step-of w) s t e) ≡ length (f e) = ap length k in
+          (let h : size ≡ getD sizes e 0 = u .sized ∙ size-call sizes w t e l in
+          let k : adds f (step-of w) t e ≡ f e = adds-call f w t e l in
+          let k′ : length (adds f (step-of w) t e) ≡ length (f e) = ap length k in
           omega (arith, z .at e (leads-below l (u .to))))
       by false l =
-          u .sized ∙ size-shown sizes w s t e l ∙ sym (ap length (adds-shown f w s t e l))
+          u .sized ∙ size-shown sizes w t e l ∙ sym (ap length (adds-shown f w t e l))
 
 -- ---- counting one record
 
@@ -103,8 +103,8 @@ module _ (rules goal calls answers : List ℕ) where
   counted-more n q s sum cap {t} {size} {sizes} c l z u = record {
     stands = stands-next rules goal calls answers n q s l t (c .stands) (u .to);
     most = omega arith;
-    whole = (let e : length (left rules goal calls answers n q s) ≡ length (adds (addedBy rules goal calls answers) (step-of (stepAt rules goal answers n q)) s t (evidenceAt answers n q)) + length (left rules goal calls answers n (q + 1) t) =
-        ap length (left-next rules goal calls answers n q s l t (u .to)) ∙ length-append (adds (addedBy rules goal calls answers) (step-of (stepAt rules goal answers n q)) s t (evidenceAt answers n q)) (left rules goal calls answers n (q + 1) t) in
+    whole = (let e : length (left rules goal calls answers n q s) ≡ length (adds (addedBy rules goal calls answers) (step-of (stepAt rules goal answers n q)) t (evidenceAt answers n q)) + length (left rules goal calls answers n (q + 1) t) =
+        ap length (left-next rules goal calls answers n q s l t (u .to)) ∙ length-append (adds (addedBy rules goal calls answers) (step-of (stepAt rules goal answers n q)) t (evidenceAt answers n q)) (left rules goal calls answers n (q + 1) t) in
         omega (arith, c .whole, turned-size (addedBy rules goal calls answers) z u));
   }
 

@@ -24,7 +24,7 @@ use Rattle.tabling.specs.Records.{Calls, Answers, Bodies, bodies-of, follow, fo
 use Rattle.bodies.proofs.Laws.{fits-rule, fits-goal}
 use Rattle.unfolding.specs.Path as path
 use Rattle.unfolding.specs.Path.{shown, walked, path-of}
-use Rattle.unfolding.specs.States.{move-states, states, changes, Chain}
+use Rattle.unfolding.specs.States.{move-states, states, updates, Chain}
 use Rattle.unfolding.proofs.Below.{added-walk}
 use Rattle.unfolding.proofs.Checking.{justified-parts}
 use Rattle.unfolding.proofs.StatesLaws.{states-chain, states-length, joined, before}
@@ -36,15 +36,15 @@ rule-member rules i l =
     (at-member (book-of rules) i (rule-of rules 0) (rw (book-length rules 0 (length rules / 18)) l))
 
 -- an elementary step in front of a deduction
-does-step : {book : Book} {x : Step} {s t f : State} {rest : Body} → Does x s t → (d : Final book t rest f) → (d′ : Final book s (x ∷ rest) f) × (shown x s t ++ states d ≡ states d′)
-unfolding states move-states
+does-step : {book : Book} {x : Step} {s t f : State} {rest : Body} → Does x s t → (d : Final book t rest f) → (d′ : Final book s (x ∷ rest) f) × (shown x t ++ states d ≡ states d′)
+unfolding states move-states shown
 does-step (asks h) d = (move (queries h) d, refl)
 does-step adds d = (move inserts d, refl)
 does-step drops d = (move deletes d, refl)
 does-step (lacks h) d = (move (denies h) d, refl)
 
 done-step : {book : Book} (x : Step) {s t f : State} {rest : Body} (b : Bool) → cond b (elementary x s) stuck ≡ on t → (d : Final book t rest f)
-    → (d′ : Final book s (x ∷ rest) f) × (shown x s t ++ states d ≡ states d′)
+    → (d′ : Final book s (x ∷ rest) f) × (shown x t ++ states d ≡ states d′)
 done-step x {s} {t} true k d = does-step (elementary-does x s t k) d
 done-step x false k d = absurd (not-on k)
 
@@ -83,7 +83,7 @@ module _ (rules goal : List ℕ) (calls : Calls) (answers : Answers) (apart : Se
   module _ (n : ℕ) (fitted : (e : ℕ) → e < n → bodies .fits (answers .rule e) (calls .action (answers .call e)) ≡ true) (earlier : (e : ℕ) → e < n → Deduced e) where
     -- one step more in front
     step : (x : Step) (rest : Body) (s t : State) (e : ℕ) → ((b : ℕ) → x ≡ call b → b ≢ Goal) → follow calls answers n x s e ≡ on t
-        → (d : Final book t rest (answers .final n)) → (d′ : Final book s (x ∷ rest) (answers .final n)) × (path.adds (path.added calls answers bodies) x s t e ++ states d ≡ states d′)
+        → (d : Final book t rest (answers .final n)) → (d′ : Final book s (x ∷ rest) (answers .final n)) × (path.adds (path.added calls answers bodies) x t e ++ states d ≡ states d′)
     unfolding follow path.adds
     step (query p) rest s t e ne h d = done-step (query p) (eqb e 0) h d
     step (insert p) rest s t e ne h d = done-step (insert p) (eqb e 0) h d
@@ -115,7 +115,7 @@ module _ (rules goal : List ℕ) (calls : Calls) (answers : Answers) (apart : Se
         by : (o : Onward) → follow calls answers n x s (answers .evidence n q) ≡ o → elim o [ on t ↦ follows calls answers n rest (suc q) t | stuck ↦ false ] ≡ true
             → ((t : State) → Apart rest → follows calls answers n rest (suc q) t ≡ true → (d : Final book t rest (answers .final n)) × (walked calls answers n (path.added calls answers bodies) rest (suc q) t ≡ states d))
             → (d : Final book s (x ∷ rest) (answers .final n))
-            × _≡_ {A = List State} (elim o [ on t ↦ path.adds (path.added calls answers bodies) x s t (answers .evidence n q) ++ walked calls answers n (path.added calls answers bodies) rest (suc q) t | stuck ↦ [] ]) (states d)
+            × _≡_ {A = List State} (elim o [ on t ↦ path.adds (path.added calls answers bodies) x t (answers .evidence n q) ++ walked calls answers n (path.added calls answers bodies) rest (suc q) t | stuck ↦ [] ]) (states d)
         by stuck e k later = absurd (true-not-false (sym k))
         by (on t) e k later =
             let (d, f) = later t (λ b m. free b (List·Memᴰ·tail m)) k in
@@ -174,8 +174,8 @@ pub record Executed (rules goal : List ℕ) (calls : Calls) (answers : Answers) 
   pub deduction : Final (book-of rules) (calls .state (answers .call x)) (body-of-call (run-of rules goal 0) (calls .action (answers .call x))) (answers .final x)
   -- whose states the path lists,
   pub listed : path-of calls answers (bodies-of rules goal) x ≡ calls .state (answers .call x) ∷ states deduction
-  -- one more than its changes,
-  pub long : length (path-of calls answers (bodies-of rules goal) x) ≡ 1 + changes deduction
+  -- one more than its updates,
+  pub long : length (path-of calls answers (bodies-of rules goal) x) ≡ 1 + updates deduction
   -- each two neighbours one update apart
   pub neighbours : Chain (calls .state (answers .call x)) (states deduction) (answers .final x)
 

@@ -3,12 +3,12 @@ use Prim.Native.Nat.{ℕ, zero, suc, _+_, _*_, _/_, _%_, _<_, _≤_}
 use native.Mathlib.Omega.{arith}
 use native.Mathlib.Numerals.{add-one}
 use mathlib.Core.Path.{_≡_, refl, sym, subst, _∙_}
-use mathlib.Core.Bool.{Bool, true, false, cond}
+use mathlib.Core.Bool.{Bool, true, false, cond, _||_}
 use mathlib.Core.List.{List, [], _∷_, _++_}
 use lib.ListN.{length, getD, drop, drop-of-length-le}
 use lib.Seq.{drop-cons}
 use lib.Dec.{eqb}
-use borrow.Author.Tests.{eqb-true}
+use borrow.Author.Tests.{eqb-true, ne-eqb}
 use Rattle.steps.specs.State.{State}
 use Rattle.steps.specs.Step.{Step, query, insert, delete, call, deny, Body}
 use Rattle.steps.specs.Words.{step-by, step-of, body-of, is-call}
@@ -86,45 +86,57 @@ leads-most {calls} {answers} {n} {w} {s} {e} {t} h = by (is-call w) refl
     by true z = omega (arith, leads-below z h)
     by false z = none (eqb e 0) refl (sym (follow-elementary (callsOf calls) (answersOf answers) n w s e z) ∙ h .leads)
 
-pub adds-call : (f : ℕ → List State) (w : ℕ) (s t : State) (e : ℕ) → is-call w ≡ true → adds f (step-of w) s t e ≡ f e
+pub adds-call : (f : ℕ → List State) (w : ℕ) (t : State) (e : ℕ) → is-call w ≡ true → adds f (step-of w) t e ≡ f e
 unfolding adds
-adds-call f w s t e l = rw (call-word w l) refl
+adds-call f w t e l = rw (call-word w l) refl
 
-adds-by : (f : ℕ → List State) (x : Step) (s t : State) (e : ℕ) → ((a : ℕ) → x ≡ call a → ⊥) → adds f x s t e ≡ shown x s t
+adds-by : (f : ℕ → List State) (x : Step) (t : State) (e : ℕ) → ((a : ℕ) → x ≡ call a → ⊥) → adds f x t e ≡ shown x t
 unfolding adds
-adds-by f (call a) s t e l = absurd (l a refl)
-adds-by f (query p) s t e l = refl
-adds-by f (insert p) s t e l = refl
-adds-by f (delete p) s t e l = refl
-adds-by f (deny p) s t e l = refl
+adds-by f (call a) t e l = absurd (l a refl)
+adds-by f (query p) t e l = refl
+adds-by f (insert p) t e l = refl
+adds-by f (delete p) t e l = refl
+adds-by f (deny p) t e l = refl
 
-pub adds-shown : (f : ℕ → List State) (w : ℕ) (s t : State) (e : ℕ) → is-call w ≡ false → adds f (step-of w) s t e ≡ shown (step-of w) s t
-adds-shown f w s t e l = adds-by f (step-of w) s t e (no-call w l)
+pub adds-shown : (f : ℕ → List State) (w : ℕ) (t : State) (e : ℕ) → is-call w ≡ false → adds f (step-of w) t e ≡ shown (step-of w) t
+adds-shown f w t e l = adds-by f (step-of w) t e (no-call w l)
 
--- all that the code knows of `shown`: it is the new state or nothing
-pub shown-small : (x : Step) (s t : State) → length (shown x s t) ≤ 1
+-- all that the code knows of `shown`: it is the new state or nothing,
+pub shown-small : (x : Step) (t : State) → length (shown x t) ≤ 1
 unfolding shown
-shown-small x s t = by (eqb t s)
-  where
-    by : (b : Bool) → length (cond b [] (t ∷ [])) ≤ 1
-    by true = omega arith
-    by false = omega arith
+shown-small (query p) t = omega arith
+shown-small (insert p) t = omega arith
+shown-small (delete p) t = omega arith
+shown-small (call a) t = omega arith
+shown-small (deny p) t = omega arith
 
-pub shown-new : (x : Step) (s t : State) → 0 < length (shown x s t) → getD (shown x s t) 0 0 ≡ t
+pub shown-new : (x : Step) (t : State) → 0 < length (shown x t) → getD (shown x t) 0 0 ≡ t
 unfolding shown
-shown-new x s t = by (eqb t s)
-  where
-    by : (b : Bool) → 0 < length (cond b [] (t ∷ [])) → getD (cond b [] (t ∷ [])) 0 0 ≡ t
-    by true l = absurd (omega arith)
-    by false l = refl
+shown-new (query p) t l = absurd (omega arith)
+shown-new (insert p) t l = refl
+shown-new (delete p) t l = refl
+shown-new (call a) t l = absurd (omega arith)
+shown-new (deny p) t l = absurd (omega arith)
+
+-- and how many states it is: one for an insert or a delete
+shown-by : (k i : ℕ) (t : State) → length (shown (step-by k i) t) ≡ cond (eqb k 1 || eqb k 2) 1 0
+unfolding shown step-by
+shown-by zero i t = refl
+shown-by (suc zero) i t = refl
+shown-by (suc (suc zero)) i t = refl
+shown-by (suc (suc (suc zero))) i t = refl
+shown-by (suc (suc (suc (suc k)))) i t = rw (ne-eqb (suc (suc (suc (suc k)))) 1 (λ e. omega arith), ne-eqb (suc (suc (suc (suc k)))) 2 (λ e. omega arith)) refl
+
+pub shown-length : (w : ℕ) (t : State) → length (shown (step-of w) t) ≡ cond (eqb (w / 256) 1 || eqb (w / 256) 2) 1 0
+shown-length w = shown-by (w / 256) (w % 256)
 
 -- a step, then the steps after it
 walked-next : (calls : Calls) (answers : Answers) (n : ℕ) (f : ℕ → List State) (x : Step) (rest : Body) (q : ℕ) (s t : State) → follow calls answers n x s (answers .evidence n q) ≡ on t
-    → walked calls answers n f (x ∷ rest) q s ≡ adds f x s t (answers .evidence n q) ++ walked calls answers n f rest (suc q) t
+    → walked calls answers n f (x ∷ rest) q s ≡ adds f x t (answers .evidence n q) ++ walked calls answers n f rest (suc q) t
 unfolding walked
 walked-next calls answers n f x rest q s t e =
-    subst (λ (o : Onward). _≡_ {A = List State} (elim o [ on u ↦ adds f x s u (answers .evidence n q) ++ walked calls answers n f rest (suc q) u | stuck ↦ [] ])
-    (adds f x s t (answers .evidence n q) ++ walked calls answers n f rest (suc q) t)) (sym e) refl
+    subst (λ (o : Onward). _≡_ {A = List State} (elim o [ on u ↦ adds f x u (answers .evidence n q) ++ walked calls answers n f rest (suc q) u | stuck ↦ [] ])
+    (adds f x t (answers .evidence n q) ++ walked calls answers n f rest (suc q) t)) (sym e) refl
 
 -- ---- the walk
 
@@ -160,7 +172,7 @@ module _ (rules goal calls answers : List ℕ) where
     }
 
     pub left-next : (t : State) → LeadsTo calls answers n (stepAt rules goal answers n q) s (evidenceAt answers n q) t
-        → left n q s ≡ adds (addedBy rules goal calls answers) (step-of (stepAt rules goal answers n q)) s t (evidenceAt answers n q) ++ left n (q + 1) t
+        → left n q s ≡ adds (addedBy rules goal calls answers) (step-of (stepAt rules goal answers n q)) t (evidenceAt answers n q) ++ left n (q + 1) t
     left-next t e =
         rw (drop-cons (wordsAt rules goal answers n) q 0 l, add-one q)
         (walked-next (callsOf calls) (answersOf answers) n (addedBy rules goal calls answers) (step-of (stepAt rules goal answers n q)) (body-of (drop (suc q) (wordsAt rules goal answers n))) q s t (e .leads))

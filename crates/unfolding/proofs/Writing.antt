@@ -80,7 +80,7 @@ module _ (rules goal calls answers : List ℕ) where
     abbrev e : ℕ
     e = evidenceAt answers n q
 
-    here : (wanted : List ℕ) → Placed (addedBy rules goal calls answers) offsets wanted → Lies (adds (addedBy rules goal calls answers) (step-of w) s t e) at wanted
+    here : (wanted : List ℕ) → Placed (addedBy rules goal calls answers) offsets wanted → Lies (adds (addedBy rules goal calls answers) (step-of w) t e) at wanted
     here d p = piece-lies rules goal calls answers n (getD offsets n 0) q s at a r t to d (p n positive)
 
     source : (wanted : List ℕ) → Placed (addedBy rules goal calls answers) offsets wanted → Done offsets n wanted l → Source wanted m w (getD offsets e 0) at size t
@@ -88,7 +88,7 @@ module _ (rules goal calls answers : List ℕ) where
       where
         copy : is-call w ≡ true → Twice d m (getD offsets e 0) at size
         copy c =
-            let f : adds (addedBy rules goal calls answers) (step-of w) s t e ≡ addedBy rules goal calls answers e = adds-call (addedBy rules goal calls answers) w s t e c in
+            let f : adds (addedBy rules goal calls answers) (step-of w) t e ≡ addedBy rules goal calls answers e = adds-call (addedBy rules goal calls answers) w t e c in
             let z : size ≡ length (addedBy rules goal calls answers e) = exact ∙ ap length f in
             let pos : 0 < getD offsets e 0 = linked q r c in
             let at-here : Lies (addedBy rules goal calls answers e) at d = subst (λ (a : List State). Lies a at d) f (here d p) in
@@ -99,11 +99,11 @@ module _ (rules goal calls answers : List ℕ) where
 
         store : is-call w ≡ false → 0 < size → (size ≡ 1) × (t ≡ getD d at 0)
         store c g =
-            let f : adds (addedBy rules goal calls answers) (step-of w) s t e ≡ shown (step-of w) s t = adds-shown (addedBy rules goal calls answers) w s t e c in
-            let z : size ≡ length (shown (step-of w) s t) = exact ∙ ap length f in
-            let at-here : Lies (shown (step-of w) s t) at d = subst (λ (a : List State). Lies a at d) f (here d p) in
-            let first : getD d (at + 0) 0 ≡ t = at-here .same 0 (omega arith) ∙ shown-new (step-of w) s t (omega arith) in
-            (omega (arith, shown-small (step-of w) s t), sym (rw add-zero at first))
+            let f : adds (addedBy rules goal calls answers) (step-of w) t e ≡ shown (step-of w) t = adds-shown (addedBy rules goal calls answers) w t e c in
+            let z : size ≡ length (shown (step-of w) t) = exact ∙ ap length f in
+            let at-here : Lies (shown (step-of w) t) at d = subst (λ (a : List State). Lies a at d) f (here d p) in
+            let first : getD d (at + 0) 0 ≡ t = at-here .same 0 (omega arith) ∙ shown-new (step-of w) t (omega arith) in
+            (omega (arith, shown-small (step-of w) t), sym (rw add-zero at first))
 
     pub wrote-more : Stepped m k w (getD offsets e 0) at size t → Wrote offsets n (at + size) l k
     wrote-more st = record { long = st .long ∙ y .long; keeps = keep; fills = fill }

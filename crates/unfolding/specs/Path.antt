@@ -9,23 +9,29 @@ use Rattle.steps.specs.Words.{body-of}
 use Rattle.steps.specs.Elementary.{on, stuck}
 use Rattle.tabling.specs.Records.{Calls, Answers, Bodies, follow}
 
--- What an elementary step that leads from s to t adds: t. Equal neighbours are joined into one: here, and nowhere else.
-unfoldable pub shown : Step → State → State → List State
-shown x s t = cond (eqb t s) [] (t ∷ [])
+-- "One state for each update": an elementary step that leads to t adds t if it is an update, also where t is the state that it leads from;
+-- "queries add none", and no more does a denial. (A call is no elementary step: see `adds`.)
+unfoldable pub shown : Step → State → List State
+shown (query p) t = []
+shown (insert p) t = t ∷ []
+shown (delete p) t = t ∷ []
+shown (call a) t = []
+shown (deny p) t = []
 
--- What step x that leads from s to t with evidence e adds: a call adds what the answer used adds, which `earlier` gives.
-unfoldable pub adds : (ℕ → List State) → Step → State → State → ℕ → List State
-adds earlier (call a) s t e = earlier e
-adds earlier (query p) s t e = shown (query p) s t
-adds earlier (insert p) s t e = shown (insert p) s t
-adds earlier (delete p) s t e = shown (delete p) s t
-adds earlier (deny p) s t e = shown (deny p) s t
+-- What step x that leads to t with evidence e adds: a call adds what the answer used adds, which `earlier` gives.
+unfoldable pub adds : (ℕ → List State) → Step → State → ℕ → List State
+adds earlier (call a) t e = earlier e
+adds earlier (query p) t e = shown (query p) t
+adds earlier (insert p) t e = shown (insert p) t
+adds earlier (delete p) t e = shown (delete p) t
+adds earlier (deny p) t e = shown (deny p) t
 
 -- What walking the steps of record n from place q on, from state s, adds.
 unfoldable pub walked : Calls → Answers → ℕ → (ℕ → List State) → Body → ℕ → State → List State
 walked calls answers n earlier [] q s = []
 walked calls answers n earlier (x ∷ rest) q s =
-    elim (follow calls answers n x s (answers .evidence n q)) [ on t ↦ adds earlier x s t (answers .evidence n q) ++ walked calls answers n earlier rest (suc q) t | stuck ↦ [] ]
+    elim (follow calls answers n x s (answers .evidence n q))
+    [ on t ↦ adds earlier x t (answers .evidence n q) ++ walked calls answers n earlier rest (suc q) t | stuck ↦ [] ]
 
 module _ (calls : Calls) (answers : Answers) (bodies : Bodies) where
   -- What record x adds, if it is one of the records below n: they use only each other, and only downward.

@@ -180,9 +180,9 @@ pub struct Records<'a> {
 
 /// Lists the path of an answer record (refusals 20 to 23, then 40 to 43) and gives the count of its states.
 ///
-/// The call's state comes first, then the state after each update; equal neighbours are joined. The list past the
-/// states is unchanged; refused, it is unchanged. The tables may come from anybody: every record is checked. The
-/// question's start is not used.
+/// The call's state comes first, then one state for each update, also where it changes nothing; queries and denials
+/// add none. The list past the states is unchanged; refused, it is unchanged. The tables may come from anybody:
+/// every record is checked. The question's start is not used.
 pub fn path(question: &Question<'_>, records: &Records<'_>, record: usize, states: &mut [u64]) -> Result<usize, Refusal> {
     // The library reads rules, goal and tables and writes `states`, within the lengths given, and keeps none.
     let r = unsafe {

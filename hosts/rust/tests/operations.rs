@@ -171,3 +171,17 @@ fn path_of_the_goals_answer() {
     assert_eq!(path(&question, &Records { call_count: 0, ..records }, goal, &mut states), Err(Refusal::BadRecord));
     assert_eq!(states, [MARK; 5]);
 }
+
+/// Drill D5: an insert of what holds is an update too, so its path has two states.
+#[test]
+fn path_of_an_idle_update() {
+    let question = Question { fluents: 2, actions: 0, rules: &[], goal: &[256], start: 1 };
+    let (run, calls, answers, _) = with_rooms(&question, 1, 1, 1);
+    assert_eq!(run, Ok(Run { ends: 1, calls: 1, answers: 1 }));
+    let records = Records { calls: &calls, call_count: 1, answers: &answers, answer_count: 1 };
+    let mut states = [MARK; 3];
+    assert_eq!(path(&question, &records, 0, &mut states[..1]), Err(Refusal::StatesShort));
+    assert_eq!(states, [MARK; 3]);
+    assert_eq!(path(&question, &records, 0, &mut states), Ok(2));
+    assert_eq!(states, [1, 1, MARK]);
+}

@@ -1,17 +1,16 @@
 -- `shown` meets its contract. Assumes nothing.
-use mathlib.Core.Path.{refl}
-use borrow.Author.Tests.{eq-eqb, ne-eqb}
-use Rattle.unfolding.specs.Path.{shown}
+use Prim.Native.Nat.{ℕ}
+use mathlib.Core.Path.{sym, ap, _∙_}
+use mathlib.Core.Bool.{Bool, cond}
+use Rattle.unfolding.proofs.Walk.{shown-length}
 use Rattle.path.proofs.walk.shown.Statement.{statement}
 use Rattle.path.proofs.walk.shown.Tie as tie
 
 returns : tie.Need-returns
-unfolding shown
-returns c x = rw (eq-eqb _ _ (c .if1 .taken)) refl
+returns c t = sym (shown-length _ t ∙ ap (λ (b : Bool). cond {A = ℕ} b 1 0) (c .if1 .taken))
 
 returns-2 : tie.Need-returns-2
-unfolding shown
-returns-2 c x = rw (ne-eqb _ _ (c .if1 .left)) refl
+returns-2 c t = sym (shown-length _ t ∙ ap (λ (b : Bool). cond {A = ℕ} b 1 0) (c .if1 .left))
 
 pub shown-spec : {M : Type 1} → statement M
 shown-spec = tie.close (tie.spec returns returns-2)
