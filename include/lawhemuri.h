@@ -1,5 +1,5 @@
 /* Rehearsal sheets in ground Transaction Logic: read a sheet, evaluate its goal,
- * list the path of an answer.
+ * list the path of an answer; store states by fluent, and restore them.
  *
  * The host lends all memory; nothing is allocated, kept between calls, printed or
  * locked, so calls may run in any number of threads. Every call returns, whatever
@@ -10,8 +10,9 @@
  * written may not overlap another one of the same call.
  *
  * Stack: lawhemuri_evaluate needs LAWHEMURI_STACK_EVALUATE bytes of it, lawhemuri_path
- * LAWHEMURI_STACK_PATH, the others LAWHEMURI_STACK_READ. A main thread has 8 MiB on most systems, a
- * thread of Rust's 2 MiB, one of musl's only 128 KiB.
+ * LAWHEMURI_STACK_PATH, lawhemuri_store and lawhemuri_restore LAWHEMURI_STACK_ARCHIVE, the
+ * others LAWHEMURI_STACK_READ. A main thread has 8 MiB on most systems, a thread of Rust's
+ * 2 MiB, one of musl's only 128 KiB.
  */
 #ifndef LAWHEMURI_H
 #define LAWHEMURI_H
@@ -63,6 +64,11 @@ extern "C" {
  *      the count, or a state bit too high; or an answer
  *      not justified                                         list unchanged
  *  43  fewer places than states in the path                  list unchanged
+ * States by fluent (lawhemuri_store: 20, 24, 80; lawhemuri_restore: 20, 81, 82, 80;
+ * 20 is of the fluents alone, 24 of every state):
+ *  81  words not one per fluent for each block of 64 states  output unchanged
+ *  82  a set bit past the last state                         output unchanged
+ *  80  fewer places than words, or than states               output unchanged
  *
  * A result with a refusal has 0 in every other field, but for two: the line of 13
  * to 17, and the three counts of 31.
@@ -89,6 +95,9 @@ extern "C" {
 #define LAWHEMURI_NO_RECORD 41u
 #define LAWHEMURI_BAD_RECORD 42u
 #define LAWHEMURI_STATES_SHORT 43u
+#define LAWHEMURI_OUTPUT_SHORT 80u
+#define LAWHEMURI_BAD_WORD_COUNT 81u
+#define LAWHEMURI_BIT_PAST_END 82u
 
 /* ---- Words ----
  *
@@ -101,6 +110,10 @@ extern "C" {
  *   goal); 16 evidence words. At a call step of the rule the evidence is the number of
  *   the answer record used, always a smaller one; elsewhere it is 0.
  * Room of a table: its length divided by 2 or 19, rounded down, at most 65,536.
+ * States by fluent: for each block of 64 states, of which the last may be shorter, one
+ *   word per fluent, in fluent order. Bit i of the word of fluent k in block b, which is
+ *   word k + b * fluents, is set exactly if fluent k holds in state i of the block, which
+ *   is state i + 64 * b; for a state that is missing it is 0.
  */
 #define LAWHEMURI_RULE_WORDS 18u
 #define LAWHEMURI_CALL_WORDS 2u
@@ -116,6 +129,7 @@ extern "C" {
 #define LAWHEMURI_STACK_EVALUATE 1835008u
 #define LAWHEMURI_STACK_PATH 1179648u
 #define LAWHEMURI_STACK_READ 65536u
+#define LAWHEMURI_STACK_ARCHIVE 1024u
 
 /* What a sheet says beside its rule words. */
 typedef struct lawhemuri_sheet {
@@ -148,6 +162,12 @@ typedef struct lawhemuri_states {
     uint64_t refusal; /* 0: the states are listed */
     uint64_t states;  /* how many; 0 where refused */
 } lawhemuri_states;
+
+/* What lawhemuri_store and lawhemuri_restore give. */
+typedef struct lawhemuri_archived {
+    uint64_t refusal; /* 0: the words or states are written */
+    uint64_t count;   /* how many; 0 where refused */
+} lawhemuri_archived;
 
 /* Reads a sheet (refusals 10 to 19).
  *
@@ -202,6 +222,27 @@ lawhemuri_states lawhemuri_path(uint64_t fluents, uint64_t actions,
                                 const uint64_t *answers, size_t answers_len,
                                 uint64_t answer_count, uint64_t record,
                                 uint64_t *states, size_t states_len);
+
+/* Stores states by fluent (refusals 20, 24, 80): any states, of a path or not.
+ *
+ * words: no refusal, the first result.count words are the words by fluent, which is
+ *   fluents for each block of 64 states, and the list past them is unchanged; refused, it
+ *   is unchanged.
+ */
+lawhemuri_archived lawhemuri_store(uint64_t fluents,
+                                   const uint64_t *states, size_t states_len,
+                                   uint64_t *words, size_t words_len);
+
+/* Restores `count` states from their words (refusals 20, 81, 82, 80). What was stored is
+ * restored, given the same fluents, its words alone, the count of the states and room for
+ * them; and storing what was restored writes the same words.
+ *
+ * states: no refusal, the first `count` words, as many as result.count, are the states
+ *   and the list past them is unchanged; refused, it is unchanged.
+ */
+lawhemuri_archived lawhemuri_restore(uint64_t fluents, uint64_t count,
+                                     const uint64_t *words, size_t words_len,
+                                     uint64_t *states, size_t states_len);
 
 #ifdef __cplusplus
 }

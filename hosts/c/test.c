@@ -194,6 +194,71 @@ static void test_idle_update(void) {
     EXPECT(p.refusal == LAWHEMURI_OK && p.states == 2 && states[0] == 1 && states[1] == 1 && states[2] == MARK);
 }
 
+/* Drill D9's path, kept by fluent and taken back. */
+static void test_store(void) {
+    static const uint16_t rules[36] = {0, 2, 256, 512, [18] = 1, 2, 768, 768};
+    static const uint16_t goal[1] = {769};
+    uint64_t states[6], words[3], back[6];
+    lawhemuri_run r = lawhemuri_evaluate(2, 2, rules, 36, goal, 1, 0, calls, WORDS(calls), answers, WORDS(answers), ends, WORDS(ends));
+    EXPECT(r.refusal == LAWHEMURI_OK && r.answers == 3);
+    uint64_t record = 0;
+    while (record < r.answers && calls[2 * answers[19 * record]] != LAWHEMURI_GOAL_ACTION)
+        record++;
+    lawhemuri_states p = lawhemuri_path(2, 2, rules, 36, goal, 1, calls, WORDS(calls), r.calls, answers, WORDS(answers), r.answers,
+                                        record, states, WORDS(states));
+    EXPECT(p.refusal == LAWHEMURI_OK && p.states == 5);
+    fill(words, WORDS(words));
+    lawhemuri_archived a = lawhemuri_store(2, states, p.states, words, WORDS(words));
+    EXPECT(a.refusal == LAWHEMURI_OK && a.count == 2);
+    EXPECT(words[0] == 10 && words[1] == 0 && words[2] == MARK);
+    fill(back, WORDS(back));
+    a = lawhemuri_restore(2, p.states, words, a.count, back, WORDS(back));
+    EXPECT(a.refusal == LAWHEMURI_OK && a.count == 5);
+    EXPECT(memcmp(back, states, 5 * sizeof back[0]) == 0 && back[5] == MARK);
+}
+
+/* 130 states of 3 fluents: three blocks, bit by bit, and both ways. */
+static void test_blocks(void) {
+    uint64_t states[130], words[10], back[131], again[9];
+    for (size_t i = 0; i < WORDS(states); i++)
+        states[i] = i * i / 3 % 8;
+    fill(words, WORDS(words));
+    lawhemuri_archived a = lawhemuri_store(3, states, WORDS(states), words, WORDS(words));
+    EXPECT(a.refusal == LAWHEMURI_OK && a.count == 9 && words[9] == MARK);
+    for (size_t i = 0; i < WORDS(states); i++)
+        for (size_t k = 0; k < 3; k++)
+            EXPECT((words[i / 64 * 3 + k] >> i % 64 & 1) == (states[i] >> k & 1));
+    EXPECT((words[6] | words[7] | words[8]) >> 2 == 0);
+    fill(back, WORDS(back));
+    a = lawhemuri_restore(3, WORDS(states), words, 9, back, WORDS(back));
+    EXPECT(a.refusal == LAWHEMURI_OK && a.count == 130);
+    EXPECT(memcmp(back, states, sizeof states) == 0 && back[130] == MARK);
+    a = lawhemuri_store(3, back, 130, again, WORDS(again));
+    EXPECT(a.refusal == LAWHEMURI_OK && a.count == 9 && memcmp(again, words, sizeof again) == 0);
+}
+
+static void test_refused_stores(void) {
+    static const uint64_t zeros[3] = {0}, high[1] = {2}, path[2] = {6, 12}, past[2] = {2, 0};
+    uint64_t out[3];
+    fill(out, WORDS(out));
+#define STORE(fluents, states, len, room) lawhemuri_store(fluents, states, len, out, room)
+#define RESTORE(fluents, count, words, len, room) lawhemuri_restore(fluents, count, words, len, out, room)
+    EXPECT(STORE(65, zeros, 1, 3).refusal == LAWHEMURI_BAD_COUNTS);
+    EXPECT(STORE(1, high, 1, 0).refusal == LAWHEMURI_BAD_START);
+    EXPECT(STORE(2, zeros, 1, 1).refusal == LAWHEMURI_OUTPUT_SHORT);
+    EXPECT(RESTORE(65, 1, NULL, 0, 3).refusal == LAWHEMURI_BAD_COUNTS);
+    EXPECT(RESTORE(2, 1, zeros, 1, 3).refusal == LAWHEMURI_BAD_WORD_COUNT);
+    EXPECT(RESTORE(64, UINT64_MAX, NULL, 0, 3).refusal == LAWHEMURI_BAD_WORD_COUNT);
+    EXPECT(RESTORE(2, 1, past, 2, 0).refusal == LAWHEMURI_BIT_PAST_END);
+    EXPECT(RESTORE(2, 4, path, 2, 3).refusal == LAWHEMURI_OUTPUT_SHORT);
+    lawhemuri_archived a = RESTORE(0, UINT64_MAX, NULL, 0, 3);
+    EXPECT(a.refusal == LAWHEMURI_OUTPUT_SHORT && a.count == 0 && all(out, WORDS(out), MARK));
+    a = lawhemuri_store(0, zeros, 3, NULL, 0);
+    EXPECT(a.refusal == LAWHEMURI_OK && a.count == 0);
+    a = RESTORE(0, 3, NULL, 0, 3);
+    EXPECT(a.refusal == LAWHEMURI_OK && a.count == 3 && all(out, WORDS(out), 0));
+}
+
 int main(void) {
     test_example();
     test_names();
@@ -203,6 +268,9 @@ int main(void) {
     test_denial();
     test_path();
     test_idle_update();
+    test_store();
+    test_blocks();
+    test_refused_stores();
     printf("hosts/c: %s\n", failures == 0 ? "ok" : "failed");
     return failures != 0;
 }

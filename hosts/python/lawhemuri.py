@@ -36,6 +36,12 @@ class States(ctypes.Structure):
     _fields_ = [(name, U64) for name in ("refusal", "states")]
 
 
+class Archived(ctypes.Structure):
+    """The refusal, 0 for none, and how many words or states are written."""
+
+    _fields_ = [(name, U64) for name in ("refusal", "count")]
+
+
 class Refused(Exception):
     """A numbered refusal, with its line for 13 to 17. With 31 `finished` has the run's counts, its calls and its answers."""
 
@@ -57,6 +63,10 @@ class Library:
         self._evaluate.restype = Run
         self._path, self._path.restype = lib.lawhemuri_path, States
         self._path.argtypes = [U64, U64, words, SIZE, words, SIZE] + [longs, SIZE, U64] * 2 + [U64, longs, SIZE]
+        self._store, self._store.restype = lib.lawhemuri_store, Archived
+        self._store.argtypes = [U64] + [longs, SIZE] * 2
+        self._restore, self._restore.restype = lib.lawhemuri_restore, Archived
+        self._restore.argtypes = [U64, U64] + [longs, SIZE] * 2
 
     def read(self, text):
         """The sheet and its rule words."""
@@ -92,6 +102,22 @@ class Library:
         if path.refusal:
             raise Refused(path.refusal)
         return states[: path.states]
+
+    def store(self, fluents, states, out=None):
+        """The words of the states by fluent; `out` is the output lent, else one that is long enough."""
+        out = (U64 * ((len(states) + 63) // 64 * fluents))() if out is None else out
+        stored = self._store(fluents, (U64 * len(states))(*states), len(states), out, len(out))
+        if stored.refusal:
+            raise Refused(stored.refusal)
+        return out[: stored.count]
+
+    def restore(self, fluents, count, words, out=None):
+        """The states, `count` of them, of words by fluent; `out` is the output lent, else one that is long enough."""
+        out = (U64 * count)() if out is None else out
+        restored = self._restore(fluents, count, (U64 * len(words))(*words), len(words), out, len(out))
+        if restored.refusal:
+            raise Refused(restored.refusal)
+        return out[: restored.count]
 
 
 def goal_records(run, calls, answers):

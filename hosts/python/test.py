@@ -86,5 +86,46 @@ class ShortList(unittest.TestCase):
         self.assertEqual((list(same_calls), list(same_answers)), (list(calls), list(answers)))
 
 
+class ByFluent(unittest.TestCase):
+    """Paths kept by fluent."""
+
+    def test_path_both_ways(self):
+        # Drill D9 with a second fluent.
+        text = b"fluent\ta\nfluent\tb\naction\tp\naction\tq\nrule\tp\t+a\t-a\nrule\tq\t!p\t!p\nstart\ngoal\t!q\n"
+        sheet, rules = LIBRARY.read(text)
+        run, ends, calls, answers = LIBRARY.evaluate(sheet, rules)
+        [record] = lawhemuri.goal_records(run, calls, answers).values()
+        path = LIBRARY.path(sheet, rules, run, calls, answers, record)
+        self.assertEqual(path, [0, 1, 0, 1, 0])
+        words = LIBRARY.store(sheet.fluents, path)
+        self.assertEqual(words, [0b01010, 0])
+        self.assertEqual(LIBRARY.restore(sheet.fluents, len(path), words), path)
+
+    def test_blocks_both_ways(self):
+        states, out = [i * i // 3 % 8 for i in range(130)], (lawhemuri.U64 * 10)(*[7] * 10)
+        words = LIBRARY.store(3, states, out)
+        self.assertEqual(words, [sum((s >> k & 1) << i for i, s in enumerate(states[b : b + 64])) for b in (0, 64, 128) for k in range(3)])
+        self.assertEqual(out[9], 7)
+        self.assertEqual(LIBRARY.restore(3, 130, words), states)
+        self.assertEqual(LIBRARY.store(3, LIBRARY.restore(3, 130, words)), words)
+
+    def test_refused_outputs_are_unchanged(self):
+        most, out = 2**64 - 1, (lawhemuri.U64 * 3)(7, 7, 7)
+        for number, refused in (
+            (20, lambda: LIBRARY.store(65, [0], out)),
+            (24, lambda: LIBRARY.store(1, [2], out)),
+            (80, lambda: LIBRARY.store(4, [0], out)),
+            (20, lambda: LIBRARY.restore(65, 1, [], out)),
+            (81, lambda: LIBRARY.restore(2, 1, [0], out)),
+            (81, lambda: LIBRARY.restore(64, most, [], out)),
+            (82, lambda: LIBRARY.restore(2, 1, [2, 0], out)),
+            (80, lambda: LIBRARY.restore(2, 4, [6, 12], out)),
+            (80, lambda: LIBRARY.restore(0, most, [], out)),
+        ):
+            with self.assertRaises(lawhemuri.Refused) as refusal:
+                refused()
+            self.assertEqual((refusal.exception.number, list(out)), (number, [7, 7, 7]))
+
+
 if __name__ == "__main__":
     unittest.main(verbosity=0)

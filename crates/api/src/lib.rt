@@ -6,6 +6,7 @@ ghost use Rattle.sheet.specs.Result.{resultOf, rulesAfter};
 ghost use Rattle.sheet.specs.FluentName.{nameSpan};
 ghost use Rattle.evaluator.specs.Evaluated.{Evaluated, asked, lent, told};
 ghost use Rattle.path.specs.Outcome.{Answered};
+ghost use Rattle.archive.specs.Outcome.{Stored, Restored};
 
 // Reads a sheet: the rule words of an accepted one go to `rules`, which is unchanged past them and by a refusal.
 #[no_mangle]
@@ -72,4 +73,29 @@ pub extern "C" fn lawhemuri_path<'a>(
         record,
         states,
     )
+}
+
+// Stores states by fluent. The words come first in `words`, which is unchanged past them and by a refusal.
+#[no_mangle]
+pub extern "C" fn lawhemuri_store(
+    fluents: u64,
+    states: &[u64],
+    words: &mut [u64],
+) -> archive::Archived
+    ensures { λ r. ⌜ Stored fluents (now (states .entry)) (now (words .entry)) (r .refusal) (r .count) (now (words .exit)) ⌝ }
+{
+    archive::store(fluents, states, words)
+}
+
+// Restores `count` states. They come first in `states`, which is unchanged past them and by a refusal.
+#[no_mangle]
+pub extern "C" fn lawhemuri_restore(
+    fluents: u64,
+    count: u64,
+    words: &[u64],
+    states: &mut [u64],
+) -> archive::Archived
+    ensures { λ r. ⌜ Restored fluents count (now (words .entry)) (now (states .entry)) (r .refusal) (r .count) (now (states .exit)) ⌝ }
+{
+    archive::restore(fluents, count, words, states)
 }

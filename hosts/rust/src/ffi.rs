@@ -32,6 +32,12 @@ pub struct States {
     pub states: u64,
 }
 
+#[repr(C)]
+pub struct Archived {
+    pub refusal: u64,
+    pub count: u64,
+}
+
 extern "C" {
     pub fn lawhemuri_read(
         sheet: *const u8,
@@ -72,4 +78,19 @@ extern "C" {
         states: *mut u64,
         states_len: usize,
     ) -> States;
+    pub fn lawhemuri_store(
+        fluents: u64,
+        states: *const u64,
+        states_len: usize,
+        words: *mut u64,
+        words_len: usize,
+    ) -> Archived;
+    pub fn lawhemuri_restore(
+        fluents: u64,
+        count: u64,
+        words: *const u64,
+        words_len: usize,
+        states: *mut u64,
+        states_len: usize,
+    ) -> Archived;
 }

@@ -1,8 +1,9 @@
-//! Safe functions over the proved library: read a rehearsal sheet, evaluate its goal, list the path of an answer.
+//! Safe functions over the proved library: read a rehearsal sheet, evaluate its goal, list the path of an answer; store states by
+//! fluent, and restore them.
 //!
 //! The caller lends all memory as slices. What each slice holds afterwards, for every
 //! refusal, is said at each function. As the header's constants say, [`evaluate`] needs 1.75 MiB of stack, [`path`] 1.125 MiB,
-//! [`read`] and [`fluent_name`] 64 KiB: a thread of the standard library has 2 MiB.
+//! [`read`] and [`fluent_name`] 64 KiB, [`store`] and [`restore`] 1 KiB: a thread of the standard library has 2 MiB.
 //!
 //! ```
 //! let text = b"fluent\ta\nfluent\tb\naction\tg\nrule\tg\t!g\t?a\t+b\nrule\tg\t+a\nstart\ngoal\t!g\n";
@@ -206,4 +207,40 @@ pub fn path(question: &Question<'_>, records: &Records<'_>, record: usize, state
     };
     accepted(r.refusal)?;
     Ok(r.states as usize)
+}
+
+/// Stores states by fluent (refusals 20, 24, 80) and gives the count of the words.
+///
+/// For each block of 64 states there is one word per fluent, in fluent order; bit i of a fluent's word is set exactly if
+/// it holds in state i of the block, and 0 for a state that is missing. The words come first in `words`, which is
+/// unchanged past them; refused, it is unchanged.
+///
+/// ```
+/// let mut words = [0; 2];
+/// assert_eq!(lawhemuri::store(2, &[0, 1, 3, 2], &mut words), Ok(2));
+/// assert_eq!(words, [0b0110, 0b1100]);
+/// let mut states = [0; 4];
+/// assert_eq!(lawhemuri::restore(2, 4, &words, &mut states), Ok(4));
+/// assert_eq!(states, [0, 1, 3, 2]);
+/// ```
+pub fn store(fluents: u64, states: &[u64], words: &mut [u64]) -> Result<usize, Refusal> {
+    // The library reads `states` and writes `words`, within the lengths given, and keeps neither.
+    let r = unsafe {
+        ffi::lawhemuri_store(fluents, states.as_ptr(), states.len(), words.as_mut_ptr(), words.len())
+    };
+    accepted(r.refusal)?;
+    Ok(r.count as usize)
+}
+
+/// Restores `count` states from their words (refusals 20, 81, 82, 80) and gives their count.
+///
+/// The states come first in `states`, which is unchanged past them; refused, it is unchanged. The words may come from
+/// anybody; those that [`store`] wrote, without what stands past them, give back the states that it was lent.
+pub fn restore(fluents: u64, count: u64, words: &[u64], states: &mut [u64]) -> Result<usize, Refusal> {
+    // The library reads `words` and writes `states`, within the lengths given, and keeps neither.
+    let r = unsafe {
+        ffi::lawhemuri_restore(fluents, count, words.as_ptr(), words.len(), states.as_mut_ptr(), states.len())
+    };
+    accepted(r.refusal)?;
+    Ok(r.count as usize)
 }

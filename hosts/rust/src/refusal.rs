@@ -33,7 +33,7 @@ pub enum Refusal {
     BadRule = 22,
     /// 23: a goal of over 16 steps, or with a bad step.
     BadGoal = 23,
-    /// 24: a start with a bit at or above the fluent count.
+    /// 24: a start, or a state to be stored, with a bit at or above the fluent count.
     BadStart = 24,
     /// 30: the run's calls outnumber the call room, or its answers the answer room.
     TablesFull = 30,
@@ -47,11 +47,17 @@ pub enum Refusal {
     BadRecord = 42,
     /// 43: the list has fewer places than there are states in the path.
     StatesShort = 43,
+    /// 80: the output has fewer places than there are words or states to write.
+    OutputShort = 80,
+    /// 81: the words are not one per fluent for each block of 64 states.
+    BadWordCount = 81,
+    /// 82: a bit is set past the last state.
+    BitPastEnd = 82,
 }
 
 impl Refusal {
     /// All refusals, in rising order of their numbers.
-    pub const ALL: [Refusal; 21] = [
+    pub const ALL: [Refusal; 24] = [
         Refusal::TooLong,
         Refusal::BadByte,
         Refusal::NotEnded,
@@ -73,6 +79,9 @@ impl Refusal {
         Refusal::NoRecord,
         Refusal::BadRecord,
         Refusal::StatesShort,
+        Refusal::OutputShort,
+        Refusal::BadWordCount,
+        Refusal::BitPastEnd,
     ];
 
     /// The refusal's number.
@@ -102,13 +111,16 @@ impl Refusal {
             Refusal::BadLength => "rule words not a multiple of 18, or over 256 rules",
             Refusal::BadRule => "a bad rule word",
             Refusal::BadGoal => "a bad goal",
-            Refusal::BadStart => "a start bit at or above the fluent count",
+            Refusal::BadStart => "a bit of a state at or above the fluent count",
             Refusal::TablesFull => "the tables have too little room for the run",
             Refusal::ListShort => "the list has fewer places than there are ends",
             Refusal::BadRecordCount => "a record count over its room",
             Refusal::NoRecord => "no such answer record",
             Refusal::BadRecord => "a bad call record, or an answer that is not justified",
             Refusal::StatesShort => "the list has fewer places than the path has states",
+            Refusal::OutputShort => "the output has fewer places than there are words or states",
+            Refusal::BadWordCount => "words that are not one per fluent for each block of 64 states",
+            Refusal::BitPastEnd => "a bit set past the last state",
         }
     }
 }

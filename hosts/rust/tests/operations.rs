@@ -1,6 +1,6 @@
 //! The operations as a host meets them: results, refusals, and what each buffer holds afterwards.
 
-use lawhemuri::{evaluate, fluent_name, path, read, Buffers, Question, Records, Refusal, Run, Unread, Unrun};
+use lawhemuri::{evaluate, fluent_name, path, read, restore, store, Buffers, Question, Records, Refusal, Run, Unread, Unrun};
 
 const EXAMPLE: &[u8] = b"fluent\topen\nfluent\tlit\naction\tpurge\naction\tlight\nrule\tpurge\t+open\n\
 rule\tlight\t!purge\t?open\t+lit\t-open\nstart\ngoal\t!light\n";
@@ -132,10 +132,10 @@ fn denial() {
 
 #[test]
 fn numbers_of_refusals() {
-    let numbers = [10, 11, 12, 13, 14, 15, 16, 17, 18, 19, 20, 21, 22, 23, 24, 30, 31, 40, 41, 42, 43];
+    let numbers = [10, 11, 12, 13, 14, 15, 16, 17, 18, 19, 20, 21, 22, 23, 24, 30, 31, 40, 41, 42, 43, 80, 81, 82];
     assert_eq!(Refusal::ALL.map(Refusal::number), numbers);
     assert_eq!(numbers.map(Refusal::of), Refusal::ALL.map(Some));
-    assert!([0, 9, 25, 29, 32, 39, 44].map(Refusal::of).iter().all(Option::is_none));
+    assert!([0, 9, 25, 29, 32, 39, 44, 79, 83].map(Refusal::of).iter().all(Option::is_none));
 }
 
 #[test]
@@ -184,4 +184,63 @@ fn path_of_an_idle_update() {
     assert_eq!(states, [MARK; 3]);
     assert_eq!(path(&question, &records, 0, &mut states), Ok(2));
     assert_eq!(states, [1, 1, MARK]);
+}
+
+/// Drill D9: p: +a -a; q: !p !p; goal !q, with a second fluent. Its path, which is kept by fluent and taken back.
+#[test]
+fn path_kept_by_fluent() {
+    let mut rules = [0; 36];
+    rules[..4].copy_from_slice(&[0, 2, 256, 512]);
+    rules[18..22].copy_from_slice(&[1, 2, 768, 768]);
+    let question = Question { fluents: 2, actions: 2, rules: &rules, goal: &[769], start: 0 };
+    let (run, calls, answers, _) = with_rooms(&question, 8, 8, 8);
+    let run = run.unwrap();
+    let records = Records { calls: &calls, call_count: run.calls, answers: &answers, answer_count: run.answers };
+    let goal = (0..run.answers).find(|x| calls[2 * answers[19 * x] as usize] == 64).unwrap();
+    let mut states = [MARK; 6];
+    let count = path(&question, &records, goal, &mut states).unwrap();
+    assert_eq!(states, [0, 1, 0, 1, 0, MARK]);
+    let mut words = [MARK; 3];
+    assert_eq!(store(2, &states[..count], &mut words), Ok(2));
+    assert_eq!(words, [0b01010, 0, MARK]);
+    let mut back = [MARK; 6];
+    assert_eq!(restore(2, 5, &words[..2], &mut back), Ok(5));
+    assert_eq!(back, states);
+}
+
+#[test]
+fn blocks_by_fluent_both_ways() {
+    let states: Vec<u64> = (0..130).map(|i| i * i / 3 % 8).collect();
+    let mut words = [MARK; 10];
+    assert_eq!(store(3, &states, &mut words), Ok(9));
+    assert_eq!(words[9], MARK);
+    for (i, state) in states.iter().enumerate() {
+        for k in 0..3 {
+            assert_eq!(words[i / 64 * 3 + k] >> (i % 64) & 1, state >> k & 1);
+        }
+    }
+    assert!(words[6..9].iter().all(|w| w >> 2 == 0));
+    let mut back = [MARK; 131];
+    assert_eq!(restore(3, 130, &words[..9], &mut back), Ok(130));
+    assert_eq!((&back[..130], back[130]), (&states[..], MARK));
+    let mut again = [MARK; 9];
+    assert_eq!(store(3, &back[..130], &mut again), Ok(9));
+    assert_eq!(again, words[..9]);
+}
+
+#[test]
+fn refused_stores_leave_the_output() {
+    let mut out = [MARK; 3];
+    assert_eq!(store(65, &[0], &mut out), Err(Refusal::BadCounts));
+    assert_eq!(store(1, &[2], &mut out[..0]), Err(Refusal::BadStart));
+    assert_eq!(store(2, &[0], &mut out[..1]), Err(Refusal::OutputShort));
+    assert_eq!(restore(65, 1, &[], &mut out), Err(Refusal::BadCounts));
+    assert_eq!(restore(2, 1, &[0], &mut out), Err(Refusal::BadWordCount));
+    assert_eq!(restore(64, u64::MAX, &[], &mut out), Err(Refusal::BadWordCount));
+    assert_eq!(restore(2, 1, &[2, 0], &mut out[..0]), Err(Refusal::BitPastEnd));
+    assert_eq!(restore(2, 4, &[6, 12], &mut out), Err(Refusal::OutputShort));
+    assert_eq!(restore(0, u64::MAX, &[], &mut out), Err(Refusal::OutputShort));
+    assert_eq!(out, [MARK; 3]);
+    assert_eq!((store(0, &[0; 3], &mut []), restore(0, 3, &[], &mut out)), (Ok(0), Ok(3)));
+    assert_eq!(out, [0; 3]);
 }
