@@ -1,0 +1,3 @@
+-- Laws of what the product answers in the terms of the model theory.
+pub mod Witnesses
+pub mod Ends

@@ -1,0 +1,2 @@
+-- What the ends and the path that the product gives say in the model theory.
+pub mod Witness
