@@ -1,5 +1,6 @@
-/* Rehearsal sheets in ground Transaction Logic: read a sheet, evaluate its goal,
- * list the path of an answer; store states by fluent, and restore them.
+/* Rehearsal sheets in ground Transaction Logic: read a sheet, write it as its one
+ * fixed text, evaluate its goal, list the path of an answer; store states by fluent,
+ * and restore them.
  *
  * The host lends all memory; nothing is allocated, kept between calls, printed or
  * locked, so calls may run in any number of threads. Every call returns, whatever
@@ -30,7 +31,8 @@ extern "C" {
  *
  * Whole sheet (lawhemuri_read):
  *  10  longer than 65,536 bytes                              unchanged
- *  11  a byte not TAB, LF or 33 to 126                       unchanged
+ *  11  a byte not TAB, LF or 33 to 126, other than SPACE
+ *      in a comment line and CR directly before LF           unchanged
  *  12  not empty, last byte not LF                           unchanged
  * A line, from the top; in a line 13, 17 and the count part of 14 come first,
  * then fields from the left, each by 14, 15, 16:
@@ -64,6 +66,8 @@ extern "C" {
  *      the count, or a state bit too high; or an answer
  *      not justified                                         list unchanged
  *  43  fewer places than states in the path                  list unchanged
+ * Text (lawhemuri_write, after 10 to 18):
+ *  50  fewer bytes lent than the text has                    text unchanged
  * States by fluent (lawhemuri_store: 20, 24, 80; lawhemuri_restore: 20, 81, 82, 80;
  * 20 is of the fluents alone, 24 of every state):
  *  81  words not one per fluent for each block of 64 states  output unchanged
@@ -95,6 +99,7 @@ extern "C" {
 #define LAWHEMURI_NO_RECORD 41u
 #define LAWHEMURI_BAD_RECORD 42u
 #define LAWHEMURI_STATES_SHORT 43u
+#define LAWHEMURI_TEXT_SHORT 50u
 #define LAWHEMURI_OUTPUT_SHORT 80u
 #define LAWHEMURI_BAD_WORD_COUNT 81u
 #define LAWHEMURI_BIT_PAST_END 82u
@@ -163,6 +168,13 @@ typedef struct lawhemuri_states {
     uint64_t states;  /* how many; 0 where refused */
 } lawhemuri_states;
 
+/* What the writer gives. */
+typedef struct lawhemuri_written {
+    uint64_t refusal; /* 0: the text is written */
+    uint64_t line;    /* for 13 to 17 the sheet's line, from 1; else 0 */
+    uint64_t length;  /* bytes of the text; 0 where refused */
+} lawhemuri_written;
+
 /* What lawhemuri_store and lawhemuri_restore give. */
 typedef struct lawhemuri_archived {
     uint64_t refusal; /* 0: the words or states are written */
@@ -183,6 +195,16 @@ lawhemuri_sheet lawhemuri_read(const uint8_t *sheet, size_t sheet_len,
  */
 lawhemuri_span lawhemuri_fluent_name(const uint8_t *sheet, size_t sheet_len,
                                      uint64_t fluent);
+
+/* Writes an accepted sheet as its one fixed text (refusals 10 to 18, then 50): no
+ * comments, LF alone at a line's end, the names of `start` in fluent order. The text
+ * is never longer than the sheet.
+ *
+ * text: no refusal, the first result.length bytes are the text and the buffer past
+ *   them is unchanged; refused, it is unchanged.
+ */
+lawhemuri_written lawhemuri_write(const uint8_t *sheet, size_t sheet_len,
+                                  uint8_t *text, size_t text_len);
 
 /* Evaluates a goal from a start (refusals 20 to 31).
  *

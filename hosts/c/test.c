@@ -76,6 +76,27 @@ static void test_names(void) {
     EXPECT(none.at == 0 && none.len == 0);
 }
 
+static void test_text(void) {
+    static const char dressed[] = "# a\tb c\r\nfluent\ta\r\nfluent\tb\n#\naction\tg\r\nrule\tg\t+a\t?b\r\nstart\tb\ta\r\ngoal\t!g\r\n# end\n";
+    static const char plain[] = "fluent\ta\nfluent\tb\naction\tg\nrule\tg\t+a\t?b\nstart\ta\tb\ngoal\t!g\n";
+    uint8_t text[60];
+    memset(text, 7, sizeof text);
+    lawhemuri_written w = lawhemuri_write((const uint8_t *)dressed, strlen(dressed), text, 57);
+    EXPECT(w.refusal == LAWHEMURI_TEXT_SHORT && w.line == 0 && w.length == 0 && text[0] == 7 && text[56] == 7);
+    w = lawhemuri_write((const uint8_t *)dressed, strlen(dressed), text, sizeof text);
+    EXPECT(w.refusal == LAWHEMURI_OK && w.line == 0 && w.length == 58);
+    EXPECT(memcmp(text, plain, 58) == 0 && text[58] == 7 && text[59] == 7);
+    w = lawhemuri_write((const uint8_t *)"# 1\nfluent\tA\n", 13, text, sizeof text);
+    EXPECT(w.refusal == LAWHEMURI_BAD_FIELD && w.line == 2 && w.length == 0 && memcmp(text, plain, 58) == 0);
+    w = lawhemuri_write(NULL, 0, NULL, 0);
+    EXPECT(w.refusal == LAWHEMURI_INCOMPLETE && w.line == 0 && w.length == 0);
+    uint8_t again[58];
+    w = lawhemuri_write(text, 58, again, sizeof again);
+    EXPECT(w.refusal == LAWHEMURI_OK && w.length == 58 && memcmp(again, plain, 58) == 0);
+    lawhemuri_span b = lawhemuri_fluent_name((const uint8_t *)dressed, strlen(dressed), 1);
+    EXPECT(b.at == 26 && b.len == 1);
+}
+
 static void test_refused_sheets(void) {
     static const struct {
         const char *text;
@@ -85,7 +106,8 @@ static void test_refused_sheets(void) {
         {"\n", LAWHEMURI_BAD_WORD, 1},                    {"start\ngoal\t\n", LAWHEMURI_BAD_FIELD, 2},
         {"fluent\ta\naction\ta\n", LAWHEMURI_REPEATED, 2}, {"start\ta\n", LAWHEMURI_UNDEFINED, 1},
         {"start\ngoal" "\t+a\t+a\t+a\t+a\t+a\t+a\t+a\t+a\t+a\t+a\t+a\t+a\t+a\t+a\t+a\t+a\t+a\n", LAWHEMURI_TOO_MANY, 2},
-        {"", LAWHEMURI_INCOMPLETE, 0},
+        {"", LAWHEMURI_INCOMPLETE, 0},                    {"start\ngoal\n# x y", LAWHEMURI_NOT_ENDED, 0},
+        {"start\r\r\ngoal\n", LAWHEMURI_BAD_BYTE, 0},     {"# 1\r\n# 2\nfluent\tA\n", LAWHEMURI_BAD_FIELD, 3},
     };
     for (size_t i = 0; i < WORDS(cases); i++) {
         uint16_t rules[36];
@@ -262,6 +284,7 @@ static void test_refused_stores(void) {
 int main(void) {
     test_example();
     test_names();
+    test_text();
     test_refused_sheets();
     test_rooms();
     test_refused_questions();

@@ -8,7 +8,7 @@ import ctypes
 import os
 import sys
 
-U16, U64, SIZE = ctypes.c_uint16, ctypes.c_uint64, ctypes.c_size_t
+U8, U16, U64, SIZE = ctypes.c_uint8, ctypes.c_uint16, ctypes.c_uint64, ctypes.c_size_t
 
 
 class Sheet(ctypes.Structure):
@@ -22,6 +22,12 @@ class Span(ctypes.Structure):
     """A part of a sheet."""
 
     _fields_ = [("at", SIZE), ("len", SIZE)]
+
+
+class Written(ctypes.Structure):
+    """The refusal, 0 for none, its line, and the length of the text written."""
+
+    _fields_ = [(name, U64) for name in ("refusal", "line", "length")]
 
 
 class Run(ctypes.Structure):
@@ -59,6 +65,8 @@ class Library:
         self._read, self._name, self._evaluate = lib.lawhemuri_read, lib.lawhemuri_fluent_name, lib.lawhemuri_evaluate
         self._read.argtypes, self._read.restype = [ctypes.c_char_p, SIZE, words, SIZE], Sheet
         self._name.argtypes, self._name.restype = [ctypes.c_char_p, SIZE, U64], Span
+        self._write, self._write.restype = lib.lawhemuri_write, Written
+        self._write.argtypes = [ctypes.c_char_p, SIZE, ctypes.POINTER(U8), SIZE]
         self._evaluate.argtypes = [U64, U64, words, SIZE, words, SIZE, U64] + [longs, SIZE] * 3
         self._evaluate.restype = Run
         self._path, self._path.restype = lib.lawhemuri_path, States
@@ -80,6 +88,14 @@ class Library:
         """The part of the sheet that defines a fluent."""
         part = self._name(text, len(text), fluent)
         return text[part.at : part.at + part.len]
+
+    def write(self, text, room=None):
+        """The one fixed text of what the sheet says, in a room as long as the sheet if none is given."""
+        out = (U8 * (len(text) if room is None else room))()
+        written = self._write(text, len(text), out, len(out))
+        if written.refusal:
+            raise Refused(written.refusal, written.line)
+        return bytes(out[: written.length])
 
     def evaluate(self, sheet, rules, rooms=(512, 256, 256)):
         """The run's counts, its ends in rising order, and the tables of calls and answers."""

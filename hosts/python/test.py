@@ -1,4 +1,4 @@
-"""The sheets of sheets/ and sheets/drills/ from Python: the ends stored there, with each end a path from the start to it."""
+"""The sheets of sheets/ and sheets/drills/ from Python: the ends stored there, with each end a path from the start to it; and their texts."""
 
 import contextlib
 import glob
@@ -32,11 +32,16 @@ def start_of(text):
     return sum(1 << fluents.index(name) for name in start)
 
 
+def sheets_stored():
+    """The files of sheets/ and sheets/drills/."""
+    sheets = glob.glob(os.path.join(SHEETS, "*.sheet")) + glob.glob(os.path.join(SHEETS, "drills", "*.sheet"))
+    assert sheets
+    return sorted(sheets)
+
+
 class Sheets(unittest.TestCase):
     def test_every_sheet(self):
-        sheets = glob.glob(os.path.join(SHEETS, "*.sheet")) + glob.glob(os.path.join(SHEETS, "drills", "*.sheet"))
-        self.assertTrue(sheets)
-        for sheet in sorted(sheets):
+        for sheet in sheets_stored():
             with self.subTest(os.path.relpath(sheet, SHEETS)):
                 self.hold_to_stored(os.path.splitext(sheet)[0])
 
@@ -69,6 +74,38 @@ class Denial(unittest.TestCase):
         with self.assertRaises(lawhemuri.Refused) as refused:
             LIBRARY.read(b"action\tg\nstart\ngoal\t~g\n")
         self.assertEqual((refused.exception.number, refused.exception.line), (16, 3))
+
+
+class Texts(unittest.TestCase):
+    """Every accepted sheet written: a plain text that says the same, is no longer, and is its own text."""
+
+    def test_every_sheet(self):
+        for sheet in sheets_stored():
+            with self.subTest(os.path.relpath(sheet, SHEETS)):
+                self.hold_to_sheet(content(sheet))
+
+    def hold_to_sheet(self, text):
+        try:
+            said = LIBRARY.read(text)
+        except lawhemuri.Refused as refused:
+            with self.assertRaises(lawhemuri.Refused) as same:
+                LIBRARY.write(text)
+            self.assertEqual((same.exception.number, same.exception.line), (refused.number, refused.line))
+            return
+        written = LIBRARY.write(text)
+        self.assertLessEqual(len(written), len(text))
+        self.assertFalse(set(written) & set(b"# \r"))
+        self.assertEqual([bytes(part) for part in LIBRARY.read(written)], [bytes(part) for part in said])
+        self.assertEqual(LIBRARY.write(written), written)
+        with self.assertRaises(lawhemuri.Refused) as short:
+            LIBRARY.write(text, room=len(written) - 1)
+        self.assertEqual((short.exception.number, short.exception.line), (50, 0))
+
+    def test_start_in_fluent_order(self):
+        self.assertEqual(
+            LIBRARY.write(b"# x\r\nfluent\ta\r\nfluent\tb\nfluent\tc\nstart\tc\ta\r\ngoal\n"),
+            b"fluent\ta\nfluent\tb\nfluent\tc\nstart\ta\tc\ngoal\n",
+        )
 
 
 class ShortList(unittest.TestCase):

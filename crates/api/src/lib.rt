@@ -4,6 +4,7 @@ ghost use lib.ListN.{length};
 ghost use Rattle.sheet.specs.Reader.{readSheet};
 ghost use Rattle.sheet.specs.Result.{resultOf, rulesAfter};
 ghost use Rattle.sheet.specs.FluentName.{nameSpan};
+ghost use Rattle.writer.specs.Writer.{writtenIn, outAfter};
 ghost use Rattle.evaluator.specs.Evaluated.{Evaluated, asked, lent, told};
 ghost use Rattle.path.specs.Outcome.{Answered};
 ghost use Rattle.archive.specs.Outcome.{Stored, Restored};
@@ -23,6 +24,15 @@ pub extern "C" fn lawhemuri_fluent_name(sheet: &[u8], fluent: u64) -> sheet::Spa
     ensures { λ r. ⌜ r ≡ nameSpan (now (sheet .entry)) fluent ⌝ }
 {
     sheet::fluent_span(sheet, fluent)
+}
+
+// Writes an accepted sheet's one fixed text to `text`, which is unchanged past it and by a refusal.
+#[no_mangle]
+pub extern "C" fn lawhemuri_write(sheet: &[u8], text: &mut [u8]) -> writer::Written
+    ensures { λ r. ⌜ r ≡ writtenIn (length (now (text .entry))) (readSheet (now (sheet .entry))) ⌝ }
+    ensures { λ _. ⌜ now (text .exit) ≡ outAfter (now (text .entry)) (readSheet (now (sheet .entry))) ⌝ }
+{
+    writer::write(sheet, text)
 }
 
 // Evaluates the goal from the start: fills the tables with its calls and answers, and lists its ends in rising order.

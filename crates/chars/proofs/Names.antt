@@ -37,13 +37,6 @@ module _ (s : List ℕ) (from to : ℕ) (h : from < to) (k : to ≤ length s) wh
   pub name-rest : lower (getD s from 0) ≡ true → to - from ≤ 16 → isName (slice from to s) ≡ all nameByte (slice (from + 1) to s)
   name-rest e l = name-first ∙ rw (e, le-leb (to - (from + 1)) 15 (omega arith))
 
--- a test of all elements from i on, by the one at i
-pub all-drop : (p : ℕ → Bool) (s : List ℕ) (i : ℕ) → i < length s → all p (drop i s) ≡ (p (getD s i 0) && all p (drop (i + 1) s))
-all-drop p s i h = rw (add-one, drop-cons s i 0)
-
-pub all-done : (p : ℕ → Bool) (s : List ℕ) (i : ℕ) → length s ≤ i → all p (drop i s) ≡ true
-all-done p s i h = ap (all p) (drop-of-length-le s h)
-
 -- two lists from i on, by their elements at i
 pub same-drop : (x y : List ℕ) (i : ℕ) → i < length x → i < length y → same (drop i x) (drop i y) ≡ (eqb (getD x i 0) (getD y i 0) && same (drop (i + 1) x) (drop (i + 1) y))
 unfolding same

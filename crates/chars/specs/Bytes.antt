@@ -2,7 +2,7 @@
 use Prim.Native.Nat.{ℕ}
 use Prim.Native.String.{String, [] as end, _∷_ as _then_}
 use Prim.Native.Char.{code}
-use mathlib.Core.Bool.{Bool, true, false, _&&_, _||_}
+use mathlib.Core.Bool.{Bool, true, false, cond, _&&_, _||_}
 use mathlib.Core.List.{List, [], _∷_}
 use lib.ListN.{length}
 use lib.Dec.{leb, eqb}
@@ -18,6 +18,15 @@ TAB = 9
 abbrev pub LF : ℕ
 LF = 10
 
+abbrev pub CR : ℕ
+CR = 13
+
+abbrev pub SPACE : ℕ
+SPACE = 32
+
+abbrev pub HASH : ℕ
+HASH = 35
+
 -- Each element passes the test.
 abbrev pub all : (ℕ → Bool) → List ℕ → Bool
 all p [] = true
@@ -26,6 +35,27 @@ all p (x ∷ xs) = p x && all p xs
 -- A byte of a sheet: TAB, LF or 33 to 126.
 unfoldable pub sheetByte : ℕ → Bool
 sheetByte c = eqb c TAB || eqb c LF || (leb 33 c && leb c 126)
+
+-- The list begins with the byte b.
+abbrev pub begins : ℕ → List ℕ → Bool
+begins b [] = false
+begins b (x ∷ xs) = eqb x b
+
+-- The byte x, before the bytes xs, may stand: a byte of a sheet, SPACE in a comment line, CR directly before LF.
+unfoldable pub mayStand : Bool → ℕ → List ℕ → Bool
+unfolding sheetByte
+mayStand comment x xs = sheetByte x || ((comment && eqb x SPACE) || (eqb x CR && begins LF xs))
+
+-- The bytes may stand where they do; `comment` says whether the line that they begin in is a comment, as one is that starts with `#`.
+unfoldable pub cleanIn : Bool → List ℕ → Bool
+unfolding mayStand
+cleanIn comment [] = true
+cleanIn comment (x ∷ xs) = mayStand comment x xs && cleanIn (cond (eqb x LF) (begins HASH xs) comment) xs
+
+-- A sheet without a byte that 11 refuses.
+unfoldable pub clean : List ℕ → Bool
+unfolding cleanIn
+clean s = cleanIn (begins HASH s) s
 
 -- A lowercase letter.
 unfoldable pub lower : ℕ → Bool

@@ -1,9 +1,9 @@
 -- The lines of a text and the fields of a line. Assumes nothing.
 use Prim.Native.Nat.{ℕ}
-use mathlib.Core.Bool.{Bool, true, false}
+use mathlib.Core.Bool.{Bool, true, false, cond}
 use mathlib.Core.List.{List, [], _∷_}
 use lib.Dec.{eqb}
-use Rattle.chars.specs.Bytes.{TAB, LF}
+use Rattle.chars.specs.Bytes.{TAB, LF, CR}
 
 -- The byte x in front of the first piece.
 abbrev pub grow : ℕ → List (List ℕ) → List (List ℕ)
@@ -24,6 +24,12 @@ pieces last b (x ∷ xs) = pieceThen (eqb x b) x (pieces last b xs)
 unfoldable pub lines : List ℕ → List (List ℕ)
 unfolding pieces
 lines s = pieces [] LF s
+
+-- The line without the CR at its end.
+unfoldable pub bare : List ℕ → List ℕ
+bare [] = []
+bare (x ∷ []) = cond (eqb x CR) [] (x ∷ [])
+bare (x ∷ y ∷ ys) = x ∷ bare (y ∷ ys)
 
 -- Fields parted by tabs: one more than there are tabs, so nothing after the last tab is an empty field.
 unfoldable pub fields : List ℕ → List (List ℕ)

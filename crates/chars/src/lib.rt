@@ -1,11 +1,11 @@
 // Bytes of a sheet: which may stand where, names, lines and fields.
 ghost use mathlib.Core.Path.{_≡_};
-ghost use Prim.Native.Nat.{_≤_, _<_};
-ghost use lib.ListN.{length};
+ghost use Prim.Native.Nat.{_+_, _≤_, _<_};
+ghost use lib.ListN.{length, getD, drop};
 ghost use lib.Seq.{slice};
-ghost use Rattle.chars.specs.Bytes.{all, sheetByte, lower, nameByte, isName};
+ghost use Rattle.chars.specs.Bytes.{HASH, sheetByte, begins, mayStand, clean, lower, nameByte, isName};
 ghost use Rattle.chars.specs.Places.{same};
-ghost use Rattle.chars.specs.Inner.{LineEnd, FieldEnd};
+ghost use Rattle.chars.specs.Inner.{LineEnd, BareEnd, FieldEnd};
 
 // Whether a byte may stand in a sheet: TAB, LF or 33 to 126.
 fn in_sheet(b: u8) -> bool
@@ -28,17 +28,41 @@ fn in_name(b: u8) -> bool
     is_lower(b) | ((48 <= b) & (b <= 57)) | (b == b'_')
 }
 
-// Whether all bytes may stand in a sheet. All are looked at, whatever the first are: the compiler then tests many at once.
-pub fn is_clean(s: &[u8]) -> bool
-    ensures { λ r. ⌜ r ≡ all sheetByte (now (s .entry)) ⌝ }
+// Whether the bytes from `at` on begin with b.
+fn begins(s: &[u8], at: usize, b: u8) -> bool
+    ensures { λ r. ⌜ r ≡ begins b (drop at (now (s .entry))) ⌝ }
 {
-    let mut clean = true;
+    if at < s.len() {
+        return s[at] == b;
+    }
+    false
+}
+
+// Whether byte i may stand where it does, in a comment line or another.
+fn may_stand(s: &[u8], i: usize, comment: bool) -> bool
+    requires { ⌜ i < length (now s) ⌝ }
+    ensures { λ r. ⌜ r ≡ mayStand comment (getD (now (s .entry)) i 0) (drop (i + 1) (now (s .entry))) ⌝ }
+{
+    let b = s[i];
+    in_sheet(b) | ((comment & (b == b' ')) | ((b == b'\r') & begins(s, i + 1, b'\n')))
+}
+
+// Whether all bytes may stand where they do.
+pub fn is_clean(s: &[u8]) -> bool
+    ensures { λ r. ⌜ r ≡ clean (now (s .entry)) ⌝ }
+{
+    let mut comment = begins(s, 0, b'#');
     let mut i = 0;
     while i < s.len() {
-        clean = clean & in_sheet(s[i]);
+        if !may_stand(s, i, comment) {
+            return false;
+        }
+        if s[i] == b'\n' {
+            comment = begins(s, i + 1, b'#');
+        }
         i += 1;
     }
-    clean
+    true
 }
 
 // Whether the bytes from `from` up to, not including, `to` are a name.
@@ -71,6 +95,32 @@ pub fn line_end(s: &[u8], at: usize) -> usize
     ensures { λ r. ⌜ LineEnd (now (s .entry)) at r ⌝ }
 {
     bytes::scan::find(s, at, s.len(), b'\n')
+}
+
+// Whether the line from `at` up to `to` is a comment.
+pub fn is_comment(s: &[u8], at: usize, to: usize) -> bool
+    requires { ⌜ (at ≤ to) × (to ≤ length (now s)) ⌝ }
+    ensures { λ r. ⌜ r ≡ begins HASH (slice at to (now (s .entry))) ⌝ }
+{
+    if at == to {
+        return false;
+    }
+    s[at] == b'#'
+}
+
+// Where the line from `at` up to `to` ends without the CR at its end.
+pub fn bare_end(s: &[u8], at: usize, to: usize) -> usize
+    requires { ⌜ (at ≤ to) × (to ≤ length (now s)) ⌝ }
+    ensures { λ r. ⌜ BareEnd (now (s .entry)) at to r ⌝ }
+{
+    if at == to {
+        return to;
+    }
+    let last = to - 1;
+    if s[last] == b'\r' {
+        return last;
+    }
+    to
 }
 
 // Where the field from `at` ends, in a line that ends at `to`: at its tab, or at `to`.

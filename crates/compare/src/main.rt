@@ -1,5 +1,6 @@
-// Compares reader and evaluator with a separately written evaluator on sheets at random: the words read, ends, calls, answers,
-// justifications and rooms. The other evaluator works on the words of the book that a sheet was written from.
+// Compares reader, writer and evaluator with a separately written evaluator on sheets at random and in some dress: the words read, the text
+// written and what it reads to, ends, calls, answers, justifications and rooms. The other evaluator works on the words of the book that a
+// sheet was written from.
 mod evidence;
 mod records;
 mod rooms;
@@ -11,16 +12,20 @@ use evaluator::Run;
 use relation::Found;
 use relation::random;
 
-// What was seen: sheets; rules that call their own action first; sheets in which two actions call each other first; ends, calls
-// and answers. Then the sheets that differ.
+// What was seen: sheets; their comment lines and lines ended by CR LF; rules that call their own action first; sheets in which two actions
+// call each other first; ends, calls and answers. Then the sheets that differ.
 struct Tally {
     sheets: u64,
+    comments: u64,
+    returns: u64,
     own: u64,
     mutual: u64,
     ends: u64,
     calls: u64,
     answers: u64,
     bad_words: u64,
+    bad_text: u64,
+    bad_again: u64,
     bad_ends: u64,
     bad_calls: u64,
     bad_answers: u64,
@@ -35,12 +40,16 @@ fn sum(a: u64, b: u64) -> u64 {
 fn plus(a: Tally, b: Tally) -> Tally {
     Tally {
         sheets: sum(a.sheets, b.sheets),
+        comments: sum(a.comments, b.comments),
+        returns: sum(a.returns, b.returns),
         own: sum(a.own, b.own),
         mutual: sum(a.mutual, b.mutual),
         ends: sum(a.ends, b.ends),
         calls: sum(a.calls, b.calls),
         answers: sum(a.answers, b.answers),
         bad_words: sum(a.bad_words, b.bad_words),
+        bad_text: sum(a.bad_text, b.bad_text),
+        bad_again: sum(a.bad_again, b.bad_again),
         bad_ends: sum(a.bad_ends, b.bad_ends),
         bad_calls: sum(a.bad_calls, b.bad_calls),
         bad_answers: sum(a.bad_answers, b.bad_answers),
@@ -52,12 +61,16 @@ fn plus(a: Tally, b: Tally) -> Tally {
 fn none() -> Tally {
     Tally {
         sheets: 0,
+        comments: 0,
+        returns: 0,
         own: 0,
         mutual: 0,
         ends: 0,
         calls: 0,
         answers: 0,
         bad_words: 0,
+        bad_text: 0,
+        bad_again: 0,
         bad_ends: 0,
         bad_calls: 0,
         bad_answers: 0,
@@ -155,31 +168,37 @@ fn same_answers(
     records::same_answers(calls, run.calls, answers, m, rel, called, found.ends, start)
 }
 
-// Compares the sheet of one book from one state.
-fn compared(book: &[u16; 126], start: u64) -> Tally {
+// Compares the sheet of one book from one state in a dress.
+fn compared(book: &[u16; 126], start: u64, dress: u64) -> Tally {
     let mut rel = [0u64; 32];
     let mut called = [0u64; 4];
     let found = relation::run(book, 6, start, &mut rel, &mut called);
     let mut rules = [0u16; 108];
-    let read = sheets::read(book, start, &mut rules);
+    let read = sheets::read(book, start, dress, &mut rules);
     let mut calls = [words::MARK; 80];
     let mut answers = [words::MARK; 5700];
     let mut ends = [words::MARK; 10];
     let run = rooms::evaluate(read, &rules, &mut calls, &mut answers, &mut ends);
     let good_rooms = rooms::exact(read, &rules, run);
     let good_words = sheets::as_written(book, start, read, &rules);
+    let good_text = sheets::same_text(book, start, dress);
+    let good_again = sheets::same_again(book, start, dress);
     let good_ends = same_ends(run, found.ends, &ends);
     let good_calls = same_calls(run, found, &calls, &called, start);
     let good_answers = same_answers(run, found, &calls, &answers, &rel, &called, start);
     let good_evidence = evidence::all_justified(book, &calls, run.calls, &answers, run.answers);
     Tally {
         sheets: 1,
+        comments: sheets::count(book, start, dress, b'#'),
+        returns: sheets::count(book, start, dress, b'\r'),
         own: own_first(book),
         mutual: mutual_first(book),
         ends: run.ends,
         calls: run.calls,
         answers: run.answers,
         bad_words: failed(good_words),
+        bad_text: failed(good_text),
+        bad_again: failed(good_again),
         bad_ends: failed(good_ends),
         bad_calls: failed(good_calls),
         bad_answers: failed(good_answers),
@@ -204,7 +223,8 @@ fn compare(sheets: u64, from: u64) -> Tally {
     for k in 0..sheets {
         let mut book = [0u16; 126];
         seed = random_book(seed, &mut book, (k % 4) as usize);
-        tally = plus(tally, compared(&book, random::pick(seed, 8) % 8));
+        let dress = random::pick(random::next(seed), 32768);
+        tally = plus(tally, compared(&book, random::pick(seed, 8) % 8, dress));
     }
     tally
 }
@@ -218,6 +238,8 @@ fn line(name: &[u8], n: u64) {
 
 fn print_seen(t: Tally) {
     line(b"sheets", t.sheets);
+    line(b"comment lines", t.comments);
+    line(b"lines ended by CR LF", t.returns);
     line(b"rules that call themselves first", t.own);
     line(b"sheets with mutual recursion first", t.mutual);
     line(b"ends", t.ends);
@@ -227,6 +249,8 @@ fn print_seen(t: Tally) {
 
 fn print_differences(t: Tally) {
     line(b"sheets not read as written", t.bad_words);
+    line(b"sheets not written as the plain text", t.bad_text);
+    line(b"texts written and not read as the sheet", t.bad_again);
     line(b"sheets that differ in ends", t.bad_ends);
     line(b"sheets that differ in calls", t.bad_calls);
     line(b"sheets that differ in answers", t.bad_answers);

@@ -1,7 +1,8 @@
-// Drills D11 to D13, a goal cut in two, denials, the path of D9, updates that change nothing, states stored and restored, and each refusal
-// from 10 to 43 and 80 to 82, with what every buffer holds afterwards.
+// Drills D11 to D13, a goal cut in two, denials, the path of D9, updates that change nothing, sheets in every dress, states stored and
+// restored, and each refusal from 10 to 50 and 80 to 82, with what every buffer holds afterwards.
 mod cuts;
 mod denials;
+mod dresses;
 mod paths;
 mod print;
 mod runs;
@@ -14,5 +15,6 @@ fn main() {
     cuts::all();
     denials::all();
     paths::all();
+    dresses::all();
     stores::all();
 }

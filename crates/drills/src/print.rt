@@ -54,6 +54,71 @@ fn wide(word: u16) -> u64 {
     word as u64
 }
 
+// A byte of text as it stands, tab, CR and LF as in a program.
+fn letter(b: u8) {
+    match b {
+        b'\t' => text(b"\\t"),
+        b'\n' => text(b"\\n"),
+        b'\r' => text(b"\\r"),
+        _ => text(&[b]),
+    }
+}
+
+// Whether a byte is told as text.
+fn is_text(b: u8) -> bool {
+    if 126 < b {
+        return false;
+    }
+    31 < b || b == b'\t' || b == b'\n' || b == b'\r'
+}
+
+fn wide_byte(b: u8) -> u64 {
+    b as u64
+}
+
+// The place after the equal bytes that begin here.
+fn equal_bytes(bytes: &[u8], from: usize) -> usize
+    requires { ⌜ from < length (now bytes) ⌝ }
+    ensures { λ r. ⌜ (from < r) × (r ≤ length (now (bytes .entry))) ⌝ }
+{
+    let mut i = from + 1;
+    while i < bytes.len() {
+        if bytes[i] != bytes[from] {
+            return i;
+        }
+        i += 1;
+    }
+    i
+}
+
+// A space before a text.
+fn gap(bytes: &[u8]) {
+    if bytes.len() == 0 {
+        return;
+    }
+    if is_text(bytes[0]) {
+        text(b" ");
+    }
+}
+
+// The bytes of a buffer: text, and any other byte as a number.
+pub fn bytes(name: &[u8], bytes: &[u8]) {
+    text(b"\t");
+    text(name);
+    gap(bytes);
+    let mut i: usize = 0;
+    while i < bytes.len() {
+        if is_text(bytes[i]) {
+            letter(bytes[i]);
+            i += 1;
+        } else {
+            let end = equal_bytes(bytes, i);
+            times(wide_byte(bytes[i]), (end - i) as u64);
+            i = end;
+        }
+    }
+}
+
 // The words of a buffer of 40, of 16 bits each.
 pub fn short_buffer(name: &[u8], words: &[u16; 40]) {
     let mut wider = [0u64; 40];

@@ -102,7 +102,7 @@ fn one_byte(name: &[u8], byte: u8) {
 fn low_bytes() {
     one_byte(b"11 byte 8", 8);
     one_byte(b"11 byte 11", 11);
-    one_byte(b"11 byte 13", 13);
+    one_byte(b"13 byte 13, CR directly before LF", 13);
     one_byte(b"11 byte 31", 31);
     one_byte(b"11 byte 32", 32);
 }

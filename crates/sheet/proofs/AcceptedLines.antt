@@ -1,5 +1,5 @@
 -- What is known of a line that is accepted, and of the lines of an accepted sheet. Assumes nothing.
-use mathlib.Core.Path.{_≡_, refl, ap, sym, _∙_}
+use mathlib.Core.Path.{_≡_, refl, ap, sym, _∙_, subst}
 use mathlib.Core.Bool.{Bool, true, false, cond, not, _&&_}
 use mathlib.Core.List.{List, [], _∷_, _++_}
 use Prim.Native.Nat.{ℕ, _+_, _≤_, _<_}
@@ -8,20 +8,20 @@ use lib.Dec.{leb, ltb, eqb}
 use lib.ListN.{length, getD, drop}
 use borrow.Author.Tests.{leb-true, ltb-true, eqb-true}
 use Rattle.steps.proofs.EachBelow.{both}
-use Rattle.chars.specs.Bytes.{isName}
-use Rattle.chars.specs.Pieces.{lines, fields}
+use Rattle.chars.specs.Bytes.{HASH, begins, isName}
+use Rattle.chars.specs.Pieces.{lines, fields, bare}
 use Rattle.chars.specs.Places.{among}
 use Rattle.sheet.specs.declared.lines.Word.{Word}
 use Rattle.sheet.specs.declared.lines.Word.the-variants.{Fluent, Action, Rule, Start, Goal, Other}
 use Rattle.sheet.specs.Verdict.{Verdict, refuse, accept, _>>=_}
 use Rattle.sheet.specs.Book.{Book, Symbols, empty, withFluent, withAction, withRule, withStart, withGoal}
 use Rattle.sheet.specs.Field.{judged, newName, usedName, stepWords, startNames}
-use Rattle.sheet.specs.Line.{row, lineHead, lineOf, recordLine, line, wordOf}
+use Rattle.sheet.specs.Line.{row, lineHead, lineOf, recordLine, plainLine, line, wordOf}
 use Rattle.sheet.specs.Reader.{readLines, readSheet, wholeSheet, atEnd, Outcome, refused, written}
 use Rattle.sheet.proofs.Verdicts.{followed, same-value, not-both}
 use Rattle.sheet.proofs.Results.{sheet-fault, sheet-lines}
 use Rattle.sheet.proofs.LineHeads.{passed, fluent-room, action-room, rule-room, goal-room, other-never}
-use Rattle.sheet.proofs.LineVerdicts.{line-read, line-refused, lines-read}
+use Rattle.sheet.proofs.LineVerdicts.{line-read, line-refused, lines-read, line-comment, line-plain}
 
 -- what an accepted line with this word and these fields made of the book
 pub data Accepted (b next : Book) (fs : List (List ℕ)) : Word → Type 0 where
@@ -32,7 +32,7 @@ pub data Accepted (b next : Book) (fs : List (List ℕ)) : Word → Type 0 where
   start : (state : ℕ) → startNames (b .names) 0 fs ≡ accept state → next ≡ withStart b state → Accepted b next fs Start
   goal : (steps : List ℕ) → length fs ≤ 16 → stepWords (b .names) fs ≡ accept steps → next ≡ withGoal b steps → Accepted b next fs Goal
 
-not-written : (k n : ℕ) (b : Book) → refused k n ≡ written b → ⊥
+pub not-written : (k n : ℕ) (b : Book) → refused k n ≡ written b → ⊥
 not-written k n b e = let z : _≡_ {A = ℕ} 0 1 = cc in omega arith
 
 at-refused : (k n : ℕ) → atEnd (refused k n) ≡ refused k n
@@ -110,13 +110,13 @@ module _ (b next : Book) (fs : List (List ℕ)) where
       by Goal (h, r) = accepted-goal h r
       by Other (h, r) = absurd (other-never b (length fs) h)
 
-pub accepted-text : (b next : Book) (l : List ℕ) → line b l ≡ accept next → Accepted b next (drop 1 (fields l)) (wordOf (getD (fields l) 0 []))
-unfolding line
+pub accepted-text : (b next : Book) (l : List ℕ) → plainLine b l ≡ accept next → Accepted b next (drop 1 (fields l)) (wordOf (getD (fields l) 0 []))
+unfolding plainLine
 accepted-text b next l e = accepted-line b next (drop 1 (fields l)) (wordOf (getD (fields l) 0 [])) e
 
 -- an accepted line has a record word, and no line above has one later in the row
-pub text-in-order : (b next : Book) (l : List ℕ) → line b l ≡ accept next → (row (wordOf (getD (fields l) 0 [])) < 5) × (b .stage ≤ row (wordOf (getD (fields l) 0 [])))
-unfolding line
+pub text-in-order : (b next : Book) (l : List ℕ) → plainLine b l ≡ accept next → (row (wordOf (getD (fields l) 0 [])) < 5) × (b .stage ≤ row (wordOf (getD (fields l) 0 [])))
+unfolding plainLine
 text-in-order b next l e =
     let w = wordOf (getD (fields l) 0 []) in
     let fs = drop 1 (fields l) in
@@ -135,6 +135,39 @@ first-accepted n b last l ls e = by (line b l) refl
     by (refuse k) q = absurd (not-written k n last (sym (line-refused n b l ls k q) ∙ e))
     by (accept next) q = (next, q, sym (line-read n b l ls next q) ∙ e)
 
+-- an accepted line is a comment, or a record line
+pub data Taken (b next : Book) (l : List ℕ) : Type 0 where
+  comment : begins HASH l ≡ true → next ≡ b → Taken b next l
+  plain : begins HASH l ≡ false → plainLine b (bare l) ≡ accept next → Taken b next l
+
+pub line-taken : (b next : Book) (l : List ℕ) → line b l ≡ accept next → Taken b next l
+line-taken b next l e = by (begins HASH l) refl
+  where
+    by : (t : Bool) → begins HASH l ≡ t → Taken b next l
+    by true h = comment h (same-value (sym e ∙ line-comment b l h))
+    by false h = plain h (sym (line-plain b l h) ∙ e)
+
+-- the lines that are no comments, each without the CR at its end
+abbrev pub recordLines : List (List ℕ) → List (List ℕ)
+recordLines [] = []
+recordLines (l ∷ ls) = cond (begins HASH l) (recordLines ls) (bare l ∷ recordLines ls)
+
+-- record lines read from b on give the last book
+pub data AllRead (last : Book) : Book → List (List ℕ) → Type 0 where
+  done : {b : Book} → b ≡ last → AllRead last b []
+  more : {b : Book} {l : List ℕ} {ls : List (List ℕ)} (next : Book) → plainLine b l ≡ accept next → AllRead last next ls → AllRead last b (l ∷ ls)
+
+-- accepted lines, as record lines
+pub records-read : (n : ℕ) (b last : Book) (ls : List (List ℕ)) → readLines n b ls ≡ written last → AllRead last b (recordLines ls)
+records-read n b last [] e = done (lines-end n b last e)
+records-read n b last (l ∷ ls) e =
+    let (next, t, r) = first-accepted n b last l ls e in
+    by next (line-taken b next l t) (records-read (n + 1) next last ls r)
+  where
+    by : (next : Book) → Taken b next l → AllRead last next (recordLines ls) → AllRead last b (recordLines (l ∷ ls))
+    by next (comment h e) r = rw h (subst (λ (x : Book). AllRead last x (recordLines ls)) e r)
+    by next (plain h e) r = rw h (more next e r)
+
 -- an accepted sheet's lines were accepted, and a `goal` was the last of them
 sheet-read : (s : List ℕ) (b : Book) → readSheet s ≡ written b → (readLines 1 empty (lines s) ≡ written b) × (b .stage ≡ 5)
 sheet-read s b e = whole (wholeSheet s) refl
@@ -152,3 +185,6 @@ sheet-accepted s b e = sheet-read s b e .0
 
 pub sheet-ended : (s : List ℕ) (b : Book) → readSheet s ≡ written b → b .stage ≡ 5
 sheet-ended s b e = sheet-read s b e .1
+
+pub sheet-records : (s : List ℕ) (b : Book) → readSheet s ≡ written b → AllRead b empty (recordLines (lines s))
+sheet-records s b e = records-read 1 empty b (lines s) (sheet-accepted s b e)

@@ -15,8 +15,8 @@ use Rattle.sheet.specs.declared.lines.Word.{Word}
 use Rattle.sheet.specs.declared.lines.Word.the-variants.{Rule, Goal}
 use Rattle.sheet.specs.Book.{Book, Symbols, empty, ruleWords, joined}
 use Rattle.sheet.specs.Line.{row, wordOf}
-use Rattle.sheet.specs.Reader.{readLines, readSheet, written}
-use Rattle.sheet.proofs.AcceptedLines.{Accepted, fluent, action, rule, start, goal, accepted-text, first-accepted, lines-end, sheet-accepted, sheet-ended}
+use Rattle.sheet.specs.Reader.{readSheet, written}
+use Rattle.sheet.proofs.AcceptedLines.{Accepted, fluent, action, rule, start, goal, accepted-text, AllRead, done, more, recordLines, sheet-records, sheet-ended}
 use Rattle.sheet.proofs.LaterLines.{stage-after, line-names, names-kept, none-below}
 use Rattle.sheet.proofs.Valid.{Valid, body-good}
 use Rattle.sheet.proofs.ValidSheets.{valid-line, empty-valid, sheet-valid}
@@ -83,16 +83,15 @@ module _ (b next last : Book) (v : Valid b) (fs : List (List ℕ)) (rest : List 
   first-rule w (goal s n t e) h g = subst Rest e g
 
 -- all lines from the top
-rules-added : (n : ℕ) (b last : Book) (ls : List (List ℕ)) → Valid b → readLines n b ls ≡ written last → Adds (last .names) (b .rules) (last .rules) (recordsOf Rule ls)
-rules-added n b last [] v e = record { new = []; is = ap (λ (x : Book). x .rules) (sym (lines-end n b last e)) ∙ sym (append-nil (b .rules)); each = Forall₂·nil }
-rules-added n b last (l ∷ ls) v e =
-    let (next, t, r) = first-accepted n b last l ls e in
+rules-added : (b last : Book) (ls : List (List ℕ)) → Valid b → AllRead last b ls → Adds (last .names) (b .rules) (last .rules) (recordsOf Rule ls)
+rules-added b last [] v (done e) = record { new = []; is = ap (λ (x : Book). x .rules) (sym e) ∙ sym (append-nil (b .rules)); each = Forall₂·nil }
+rules-added b last (l ∷ ls) v (more next t r) =
     let w = wordOf (getD (fields l) 0 []) in
     let fs = drop 1 (fields l) in
     let a = accepted-text b next l t in
     let k = stage-after b next w fs a in
-    let kept : 2 ≤ row w → last .names ≡ b .names = λ h. names-kept (n + 1) next last ls (omega arith) r ∙ line-names b next w fs h a in
-    first-rule b next last v fs (recordsOf Rule ls) w a kept (rules-added (n + 1) next last ls (valid-line b v next w fs a) r)
+    let kept : 2 ≤ row w → last .names ≡ b .names = λ h. names-kept next last ls (omega arith) r ∙ line-names b next w fs h a in
+    first-rule b next last v fs (recordsOf Rule ls) w a kept (rules-added next last ls (valid-line b v next w fs a) r)
 
 -- the book of rule words, rule for rule
 book-decoded : (y : Symbols) (words : List ℕ) (fss : List (List (List ℕ))) (rs : List (List ℕ)) (k : ℕ) → drop (18 * k) words ≡ joined rs → Forall₂ (RuleOf y) fss rs → Forall₂ (WritesRule y) fss (rules-from words k (length rs))
@@ -114,37 +113,36 @@ OneGoal last fss = Forall₂ (Forall₂ (Writes (last .names))) fss (body-of (la
 
 -- the first line, by its word
 goal-line : (b next last : Book) (v : Valid b) (w : Word) (fs : List (List ℕ)) (rest : List (List (List ℕ))) → Accepted b next fs w → (next .stage < 5 → OneGoal last rest) → (next .stage ≡ 5 → (rest ≡ []) × (last ≡ next)) → OneGoal last (chosen Goal w fs ++ rest)
-goal-line b next last v w fs rest (fluent l n e) more none = let s = ap (λ (x : Book). x .stage) e in more (omega arith)
-goal-line b next last v w fs rest (action l e) more none = let s = ap (λ (x : Book). x .stage) e in more (omega arith)
-goal-line b next last v w fs rest (rule h s l n u t e) more none = let s = ap (λ (x : Book). x .stage) e in more (omega arith)
-goal-line b next last v w fs rest (start s t e) more none = let s = ap (λ (x : Book). x .stage) e in more (omega arith)
-goal-line b next last v w fs rest (goal s n t e) more none =
+goal-line b next last v w fs rest (fluent l n e) later none = let s = ap (λ (x : Book). x .stage) e in later (omega arith)
+goal-line b next last v w fs rest (action l e) later none = let s = ap (λ (x : Book). x .stage) e in later (omega arith)
+goal-line b next last v w fs rest (rule h s l n u t e) later none = let s = ap (λ (x : Book). x .stage) e in later (omega arith)
+goal-line b next last v w fs rest (start s t e) later none = let s = ap (λ (x : Book). x .stage) e in later (omega arith)
+goal-line b next last v w fs rest (goal s n t e) later none =
     let (i, j) = none (ap (λ (x : Book). x .stage) e) in
     let body : Forall₂ (Writes (b .names)) fs (body-of s) = steps-decoded (b .names) (v .few-fluents) (v .few-actions) fs s t in
     rw (i, j ∙ e) (Forall₂·cons body Forall₂·nil)
 
 -- all lines from the top
-goal-written : (n : ℕ) (b last : Book) (ls : List (List ℕ)) → Valid b → b .stage < 5 → last .stage ≡ 5 → readLines n b ls ≡ written last → OneGoal last (recordsOf Goal ls)
-goal-written n b last [] v h k e = let s = ap (λ (x : Book). x .stage) (lines-end n b last e) in absurd (omega arith)
-goal-written n b last (l ∷ ls) v h k e =
-    let (next, t, r) = first-accepted n b last l ls e in
+goal-written : (b last : Book) (ls : List (List ℕ)) → Valid b → b .stage < 5 → last .stage ≡ 5 → AllRead last b ls → OneGoal last (recordsOf Goal ls)
+goal-written b last [] v h k (done e) = let s = ap (λ (x : Book). x .stage) e in absurd (omega arith)
+goal-written b last (l ∷ ls) v h k (more next t r) =
     let w = wordOf (getD (fields l) 0 []) in
     let fs = drop 1 (fields l) in
     let a = accepted-text b next l t in
-    let none : next .stage ≡ 5 → (recordsOf Goal ls ≡ []) × (last ≡ next) = λ q. let (i, j) = none-below (n + 1) next last ls q r in (ap (recordsOf Goal) i, j) in
-    goal-line b next last v w fs (recordsOf Goal ls) a (λ q. goal-written (n + 1) next last ls (valid-line b v next w fs a) q k r) none
+    let none : next .stage ≡ 5 → (recordsOf Goal ls ≡ []) × (last ≡ next) = λ q. let (i, j) = none-below next last ls q r in (ap (recordsOf Goal) i, j) in
+    goal-line b next last v w fs (recordsOf Goal ls) a (λ q. goal-written next last ls (valid-line b v next w fs a) q k r) none
 
 -- ---- the sheet
 
 module _ (s : List ℕ) (b : Book) (e : readSheet s ≡ written b) where
   -- the book decoded from an accepted sheet's rule words has a rule for each `rule` line, in order, and it is the rule that the line writes
-  pub sheet-rules-decoded : Forall₂ (WritesRule (b .names)) (recordsOf Rule (lines s)) (book-of (joined (b .rules)))
+  pub sheet-rules-decoded : Forall₂ (WritesRule (b .names)) (recordsOf Rule (recordLines (lines s))) (book-of (joined (b .rules)))
   sheet-rules-decoded =
-      let a = rules-added 1 empty b (lines s) empty-valid (sheet-accepted s b e) in
+      let a = rules-added empty b (recordLines (lines s)) empty-valid (sheet-records s b e) in
       let c = words-count b (sheet-valid s b e) in
       let n : length (joined (b .rules)) / 18 ≡ length (b .rules) = omega arith in
-      rw n (book-decoded (b .names) (joined (b .rules)) (recordsOf Rule (lines s)) (b .rules) 0 refl (subst⁻¹ (Forall₂ (RuleOf (b .names)) (recordsOf Rule (lines s))) (a .is) (a .each)))
+      rw n (book-decoded (b .names) (joined (b .rules)) (recordsOf Rule (recordLines (lines s))) (b .rules) 0 refl (subst⁻¹ (Forall₂ (RuleOf (b .names)) (recordsOf Rule (recordLines (lines s)))) (a .is) (a .each)))
 
   -- it has one `goal` line, and the goal decoded from its goal words is the one that the line writes
-  pub sheet-goal-decoded : Forall₂ (Forall₂ (Writes (b .names))) (recordsOf Goal (lines s)) (body-of (b .goal) ∷ [])
-  sheet-goal-decoded = goal-written 1 empty b (lines s) empty-valid (omega arith) (sheet-ended s b e) (sheet-accepted s b e)
+  pub sheet-goal-decoded : Forall₂ (Forall₂ (Writes (b .names))) (recordsOf Goal (recordLines (lines s))) (body-of (b .goal) ∷ [])
+  sheet-goal-decoded = goal-written empty b (recordLines (lines s)) empty-valid (omega arith) (sheet-ended s b e) (sheet-records s b e)

@@ -28,7 +28,7 @@ pub data Writes (y : Symbols) (field : List ℕ) (step : Step) : Type 0 where
   denies : (name : List ℕ) → field ≡ text "~" ++ name → step ≡ deny (place name (y .fluents)) → Writes y field step
 
 -- the byte at its own place
-byte-is : (b : ℕ) (bs : List ℕ) → byteAt b bs < length bs → getD bs (byteAt b bs) 0 ≡ b
+pub byte-is : (b : ℕ) (bs : List ℕ) → byteAt b bs < length bs → getD bs (byteAt b bs) 0 ≡ b
 unfolding byteAt
 byte-is b [] l = absurd (omega arith)
 byte-is b (x ∷ xs) l = by (eqb x b) refl (byte-is b xs) l

@@ -100,6 +100,13 @@ pub names-hold : nameSpan example 0 ∷ nameSpan example 1 ∷ nameSpan example 
 unfolding nameSpan
 names-hold = refl
 
+-- names of a sheet with a comment above, CR LF and LF
+pub dressed-names : nameSpan (text "# a\tb c\r\nfluent\ta\r\nfluent\tb\n#\nstart\tb\r\ngoal\n") 0
+    ∷ nameSpan (text "# a\tb c\r\nfluent\ta\r\nfluent\tb\n#\nstart\tb\r\ngoal\n") 1 ∷ []
+    ≡ record { at = 16; len = 1 } ∷ record { at = 26; len = 1 } ∷ []
+unfolding nameSpan
+dressed-names = refl
+
 -- 10: any sheet of more than 65,536 bytes, as one of 65,537 line ends
 pub whole-too-long : (s : List ℕ) → 65536 < length s → readSheet s ≡ refused 10 0
 unfolding wholeSheet

@@ -8,22 +8,23 @@ use native.Mathlib.Decide.{decLt}
 use lib.ListN.{length, getD, take, drop, length-append}
 use lib.Seq.{slice, length-slice, getD-append-seam}
 use Rattle.chars.specs.Bytes.{text}
-use Rattle.chars.specs.Pieces.{lines}
+use Rattle.chars.specs.Pieces.{lines, fields, bare}
 use Rattle.chars.specs.Places.{same}
-use Rattle.chars.specs.Inner.{fieldsFrom, FieldEnd, LineEnd}
+use Rattle.chars.specs.Inner.{fieldsFrom, FieldEnd, LineEnd, BareEnd}
 use Rattle.chars.proofs.Ends.{line-end, field-end, lines-gone, part-slice}
-use Rattle.chars.proofs.Fields.{one-field, some-field}
+use Rattle.chars.proofs.Fields.{one-field, some-field, fields-first}
+use Rattle.chars.proofs.Bare.{bare-end}
 use Rattle.sheet.specs.declared.Span.{Span}
 use Rattle.sheet.specs.declared.lines.Word.{Word}
 use Rattle.sheet.specs.declared.lines.Word.the-variants.{Fluent}
 use Rattle.sheet.specs.Book.{Book, empty}
-use Rattle.sheet.specs.Line.{wordOf}
+use Rattle.sheet.specs.Line.{wordOf, plainLine}
 use Rattle.sheet.specs.Reader.{readLines, readSheet, refused, written, Outcome}
 use Rattle.sheet.specs.FluentName.{partOf, nameIn, nameSpan}
 use Rattle.sheet.specs.Held.{fieldSpan}
-use Rattle.sheet.proofs.LineVerdicts.{line-fields}
-use Rattle.sheet.proofs.AcceptedLines.{Accepted, fluent, action, rule, start, goal, accepted-line, first-accepted, lines-end, sheet-accepted}
-use Rattle.sheet.proofs.FluentsKept.{after, fluents-after, fluent-kept, word-fluent, after-other}
+use Rattle.sheet.proofs.LineVerdicts.{plain-fields}
+use Rattle.sheet.proofs.AcceptedLines.{Accepted, fluent, action, rule, start, goal, accepted-line, Taken, comment, plain, line-taken, first-accepted, lines-end, sheet-accepted}
+use Rattle.sheet.proofs.FluentsKept.{after, fluents-after, fluent-kept, word-fluent, after-other, comment-other}
 use Rattle.sheet.proofs.Spans.{name-passed, name-later, name-here, span-refused, span-high, span-fluent}
 
 -- the span lies in the sheet, and its part is the name
@@ -48,11 +49,11 @@ Named s b last at k ls = Stands s (nameIn at k ls) (getD (last .names .fluents) 
 
 module _ (s : List ℕ) (last : Book) where
   -- one line: what is named behind it is named with it
-  module _ (n at e q k : ℕ) (b : Book) (E : LineEnd s at e) (F : FieldEnd s at e q)
+  module _ (n at e end q k : ℕ) (b : Book) (E : LineEnd s at e) (B : BareEnd s at e end) (F : FieldEnd s at end q)
       (later : (next : Book) (j : ℕ) → readLines (n + 1) next (lines (drop (e + 1) s)) ≡ written last → length (next .names .fluents) + j < length (last .names .fluents) → Named s next last (e + 1) j (lines (drop (e + 1) s)))
       (l : length (b .names .fluents) + k < length (last .names .fluents)) where
     abbrev fs : List (List ℕ)
-    fs = fieldsFrom (q + 1) e s
+    fs = fieldsFrom (q + 1) end s
 
     abbrev ls : List (List ℕ)
     ls = lines (drop (e + 1) s)
@@ -62,7 +63,7 @@ module _ (s : List ℕ) (last : Book) where
         let z = ap length f in
         let i = later next k r (omega arith) in
         let x = rw f at i in
-        rw (name-passed s at e q k ls F (E .from) (E .within) t) x
+        rw (name-passed s at e end q k ls B F (E .within) t) x
 
     fluent-line : (next : Book) → next .names .fluents ≡ b .names .fluents ++ (getD fs 0 [] ∷ []) → length fs ≡ 1 → readLines (n + 1) next ls ≡ written last → same (slice at q s) (text "fluent") ≡ true → (k : ℕ) → length (b .names .fluents) + k < length (last .names .fluents) → Named s b last at k (slice at e s ∷ ls)
     fluent-line next f one r t zero l =
@@ -70,20 +71,24 @@ module _ (s : List ℕ) (last : Book) where
         let y : length (b .names .fluents) + 0 ≡ length (b .names .fluents) = omega arith in
         let g = fluent-kept (n + 1) next last ls r (length (b .names .fluents)) (omega arith) in
         let h = g ∙ ap (λ (x : List (List ℕ)). getD x (length (b .names .fluents)) []) f ∙ getD-append-seam (b .names .fluents) (getD fs 0 []) [] [] in
-        rw (name-here s at e q 0 ls F (E .from) (E .within) t refl, y, h) (field-stands s q e (E .within) one)
+        rw (name-here s at e end q 0 ls B F (E .within) t refl, y, h) (field-stands s q end (omega (arith, B .within, E .within)) one)
     fluent-line next f one r t (suc j) l =
         let z = ap length f ∙ length-append (b .names .fluents) (getD fs 0 [] ∷ []) in
         let y : length (next .names .fluents) + j ≡ length (b .names .fluents) + suc j = omega arith in
         let v : suc j - 1 ≡ j = omega arith in
         let i = later next j r (omega arith) in
         let x = rw y at i in
-        rw (name-later s at e q (suc j) ls F (E .from) (E .within) t (λ d. omega arith), v) x
+        rw (name-later s at e end q (suc j) ls B F (E .within) t (λ d. omega arith), v) x
 
     line-named : readLines n b (slice at e s ∷ ls) ≡ written last → Named s b last at k (slice at e s ∷ ls)
     line-named h =
         let (next, a, r) = first-accepted n b last (slice at e s) ls h in
-        by next r (accepted-line b next fs (wordOf (slice at q s)) (sym (line-fields b s at e q (E .from) F) ∙ a)) (same (slice at q s) (text "fluent")) refl
+        taken next r (line-taken b next (slice at e s) a)
       where
+        -- the line's first field
+        first : getD (fields (bare (slice at e s))) 0 [] ≡ slice at q s
+        first = ap (λ (l : List ℕ). getD (fields l) 0 []) (B .cut) ∙ ap (λ (fs : List (List ℕ)). getD fs 0 []) (fields-first s at end q (B .from) F)
+
         one : (next : Book) (w : Word) → Accepted b next fs w → w ≡ Fluent → length fs ≡ 1
         one next w (fluent l n e) q = n
         one next w (action l e) q = let z : _≡_ {A = ℕ} 0 1 = cc in absurd (omega arith)
@@ -96,6 +101,12 @@ module _ (s : List ℕ) (last : Book) where
             let w = word-fluent (slice at q s) t in
             fluent-line next (fluents-after b next (wordOf (slice at q s)) fs a ∙ ap (λ (x : Word). after (b .names .fluents) x fs) w) (one next (wordOf (slice at q s)) a w) r t k l
         by next r a false t = other next (fluents-after b next (wordOf (slice at q s)) fs a ∙ after-other (b .names .fluents) (slice at q s) fs t) r t
+
+        taken : (next : Book) → readLines (n + 1) next ls ≡ written last → Taken b next (slice at e s) → Named s b last at k (slice at e s ∷ ls)
+        taken next r (comment h u) = other next (ap (λ (x : Book). x .names .fluents) u) r (ap (λ (f : List ℕ). same f (text "fluent")) (sym first) ∙ comment-other (slice at e s) h)
+        taken next r (plain h a) =
+            let p = ap (plainLine b) (sym (B .cut)) ∙ a in
+            by next r (accepted-line b next fs (wordOf (slice at q s)) (sym (plain-fields b s at end q (B .from) F) ∙ p)) (same (slice at q s) (text "fluent")) refl
 
   -- past the last line there is no fluent more
   gone : (n at k : ℕ) (b : Book) → length s ≤ at → readLines n b (lines (drop at s)) ≡ written last → length (b .names .fluents) + k < length (last .names .fluents) → Named s b last at k (lines (drop at s))
@@ -112,7 +123,8 @@ module _ (s : List ℕ) (last : Book) where
       by : (e : ℕ) → LineEnd s at e → Named s b last at k (lines (drop at s))
       by e E =
           let x = rw (E .cut) at h in
-          rw (E .cut) (line-named n at e _ k b E (field-end s at e (E .from) (E .within)) (later e (E .from)) l x)
+          let (z, B) = bare-end s at e (E .from) (E .within) in
+          rw (E .cut) (line-named n at e z _ k b E B (field-end s at z (B .from) (omega (arith, B .within, E .within))) (later e (E .from)) l x)
 
   -- the lines from `at` on
   named-from : (m n at k : ℕ) (b : Book) → length s ≤ at + m → readLines n b (lines (drop at s)) ≡ written last → length (b .names .fluents) + k < length (last .names .fluents) → Named s b last at k (lines (drop at s))

@@ -1,19 +1,20 @@
 -- The fluents through accepted lines: a `fluent` line adds one, and each keeps its number and its name. Assumes nothing.
 use mathlib.Core.Path.{_≡_, refl, ap, sym, _∙_}
-use mathlib.Core.Bool.{Bool, true, false, cond}
+use mathlib.Core.Bool.{Bool, true, false, cond, true≢false}
 use mathlib.Core.List.{List, [], _∷_, _++_}
 use Prim.Native.Nat.{ℕ, _+_, _<_}
 use native.Mathlib.Omega.{arith}
 use lib.ListN.{length, getD, drop, length-append, List·getD-append}
-use Rattle.chars.specs.Bytes.{text}
-use Rattle.chars.specs.Pieces.{fields}
+use borrow.Author.Tests.{eqb-true}
+use Rattle.chars.specs.Bytes.{text, TAB, HASH, begins}
+use Rattle.chars.specs.Pieces.{grow, pieces, fields, bare}
 use Rattle.chars.specs.Places.{same}
 use Rattle.sheet.specs.declared.lines.Word.{Word}
 use Rattle.sheet.specs.declared.lines.Word.the-variants.{Fluent, Action, Rule, Start, Goal, Other}
 use Rattle.sheet.specs.Book.{Book}
 use Rattle.sheet.specs.Line.{wordOf}
 use Rattle.sheet.specs.Reader.{readLines, written}
-use Rattle.sheet.proofs.AcceptedLines.{Accepted, fluent, action, rule, start, goal, accepted-text, first-accepted, lines-end}
+use Rattle.sheet.proofs.AcceptedLines.{Accepted, fluent, action, rule, start, goal, accepted-text, Taken, comment, plain, line-taken, first-accepted, lines-end}
 
 -- the fluents after an accepted line
 abbrev pub after : List (List ℕ) → Word → List (List ℕ) → List (List ℕ)
@@ -46,11 +47,15 @@ pub fluent-kept : (n : ℕ) (b last : Book) (ls : List (List ℕ)) → readLines
 fluent-kept n b last [] e i l = ap (λ (x : Book). getD (x .names .fluents) i []) (sym (lines-end n b last e))
 fluent-kept n b last (t ∷ ls) e i l =
     let (next, h, r) = first-accepted n b last t ls e in
-    let w = wordOf (getD (fields t) 0 []) in
-    let fs = drop 1 (fields t) in
-    let f = fluents-after b next w fs (accepted-text b next t h) in
-    let (m, k) = after-kept (b .names .fluents) w fs i l in
-    fluent-kept (n + 1) next last ls r i (rw f m) ∙ ap (λ (x : List (List ℕ)). getD x i []) f ∙ k
+    let (m, k) = by next (line-taken b next t h) in
+    fluent-kept (n + 1) next last ls r i m ∙ k
+  where
+    by : (next : Book) → Taken b next t → (i < length (next .names .fluents)) × (getD (next .names .fluents) i [] ≡ getD (b .names .fluents) i [])
+    by next (comment h e) = rw e (l, refl)
+    by next (plain h e) =
+        let w = wordOf (getD (fields (bare t)) 0 []) in
+        let fs = drop 1 (fields (bare t)) in
+        rw (fluents-after b next w fs (accepted-text b next (bare t) e)) (after-kept (b .names .fluents) w fs i l)
 
 -- the word of a line, by whether its first field is `fluent`
 pub word-fluent : (f : List ℕ) → same f (text "fluent") ≡ true → wordOf f ≡ Fluent
@@ -67,3 +72,15 @@ after-other names f fs e = rw e (by (same f (text "action")) (same f (text "rule
     by false false true w = refl
     by false false false true = refl
     by false false false false = refl
+
+-- a comment's first field is not `fluent`
+unlike : (fs : List (List ℕ)) → same (getD (grow HASH fs) 0 []) (text "fluent") ≡ false
+unfolding same
+unlike [] = refl
+unlike (f ∷ fs) = refl
+
+pub comment-other : (l : List ℕ) → begins HASH l ≡ true → same (getD (fields (bare l)) 0 []) (text "fluent") ≡ false
+unfolding fields bare pieces same
+comment-other [] h = absurd (true≢false (sym h))
+comment-other (x ∷ []) h = rw (eqb-true x HASH h) refl
+comment-other (x ∷ y ∷ ys) h = rw (eqb-true x HASH h) (unlike (pieces ([] ∷ []) TAB (bare (y ∷ ys))))

@@ -1,15 +1,14 @@
--- Lines that come later: below a `rule` they keep the names, and below the `goal` there is none. Assumes nothing.
+-- Record lines that come later: below a `rule` they keep the names, and below the `goal` there is none. Assumes nothing.
 use mathlib.Core.Path.{_≡_, refl, ap, sym, _∙_}
 use mathlib.Core.List.{List, [], _∷_}
-use Prim.Native.Nat.{ℕ, _+_, _≤_}
+use Prim.Native.Nat.{ℕ, _≤_}
 use native.Mathlib.Omega.{arith}
 use lib.ListN.{getD, drop}
 use Rattle.chars.specs.Pieces.{fields}
 use Rattle.sheet.specs.declared.lines.Word.{Word}
 use Rattle.sheet.specs.Book.{Book}
 use Rattle.sheet.specs.Line.{row, wordOf}
-use Rattle.sheet.specs.Reader.{readLines, written}
-use Rattle.sheet.proofs.AcceptedLines.{Accepted, fluent, action, rule, start, goal, accepted-text, text-in-order, first-accepted, lines-end}
+use Rattle.sheet.proofs.AcceptedLines.{Accepted, fluent, action, rule, start, goal, accepted-text, text-in-order, AllRead, done, more}
 
 -- after an accepted line no word before its own in the row may come
 pub stage-after : (b next : Book) (w : Word) (fs : List (List ℕ)) → Accepted b next fs w → row w ≤ next .stage
@@ -27,20 +26,18 @@ line-names b next w fs h (rule k s l n u t e) = ap (λ (x : Book). x .names) e
 line-names b next w fs h (start s t e) = ap (λ (x : Book). x .names) e
 line-names b next w fs h (goal s n t e) = ap (λ (x : Book). x .names) e
 
-pub names-kept : (n : ℕ) (b last : Book) (ls : List (List ℕ)) → 2 ≤ b .stage → readLines n b ls ≡ written last → last .names ≡ b .names
-names-kept n b last [] h e = ap (λ (x : Book). x .names) (sym (lines-end n b last e))
-names-kept n b last (l ∷ ls) h e =
-    let (next, t, r) = first-accepted n b last l ls e in
+pub names-kept : (b last : Book) (ls : List (List ℕ)) → 2 ≤ b .stage → AllRead last b ls → last .names ≡ b .names
+names-kept b last [] h (done e) = ap (λ (x : Book). x .names) (sym e)
+names-kept b last (l ∷ ls) h (more next t r) =
     let w = wordOf (getD (fields l) 0 []) in
     let a = accepted-text b next l t in
     let (i, j) = text-in-order b next l t in
     let k = stage-after b next w (drop 1 (fields l)) a in
-    names-kept (n + 1) next last ls (omega arith) r ∙ line-names b next w (drop 1 (fields l)) (omega arith) a
+    names-kept next last ls (omega arith) r ∙ line-names b next w (drop 1 (fields l)) (omega arith) a
 
--- below the `goal` there is no line
-pub none-below : (n : ℕ) (b last : Book) (ls : List (List ℕ)) → b .stage ≡ 5 → readLines n b ls ≡ written last → (ls ≡ []) × (last ≡ b)
-none-below n b last [] h e = (refl, sym (lines-end n b last e))
-none-below n b last (l ∷ ls) h e =
-    let (next, t, r) = first-accepted n b last l ls e in
+-- below the `goal` there is no record line
+pub none-below : (b last : Book) (ls : List (List ℕ)) → b .stage ≡ 5 → AllRead last b ls → (ls ≡ []) × (last ≡ b)
+none-below b last [] h (done e) = (refl, sym e)
+none-below b last (l ∷ ls) h (more next t r) =
     let (i, j) = text-in-order b next l t in
     absurd (omega arith)

@@ -1,10 +1,13 @@
 -- The verdicts on a line and its fields, case by case. Assumes nothing.
 use mathlib.Core.Path.{_≡_, refl}
+use mathlib.Core.Bool.{true, false}
 use mathlib.Core.List.{List, [], _∷_}
 use Prim.Native.Nat.{ℕ, _+_, _≤_}
 use native.Mathlib.Numerals.{add-one}
 use lib.ListN.{length}
 use lib.Seq.{slice}
+use Rattle.chars.specs.Bytes.{HASH, begins}
+use Rattle.chars.specs.Pieces.{bare}
 use Rattle.chars.specs.Inner.{fieldsFrom, FieldEnd}
 use Rattle.chars.proofs.Fields.{fields-first}
 use Rattle.sheet.specs.declared.lines.Word.{Word}
@@ -12,7 +15,7 @@ use Rattle.sheet.specs.declared.lines.Word.the-variants.{Fluent, Action,
 use Rattle.sheet.specs.Verdict.{refuse, accept}
 use Rattle.sheet.specs.Book.{Book, withFluent, withAction, withRule, withStart, withGoal}
 use Rattle.sheet.specs.Field.{newName, usedName, stepWords, startNames}
-use Rattle.sheet.specs.Line.{wordOf, lineHead, lineOf, recordLine, line}
+use Rattle.sheet.specs.Line.{wordOf, lineHead, lineOf, recordLine, plainLine, line}
 use Rattle.sheet.specs.Reader.{readLines, refused, written}
 
 -- a line by its head and its fields
@@ -23,9 +26,19 @@ module _ (b : Book) (w : Word) (fs : List (List ℕ)) where
   pub line-passed : lineHead b w (length fs) ≡ accept tt → lineOf b w fs ≡ recordLine b w fs
   line-passed e = rw e
 
-pub line-fields : (b : Book) (s : List ℕ) (a e q : ℕ) → a ≤ e → FieldEnd s a e q → line b (slice a e s) ≡ lineOf b (wordOf (slice a q s)) (fieldsFrom (q + 1) e s)
-unfolding line
-line-fields b s a e q h f = rw (fields-first s a e q h f)
+pub plain-fields : (b : Book) (s : List ℕ) (a e q : ℕ) → a ≤ e → FieldEnd s a e q → plainLine b (slice a e s) ≡ lineOf b (wordOf (slice a q s)) (fieldsFrom (q + 1) e s)
+unfolding plainLine
+plain-fields b s a e q h f = rw (fields-first s a e q h f)
+
+-- a comment adds nothing, any other line is read without the CR at its end
+module _ (b : Book) (l : List ℕ) where
+  pub line-comment : begins HASH l ≡ true → line b l ≡ accept b
+  unfolding line
+  line-comment h = rw h
+
+  pub line-plain : begins HASH l ≡ false → line b l ≡ plainLine b (bare l)
+  unfolding line
+  line-plain h = rw h
 
 -- the fields of each record
 module _ (b : Book) (f : List ℕ) where

@@ -8,15 +8,15 @@ use lib.Dec.{ltb, leb, eqb}
 use lib.ListN.{length, getD, drop}
 use borrow.Author.Tests.{ltb-false}
 use Rattle.steps.specs.State.{holds, added}
-use Rattle.chars.specs.Bytes.{isName, all, sheetByte}
-use Rattle.chars.specs.Pieces.{lines, fields}
+use Rattle.chars.specs.Bytes.{HASH, begins, isName, clean}
+use Rattle.chars.specs.Pieces.{lines, fields, bare}
 use Rattle.chars.specs.Places.{place, among, byteAt}
 use Rattle.sheet.specs.declared.lines.Word.{Word}
 use Rattle.sheet.specs.declared.lines.Word.the-variants.{Fluent, Action, Rule, Start, Goal, Other}
 use Rattle.sheet.specs.Verdict.{Verdict, refuse, accept, _>>=_, require}
 use Rattle.sheet.specs.Book.{Book, Symbols, empty, withFluent, withAction, withRule, withStart, withGoal}
 use Rattle.sheet.specs.Field.{judged, newName, usedName, startName, startNames, marks, namesOf, stepFrom, stepWord, stepWords}
-use Rattle.sheet.specs.Line.{wordOf, inOrder, overfull, miscounted, recordLine, lineHead, line}
+use Rattle.sheet.specs.Line.{wordOf, inOrder, overfull, miscounted, recordLine, lineHead, plainLine, line}
 use Rattle.sheet.specs.Reader.{Outcome, refused, written, ended, wholeSheet, readLines, atEnd, readSheet}
 use Rattle.sheet.specs.Result.{refusal, accepted, short, resultOf}
 use Rattle.sheet.proofs.Verdicts.{not-both}
@@ -101,12 +101,20 @@ line-head b w n =
     then (require (inOrder (b .stage) w) 13) (λ _. require (not (overfull b w n)) 17 >>= (λ _. require (not (miscounted w n)) 14)) (requires (inOrder (b .stage) w) 13 (λ z. omega arith))
     (λ _. then (require (not (overfull b w n)) 17) (λ _. require (not (miscounted w n)) 14) (requires (not (overfull b w n)) 17 (λ z. omega arith)) (λ _. requires (not (miscounted w n)) 14 (λ z. omega arith)))
 
-a-line : (b : Book) (l : List ℕ) → Numbered (line b l)
-unfolding line
-a-line b l =
+a-plain : (b : Book) (l : List ℕ) → Numbered (plainLine b l)
+unfolding plainLine
+a-plain b l =
     let w = wordOf (getD (fields l) 0 []) in
     let fs = drop 1 (fields l) in
     then (lineHead b w (length fs)) (λ _. recordLine b w fs) (line-head b w (length fs)) (λ _. record-line b w fs)
+
+a-line : (b : Book) (l : List ℕ) → Numbered (line b l)
+unfolding line
+a-line b l = by (begins HASH l)
+  where
+    by : (t : Bool) → Numbered (cond t (accept b) (plainLine b (bare l)))
+    by true = accepts b
+    by false = a-plain b (bare l)
 
 -- the sheet
 same-refusal : (k j n m : ℕ) → refused k n ≡ refused j m → k ≡ j
@@ -126,8 +134,8 @@ all-lines n b (l ∷ ls) k i e z = by (line b l) refl (λ next m. all-lines (n +
 whole-sheet : (s : List ℕ) → Numbered (wholeSheet s)
 unfolding wholeSheet
 whole-sheet s =
-    then (require (leb (length s) 65536) 10) (λ _. require (all sheetByte s) 11 >>= (λ _. require (ended s) 12)) (requires (leb (length s) 65536) 10 (λ z. omega arith))
-    (λ _. then (require (all sheetByte s) 11) (λ _. require (ended s) 12) (requires (all sheetByte s) 11 (λ z. omega arith)) (λ _. requires (ended s) 12 (λ z. omega arith)))
+    then (require (leb (length s) 65536) 10) (λ _. require (clean s) 11 >>= (λ _. require (ended s) 12)) (requires (leb (length s) 65536) 10 (λ z. omega arith))
+    (λ _. then (require (clean s) 11) (λ _. require (ended s) 12) (requires (clean s) 11 (λ z. omega arith)) (λ _. requires (ended s) 12 (λ z. omega arith)))
 
 at-end : (o : Outcome) → ((k i : ℕ) → o ≡ refused k i → k ≡ 0 → ⊥) → (k i : ℕ) → atEnd o ≡ refused k i → k ≡ 0 → ⊥
 unfolding atEnd

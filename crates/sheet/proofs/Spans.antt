@@ -1,5 +1,5 @@
 -- The span of a fluent's name, line by line. Assumes nothing.
-use mathlib.Core.Path.{_≡_, refl, ap}
+use mathlib.Core.Path.{_≡_, refl, ap, _∙_}
 use mathlib.Core.Bool.{true, false}
 use mathlib.Core.List.{List, [], _∷_}
 use Prim.Native.Nat.{ℕ, _+_, _-_, _≤_, _<_}
@@ -8,9 +8,9 @@ use lib.ListN.{length, getD}
 use lib.Seq.{slice, length-slice}
 use borrow.Author.Tests.{eq-eqb, ne-eqb, le-ltb, lt-ltb}
 use Rattle.chars.specs.Bytes.{text}
-use Rattle.chars.specs.Pieces.{lines}
+use Rattle.chars.specs.Pieces.{lines, fields, bare}
 use Rattle.chars.specs.Places.{same}
-use Rattle.chars.specs.Inner.{fieldsFrom, FieldEnd}
+use Rattle.chars.specs.Inner.{fieldsFrom, FieldEnd, BareEnd}
 use Rattle.chars.proofs.Fields.{fields-first}
 use Rattle.chars.proofs.Names.{same-length}
 use Rattle.sheet.specs.declared.Span.{Span}
@@ -22,27 +22,31 @@ use Rattle.sheet.specs.Held.{fieldSpan}
 abbrev span : ℕ → ℕ → Span
 span i n = record { at = i; len = n }
 
-module _ (s : List ℕ) (at e q k : ℕ) (ls : List (List ℕ)) (f : FieldEnd s at e q) (h : at ≤ e) (w : e ≤ length s) where
+module _ (s : List ℕ) (at e end q k : ℕ) (ls : List (List ℕ)) (B : BareEnd s at e end) (f : FieldEnd s at end q) (w : e ≤ length s) where
   next : at + length (slice at e s) + 1 ≡ e + 1
-  next = let l = length-slice at e s w in omega arith
+  next = let l = length-slice at e s w in omega (arith, B .from, B .within)
+
+  first : fields (bare (slice at e s)) ≡ slice at q s ∷ fieldsFrom (q + 1) end s
+  first = ap fields (B .cut) ∙ fields-first s at end q (B .from) f
 
   pub name-passed : same (slice at q s) (text "fluent") ≡ false → nameIn at k (slice at e s ∷ ls) ≡ nameIn (e + 1) k ls
   unfolding nameIn
-  name-passed x = rw (← next, fields-first s at e q h f, x, nameIn)
+  name-passed x = rw (← next, first, x, nameIn)
 
   module _ (x : same (slice at q s) (text "fluent") ≡ true) where
     pub name-later : (k ≡ 0 → ⊥) → nameIn at k (slice at e s ∷ ls) ≡ nameIn (e + 1) (k - 1) ls
     unfolding nameIn
-    name-later z = rw (← next, fields-first s at e q h f, x, ne-eqb k 0 z, nameIn)
+    name-later z = rw (← next, first, x, ne-eqb k 0 z, nameIn)
 
-    pub name-here : k ≡ 0 → nameIn at k (slice at e s ∷ ls) ≡ fieldSpan s q e
+    pub name-here : k ≡ 0 → nameIn at k (slice at e s ∷ ls) ≡ fieldSpan s q end
     unfolding nameIn
     name-here z =
         let l = same-length (slice at q s) (text "fluent") x in
         let i = f .within in
+        let b = B .within in
         let m = length-slice at q s (omega arith) in
         let j : at + 7 ≡ q + 1 = omega (arith, l, m, f .from) in
-        rw (fields-first s at e q h f, x, eq-eqb k 0 z, nameIn, fields-first s at e q h f) (ap (λ (i : ℕ). span i (length (getD (fieldsFrom (q + 1) e s) 0 []))) j)
+        rw (first, x, eq-eqb k 0 z, nameIn, first) (ap (λ (i : ℕ). span i (length (getD (fieldsFrom (q + 1) end s) 0 []))) j)
 
 pub name-nowhere : (at k : ℕ) → nameIn at k [] ≡ nowhere
 unfolding nameIn

@@ -1,5 +1,5 @@
 -- The book of every accepted sheet is valid: each accepted line keeps it so. Assumes nothing.
-use mathlib.Core.Path.{_≡_, refl, sym, subst⁻¹}
+use mathlib.Core.Path.{_≡_, refl, subst, subst⁻¹}
 use mathlib.Core.List.{List, [], _∷_, _++_}
 use Prim.Native.Nat.{ℕ, _+_, _≤_, _<_}
 use native.Mathlib.Omega.{arith}
@@ -11,8 +11,8 @@ use Rattle.chars.specs.Pieces.{lines, fields}
 use Rattle.sheet.specs.declared.lines.Word.{Word}
 use Rattle.sheet.specs.Book.{Book, Symbols, empty, ruleWords, withFluent, withAction, withRule}
 use Rattle.sheet.specs.Line.{wordOf}
-use Rattle.sheet.specs.Reader.{readLines, readSheet, written}
-use Rattle.sheet.proofs.AcceptedLines.{Accepted, fluent, action, rule, start, goal, accepted-text, first-accepted, sheet-accepted, lines-end}
+use Rattle.sheet.specs.Reader.{readSheet, written}
+use Rattle.sheet.proofs.AcceptedLines.{Accepted, fluent, action, rule, start, goal, accepted-text, AllRead, done, more, recordLines, sheet-records}
 use Rattle.sheet.proofs.Valid.{Valid, GoodSteps, GoodRule, steps-more, rule-more, used-below, body-good, start-below}
 
 -- one element more makes a list longer by one
@@ -85,11 +85,9 @@ module _ (b : Book) (v : Valid b) where
       subst⁻¹ Valid e (record { few-fluents = v .few-fluents; few-actions = v .few-actions; few-rules = v .few-rules; rules = v .rules; goal = g; start = v .start })
 
 -- accepted lines, from the top
-valid-lines : (n : ℕ) (b last : Book) (ls : List (List ℕ)) → Valid b → readLines n b ls ≡ written last → Valid last
-valid-lines n b last [] v e = subst⁻¹ Valid (sym (lines-end n b last e)) v
-valid-lines n b last (l ∷ ls) v e =
-    let (next, h, r) = first-accepted n b last l ls e in
-    valid-lines (n + 1) next last ls (valid-line b v next (wordOf (getD (fields l) 0 [])) (drop 1 (fields l)) (accepted-text b next l h)) r
+valid-lines : (b last : Book) (ls : List (List ℕ)) → Valid b → AllRead last b ls → Valid last
+valid-lines b last [] v (done e) = subst Valid e v
+valid-lines b last (l ∷ ls) v (more next h r) = valid-lines next last ls (valid-line b v next (wordOf (getD (fields l) 0 [])) (drop 1 (fields l)) (accepted-text b next l h)) r
 
 -- the book before the first line
 pub empty-valid : Valid empty
@@ -97,4 +95,4 @@ empty-valid = record { few-fluents = omega arith; few-actions = omega arith; few
 
 -- the book of an accepted sheet is valid
 pub sheet-valid : (s : List ℕ) (b : Book) → readSheet s ≡ written b → Valid b
-sheet-valid s b e = valid-lines 1 empty b (lines s) empty-valid (sheet-accepted s b e)
+sheet-valid s b e = valid-lines empty b (recordLines (lines s)) empty-valid (sheet-records s b e)

@@ -5,7 +5,7 @@ use mathlib.Core.List.{List, [], _∷_}
 use lib.ListN.{length, getD, take, drop}
 use lib.Dec.{ltb, eqb}
 use Rattle.chars.specs.Bytes.{text}
-use Rattle.chars.specs.Pieces.{lines, fields}
+use Rattle.chars.specs.Pieces.{lines, fields, bare}
 use Rattle.chars.specs.Places.{same}
 use Rattle.sheet.specs.declared.Span.{Span}
 use Rattle.sheet.specs.Reader.{readSheet, refused, written}
@@ -25,14 +25,14 @@ nowhere = record { at = 0; len = 0 }
 -- The name on `fluent` line k of these lines, counted from 0; the first of the lines begins at `at`.
 -- The name is the field after the word and its tab.
 unfoldable pub nameIn : ℕ → ℕ → List (List ℕ) → Span
-unfolding fields same
+unfolding fields same bare
 nameIn at k [] = nowhere
 nameIn at k (l ∷ ls) =
-    elim (same (getD (fields l) 0 []) (text "fluent")) [
+    elim (same (getD (fields (bare l)) 0 []) (text "fluent")) [
       | false ↦ nameIn (at + length l + 1) k ls
       | true ↦ elim (eqb k 0) [
         | false ↦ nameIn (at + length l + 1) (k - 1) ls
-        | true ↦ record { at = at + 7; len = length (getD (fields l) 1 []) }
+        | true ↦ record { at = at + 7; len = length (getD (fields (bare l)) 1 []) }
       ]
     ]
 

@@ -4,8 +4,8 @@ use mathlib.Core.Bool.{Bool, false, cond, not, _&&_, _||_}
 use mathlib.Core.List.{List, []}
 use lib.ListN.{length, getD, drop}
 use lib.Dec.{leb, ltb, eqb}
-use Rattle.chars.specs.Bytes.{text}
-use Rattle.chars.specs.Pieces.{fields}
+use Rattle.chars.specs.Bytes.{text, HASH, begins}
+use Rattle.chars.specs.Pieces.{fields, bare}
 use Rattle.chars.specs.Places.{same}
 use Rattle.sheet.specs.declared.lines.Word.{Word}
 use Rattle.sheet.specs.declared.lines.Word.the-variants.{Fluent, Action, Rule, Start, Goal, Other}
@@ -91,7 +91,12 @@ lineOf b w fs = do
   _ ← lineHead b w (length fs)
   recordLine b w fs
 
--- A line: its first field is its word.
-unfoldable pub line : Book → List ℕ → Verdict Book
+-- A line that is no comment: its first field is its word.
+unfoldable pub plainLine : Book → List ℕ → Verdict Book
 unfolding fields wordOf lineHead recordLine
-line b l = lineOf b (wordOf (getD (fields l) 0 [])) (drop 1 (fields l))
+plainLine b l = lineOf b (wordOf (getD (fields l) 0 [])) (drop 1 (fields l))
+
+-- A line: one that starts with `#` is a comment and adds nothing; of any other the CR at its end is no part.
+unfoldable pub line : Book → List ℕ → Verdict Book
+unfolding plainLine bare
+line b l = cond (begins HASH l) (accept b) (plainLine b (bare l))

@@ -4,7 +4,7 @@ use mathlib.Core.Bool.{Bool, cond, _&&_, _||_}
 use mathlib.Core.List.{List, [], _∷_}
 use lib.ListN.{length, getD}
 use lib.Dec.{leb, eqb}
-use Rattle.chars.specs.Bytes.{LF, all, sheetByte}
+use Rattle.chars.specs.Bytes.{LF, clean}
 use Rattle.chars.specs.Pieces.{lines}
 use Rattle.sheet.specs.Refusals.{tooLong, badByte, notEnded, incomplete}
 use Rattle.sheet.specs.Verdict.{Verdict, refuse, accept, _>>=_, require}
@@ -17,10 +17,10 @@ ended s = eqb (length s) 0 || eqb (getD s (length s - 1) 0) LF
 
 -- Whole sheet: 10, 11, 12.
 unfoldable pub wholeSheet : List ℕ → Verdict (Unit {0})
-unfolding sheetByte ended
+unfolding clean ended
 wholeSheet s = do
   _ ← require (leb (length s) 65536) tooLong
-  _ ← require (all sheetByte s) badByte
+  _ ← require (clean s) badByte
   require (ended s) notEnded
 
 -- A refusal and its line, or the book.

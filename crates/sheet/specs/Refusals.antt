@@ -5,7 +5,7 @@ use Prim.Native.Nat.{ℕ}
 abbrev pub tooLong : ℕ
 tooLong = 10
 
--- A byte not TAB, LF or 33 to 126.
+-- A byte not TAB, LF or 33 to 126, other than SPACE in a comment line and CR directly before LF.
 abbrev pub badByte : ℕ
 badByte = 11
 

@@ -167,10 +167,11 @@ fn name_in(s: &[u8], k: u64) -> Span
     let mut left = k;
     while at < s.len() {
         let e = chars::line_end(s, at);
-        let q = chars::field_end(s, at, e);
+        let end = chars::bare_end(s, at, e);
+        let q = chars::field_end(s, at, end);
         if chars::is_word(s, at, q, b"fluent") {
             if left == 0 {
-                return field_span(s, q, e);
+                return field_span(s, q, end);
             }
             left -= 1;
         }

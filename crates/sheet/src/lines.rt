@@ -7,7 +7,7 @@ ghost use lib.Seq.{slice};
 ghost use Rattle.chars.specs.Pieces.{lines};
 ghost use Rattle.chars.specs.Inner.{fieldsFrom};
 ghost use Rattle.sheet.specs.Book.{empty};
-ghost use Rattle.sheet.specs.Line.{wordOf, row, overfull, miscounted, lineHead, recordLine, line};
+ghost use Rattle.sheet.specs.Line.{wordOf, row, overfull, miscounted, lineHead, recordLine, plainLine, line};
 ghost use Rattle.sheet.specs.Reader.{readLines};
 ghost use Rattle.sheet.specs.Held.{Kept, Answers, Gives, answer, bookOf, begun};
 use crate::fields;
@@ -292,13 +292,14 @@ fn goal_line(s: &[u8], p: usize, e: usize, b: Parse) -> Parse
     next
 }
 
-// What the lines have said with the one from a up to e.
-fn next_line(s: &[u8], a: usize, e: usize, b: Parse, words: &mut [u16]) -> Parse
+// What the lines have said with the one from a up to e, which is no comment and has no CR.
+fn plain_line(s: &[u8], a: usize, e: usize, b: Parse, words: &mut [u16]) -> Parse
     requires { ⌜ Kept (now s) b ⌝ }
     requires { ⌜ (a ≤ e) × (e ≤ length (now s)) ⌝ }
     requires { ⌜ b .refusal ≡ 0 ⌝ }
     requires { ⌜ length (now words) ≡ 4608 ⌝ }
-    ensures { λ r. ⌜ Answers (now (s .entry)) (now (words .exit)) r (line (bookOf (now (s .entry)) (now (words .entry)) b) (slice a e (now (s .entry)))) ⌝ }
+    ensures { λ r. ⌜ Answers (now (s .entry)) (now (words .exit)) r
+        (plainLine (bookOf (now (s .entry)) (now (words .entry)) b) (slice a e (now (s .entry)))) ⌝ }
 {
     let q = chars::field_end(s, a, e);
     let w = word_at(s, a, q);
@@ -315,6 +316,22 @@ fn next_line(s: &[u8], a: usize, e: usize, b: Parse, words: &mut [u16]) -> Parse
         Word::Goal => goal_line(s, q + 1, e, b),
         Word::Other => blank(refusals::BAD_WORD),
     }
+}
+
+// What the lines have said with the one from a up to e.
+fn next_line(s: &[u8], a: usize, e: usize, b: Parse, words: &mut [u16]) -> Parse
+    requires { ⌜ Kept (now s) b ⌝ }
+    requires { ⌜ (a ≤ e) × (e ≤ length (now s)) ⌝ }
+    requires { ⌜ b .refusal ≡ 0 ⌝ }
+    requires { ⌜ length (now words) ≡ 4608 ⌝ }
+    ensures { λ r. ⌜ Answers (now (s .entry)) (now (words .exit)) r
+        (line (bookOf (now (s .entry)) (now (words .entry)) b) (slice a e (now (s .entry)))) ⌝ }
+{
+    if chars::is_comment(s, a, e) {
+        return b;
+    }
+    let end = chars::bare_end(s, a, e);
+    plain_line(s, a, end, b, words)
 }
 
 // What the lines said, and the line of a refusal.

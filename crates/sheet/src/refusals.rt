@@ -2,7 +2,7 @@
 
 // Whole sheet: longer than 65,536 bytes.
 pub const TOO_LONG: u64 = 10;
-// A byte not TAB, LF or 33 to 126.
+// A byte not TAB, LF or 33 to 126, other than SPACE in a comment line and CR directly before LF.
 pub const BAD_BYTE: u64 = 11;
 // Not empty, last byte not LF.
 pub const NOT_ENDED: u64 = 12;

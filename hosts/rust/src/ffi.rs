@@ -19,6 +19,13 @@ pub struct Span {
 }
 
 #[repr(C)]
+pub struct Written {
+    pub refusal: u64,
+    pub line: u64,
+    pub length: u64,
+}
+
+#[repr(C)]
 pub struct Run {
     pub refusal: u64,
     pub ends: u64,
@@ -46,6 +53,12 @@ extern "C" {
         rules_len: usize,
     ) -> Sheet;
     pub fn lawhemuri_fluent_name(sheet: *const u8, sheet_len: usize, fluent: u64) -> Span;
+    pub fn lawhemuri_write(
+        sheet: *const u8,
+        sheet_len: usize,
+        text: *mut u8,
+        text_len: usize,
+    ) -> Written;
     pub fn lawhemuri_evaluate(
         fluents: u64,
         actions: u64,

@@ -1,9 +1,9 @@
-//! Safe functions over the proved library: read a rehearsal sheet, evaluate its goal, list the path of an answer; store states by
-//! fluent, and restore them.
+//! Safe functions over the proved library: read a rehearsal sheet, write it as its one fixed text, evaluate its goal, list the path
+//! of an answer; store states by fluent, and restore them.
 //!
 //! The caller lends all memory as slices. What each slice holds afterwards, for every
 //! refusal, is said at each function. As the header's constants say, [`evaluate`] needs 1.75 MiB of stack, [`path`] 1.125 MiB,
-//! [`read`] and [`fluent_name`] 64 KiB, [`store`] and [`restore`] 1 KiB: a thread of the standard library has 2 MiB.
+//! [`read`], [`fluent_name`] and [`write`] 64 KiB, [`store`] and [`restore`] 1 KiB: a thread of the standard library has 2 MiB.
 //!
 //! ```
 //! let text = b"fluent\ta\nfluent\tb\naction\tg\nrule\tg\t!g\t?a\t+b\nrule\tg\t+a\nstart\ngoal\t!g\n";
@@ -123,6 +123,19 @@ pub fn read(sheet: &[u8], rules: &mut [u16]) -> Result<Sheet, Unread> {
         goal: r.goal,
         goal_len: r.goal_len as usize,
     })
+}
+
+/// Writes an accepted sheet as its one fixed text (refusals 10 to 18, then 50) and gives the text's length.
+///
+/// The text has no comments, LF alone at a line's end, and the names of `start` in fluent order. It reads to what the sheet reads to, sheets
+/// that read to the same have the same text, and it is never longer than the sheet. Past it `text` is unchanged; refused, all of `text` is.
+pub fn write(sheet: &[u8], text: &mut [u8]) -> Result<usize, Unread> {
+    // SAFETY: the library reads `sheet` and writes `text`, within the lengths given, and keeps neither.
+    let r = unsafe {
+        ffi::lawhemuri_write(sheet.as_ptr(), sheet.len(), text.as_mut_ptr(), text.len())
+    };
+    accepted(r.refusal).map_err(|refusal| Unread { refusal, line: r.line })?;
+    Ok(r.length as usize)
 }
 
 /// The very part of the sheet that defines a fluent; empty for a refused sheet or a number too high.

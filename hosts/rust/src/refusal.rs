@@ -7,7 +7,7 @@ use std::fmt;
 pub enum Refusal {
     /// 10: the sheet is longer than 65,536 bytes.
     TooLong = 10,
-    /// 11: a byte of the sheet is not TAB, LF or 33 to 126.
+    /// 11: a byte of the sheet is not TAB, LF or 33 to 126, nor SPACE in a comment line, nor CR directly before LF.
     BadByte = 11,
     /// 12: the sheet is not empty and its last byte is not LF.
     NotEnded = 12,
@@ -47,6 +47,8 @@ pub enum Refusal {
     BadRecord = 42,
     /// 43: the list has fewer places than there are states in the path.
     StatesShort = 43,
+    /// 50: the bytes lent for a text are fewer than it has.
+    TextShort = 50,
     /// 80: the output has fewer places than there are words or states to write.
     OutputShort = 80,
     /// 81: the words are not one per fluent for each block of 64 states.
@@ -57,7 +59,7 @@ pub enum Refusal {
 
 impl Refusal {
     /// All refusals, in rising order of their numbers.
-    pub const ALL: [Refusal; 24] = [
+    pub const ALL: [Refusal; 25] = [
         Refusal::TooLong,
         Refusal::BadByte,
         Refusal::NotEnded,
@@ -79,6 +81,7 @@ impl Refusal {
         Refusal::NoRecord,
         Refusal::BadRecord,
         Refusal::StatesShort,
+        Refusal::TextShort,
         Refusal::OutputShort,
         Refusal::BadWordCount,
         Refusal::BitPastEnd,
@@ -98,7 +101,7 @@ impl Refusal {
     pub fn meaning(self) -> &'static str {
         match self {
             Refusal::TooLong => "sheet longer than 65,536 bytes",
-            Refusal::BadByte => "a byte that is not TAB, LF or 33 to 126",
+            Refusal::BadByte => "a byte other than TAB, LF, 33 to 126, a comment's SPACE or the CR of CR LF",
             Refusal::NotEnded => "the last line is not ended by LF",
             Refusal::BadWord => "no record word, or one out of order",
             Refusal::BadField => "a missing name, or a field that is no name or step",
@@ -118,6 +121,7 @@ impl Refusal {
             Refusal::NoRecord => "no such answer record",
             Refusal::BadRecord => "a bad call record, or an answer that is not justified",
             Refusal::StatesShort => "the list has fewer places than the path has states",
+            Refusal::TextShort => "fewer bytes lent than the text has",
             Refusal::OutputShort => "the output has fewer places than there are words or states",
             Refusal::BadWordCount => "words that are not one per fluent for each block of 64 states",
             Refusal::BitPastEnd => "a bit set past the last state",

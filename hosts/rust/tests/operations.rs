@@ -1,6 +1,8 @@
 //! The operations as a host meets them: results, refusals, and what each buffer holds afterwards.
 
-use lawhemuri::{evaluate, fluent_name, path, read, restore, store, Buffers, Question, Records, Refusal, Run, Unread, Unrun};
+use lawhemuri::{
+    evaluate, fluent_name, path, read, restore, store, write, Buffers, Question, Records, Refusal, Run, Unread, Unrun,
+};
 
 const EXAMPLE: &[u8] = b"fluent\topen\nfluent\tlit\naction\tpurge\naction\tlight\nrule\tpurge\t+open\n\
 rule\tlight\t!purge\t?open\t+lit\t-open\nstart\ngoal\t!light\n";
@@ -39,6 +41,42 @@ fn example_sheet() {
     let (run, _, _, ends) = with_rooms(&sheet.question(&rules), 512, 256, 256);
     assert_eq!(run, Ok(Run { ends: 1, calls: 3, answers: 3 }));
     assert_eq!(ends[..2], [2, MARK]);
+}
+
+#[test]
+fn fixed_text() {
+    let dressed = b"# a\tb c\r\nfluent\ta\r\nfluent\tb\n#\naction\tg\r\nrule\tg\t+a\t?b\r\nstart\tb\ta\r\ngoal\t!g\r\n# end\n";
+    let plain = b"fluent\ta\nfluent\tb\naction\tg\nrule\tg\t+a\t?b\nstart\ta\tb\ngoal\t!g\n";
+    let mut text = [7; 60];
+    assert_eq!(write(dressed, &mut text), Ok(58));
+    assert_eq!(text[..58], plain[..]);
+    assert_eq!(text[58..], [7; 2]);
+    assert_eq!(fluent_name(dressed, 0).as_ptr(), dressed[16..].as_ptr());
+    assert_eq!(fluent_name(dressed, 0), b"a");
+    let (mut rules, mut again) = ([0; 18], [0; 18]);
+    assert_eq!(read(dressed, &mut rules), read(&text[..58], &mut again));
+    assert_eq!(rules, again);
+    assert_eq!(write(plain, &mut text), Ok(58));
+    assert_eq!(text[..58], plain[..]);
+    let mut short = [7; 57];
+    assert_eq!(write(dressed, &mut short), Err(Unread { refusal: Refusal::TextShort, line: 0 }));
+    assert_eq!(short, [7; 57]);
+    assert_eq!(write(b"# 1\nfluent\tA\n", &mut short), Err(Unread { refusal: Refusal::BadField, line: 2 }));
+    assert_eq!(short, [7; 57]);
+}
+
+#[test]
+fn comments_and_line_ends() {
+    let mut rules = [7; 18];
+    let mut refusal = |sheet: &[u8]| read(sheet, &mut rules).map_err(|e| (e.refusal.number(), e.line)).err();
+    assert_eq!(refusal(b"# a\tb c\r\nstart\r\n#\ngoal\r\n# end\r\n"), None);
+    for sheet in [b"start \ngoal\n".as_slice(), b" # x\n", b"start\r\r\ngoal\n", b"start\ngoal\r", b"#a\rb\n", b"#\x7f\n", b"#\x1f\n"] {
+        assert_eq!(refusal(sheet), Some((11, 0)), "{sheet:?}");
+    }
+    assert_eq!(refusal(b"start\ngoal\n# x y"), Some((12, 0)));
+    assert_eq!(refusal(b"\r\nstart\ngoal\n"), Some((13, 1)));
+    assert_eq!(refusal(b"# 1\n# 2\nfluent\tA\n"), Some((14, 3)));
+    assert_eq!(refusal(b"start\r\ngoal\t\r\n"), Some((14, 2)));
 }
 
 #[test]
@@ -132,7 +170,8 @@ fn denial() {
 
 #[test]
 fn numbers_of_refusals() {
-    let numbers = [10, 11, 12, 13, 14, 15, 16, 17, 18, 19, 20, 21, 22, 23, 24, 30, 31, 40, 41, 42, 43, 80, 81, 82];
+    let numbers =
+        [10, 11, 12, 13, 14, 15, 16, 17, 18, 19, 20, 21, 22, 23, 24, 30, 31, 40, 41, 42, 43, 50, 80, 81, 82];
     assert_eq!(Refusal::ALL.map(Refusal::number), numbers);
     assert_eq!(numbers.map(Refusal::of), Refusal::ALL.map(Some));
     assert!([0, 9, 25, 29, 32, 39, 44, 79, 83].map(Refusal::of).iter().all(Option::is_none));

@@ -19,8 +19,14 @@ loop-holds c = search needs
 random-book-requires : tie.Need-random-book-requires Inv-loop μ-loop
 random-book-requires c κs = search needs
 
+next-requires : tie.Need-next-requires Inv-loop μ-loop
+next-requires c κs = search needs
+
 pick-requires : tie.Need-pick-requires Inv-loop μ-loop
 pick-requires c κs = search needs
+
+pick-requires-2 : tie.Need-pick-requires-2 Inv-loop μ-loop
+pick-requires-2 c κs = search needs
 
 compared-requires : tie.Need-compared-requires Inv-loop μ-loop
 compared-requires c κs = search needs
@@ -49,7 +55,9 @@ compare-spec =
     none-requires
     loop-holds
     random-book-requires
+    next-requires
     pick-requires
+    pick-requires-2
     compared-requires
     plus-requires
     add-k

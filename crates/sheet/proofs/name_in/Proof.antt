@@ -26,6 +26,9 @@ loop-holds c = (omega arith, refl)
 line-end-requires : tie.Need-line-end-requires Inv-loop μ-loop
 line-end-requires c κs = search needs
 
+bare-end-requires : tie.Need-bare-end-requires Inv-loop μ-loop
+bare-end-requires c κs = search needs
+
 field-end-requires : tie.Need-field-end-requires Inv-loop μ-loop
 field-end-requires c κs = search needs
 
@@ -40,12 +43,13 @@ field-span-requires c κs = search needs
 
 returns : tie.Need-returns Inv-loop μ-loop
 returns c =
-    let l = c .before .before .before .before .before .before .before .before .loop in
-    let s = now (c .before .before .before .before .before .before .before .before .before .before .args .s) in
-    let x = c .before .before .before .before .before .before .line-end in
+    let l = c .before .before .before .before .before .before .before .before .before .loop in
+    let s = now (c .before .before .before .before .before .before .before .before .before .before .before .args .s) in
+    let x = c .before .before .before .before .before .before .before .line-end in
+    let z = c .before .before .before .before .before .before .bare-end in
     let f = c .before .before .before .before .before .field-end in
     let h = rw (x .ensures .cut) at (l .inv .1) in
-    let v = name-here s (l .at) (x .result) (f .result) (l .left) (lines (drop (x .result + 1) s)) (f .ensures) (x .ensures .from) (x .ensures .within) (sym (c .before .before .before .is-word .ensures) ∙ c .before .before .if1 .taken) (c .before .if2 .taken) in
+    let v = name-here s (l .at) (x .result) (z .result) (f .result) (l .left) (lines (drop (x .result + 1) s)) (z .ensures) (f .ensures) (x .ensures .within) (sym (c .before .before .before .is-word .ensures) ∙ c .before .before .if1 .taken) (c .before .if2 .taken) in
     c .field-span .ensures ∙ sym (h ∙ v)
 
 sub-left : tie.Need-sub-left Inv-loop μ-loop
@@ -59,9 +63,10 @@ loop-less c = search needs
 
 loop-again : tie.Need-loop-again Inv-loop μ-loop
 loop-again c =
-    let l = c .before .before .before .before .before .before .loop in
-    let s = now (c .before .before .before .before .before .before .before .before .args .s) in
-    let x = c .before .before .before .before .line-end in
+    let l = c .before .before .before .before .before .before .before .loop in
+    let s = now (c .before .before .before .before .before .before .before .before .before .args .s) in
+    let x = c .before .before .before .before .before .line-end in
+    let z = c .before .before .before .before .bare-end in
     let f = c .before .before .before .field-end in
     let w = c .before .is-word in
     let ls = lines (drop (x .result + 1) s) in
@@ -69,8 +74,8 @@ loop-again c =
     let i = x .ensures .within in (
       omega arith,
       ⊎-elim
-          (λ p. h ∙ name-later s (l .at) (x .result) (f .result) (l .left) ls (f .ensures) (x .ensures .from) (x .ensures .within) (sym (w .ensures) ∙ p .0 .taken) (p .1 .left) ∙ ap (λ (j : ℕ). nameIn (x .result + 1) j ls) (sym (p .2)))
-          (λ p. h ∙ name-passed s (l .at) (x .result) (f .result) (l .left) ls (f .ensures) (x .ensures .from) (x .ensures .within) (sym (w .ensures) ∙ p .0 .left) ∙ ap (λ (j : ℕ). nameIn (x .result + 1) j ls) (sym (p .1)))
+          (λ p. h ∙ name-later s (l .at) (x .result) (z .result) (f .result) (l .left) ls (z .ensures) (f .ensures) (x .ensures .within) (sym (w .ensures) ∙ p .0 .taken) (p .1 .left) ∙ ap (λ (j : ℕ). nameIn (x .result + 1) j ls) (sym (p .2)))
+          (λ p. h ∙ name-passed s (l .at) (x .result) (z .result) (f .result) (l .left) ls (z .ensures) (f .ensures) (x .ensures .within) (sym (w .ensures) ∙ p .0 .left) ∙ ap (λ (j : ℕ). nameIn (x .result + 1) j ls) (sym (p .1)))
           (c .if1 .came),
     )
 
@@ -89,6 +94,7 @@ name-in-spec =
     μ-loop
     loop-holds
     line-end-requires
+    bare-end-requires
     field-end-requires
     slice-aggregate-is-word
     is-word-requires

@@ -7,10 +7,10 @@ use Rattle.compare.proofs.text.put_rules.Statement.{statement}
 use Rattle.compare.proofs.text.put_rules.Tie as tie
 
 abbrev Inv-loop : tie.InvT-loop
-Inv-loop text₀ from book at₀ rule₀ t6 text at rule = (rule ≤ 6) × (length text ≡ length text₀)
+Inv-loop text₀ from book dress at₀ rule₀ t7 text at rule = (rule ≤ 6) × (length text ≡ length text₀)
 
 abbrev μ-loop : tie.MeasureT-loop
-μ-loop text₀ from book at₀ rule₀ t6 text at rule = 6 - rule
+μ-loop text₀ from book dress at₀ rule₀ t7 text at rule = 6 - rule
 
 loop-holds : tie.Need-loop-holds Inv-loop μ-loop
 loop-holds c = search needs

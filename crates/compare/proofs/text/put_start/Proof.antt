@@ -8,10 +8,10 @@ use Rattle.compare.proofs.text.put_start.Statement.{statement}
 use Rattle.compare.proofs.text.put_start.Tie as tie
 
 abbrev Inv-loop : tie.InvT-loop
-Inv-loop text₀ from start at₀ k₀ t7 text at k = (k ≤ 3) × (length text ≡ length text₀)
+Inv-loop text₀ from start dress at₀ k₀ text at k = (k ≤ 3) × (length text ≡ length text₀)
 
 abbrev μ-loop : tie.MeasureT-loop
-μ-loop text₀ from start at₀ k₀ t7 text at k = 3 - k
+μ-loop text₀ from start dress at₀ k₀ text at k = 3 - k
 
 slice-aggregate-put : tie.Need-slice-aggregate-put Inv-loop μ-loop
 slice-aggregate-put c = search needs
@@ -21,6 +21,9 @@ put-requires c κs = search needs
 
 loop-holds : tie.Need-loop-holds Inv-loop μ-loop
 loop-holds c = search needs
+
+at-place-requires : tie.Need-at-place-requires Inv-loop μ-loop
+at-place-requires c κs = search needs
 
 cast-has : tie.Need-cast-has Inv-loop μ-loop
 cast-has c = search needs
@@ -46,11 +49,8 @@ loop-less c = search needs
 loop-again : tie.Need-loop-again Inv-loop μ-loop
 loop-again c = ⊎-elim (λ w. search needs) (λ w. search needs) (c .if1 .came)
 
-slice-aggregate-put-3 : tie.Need-slice-aggregate-put-3 Inv-loop μ-loop
-slice-aggregate-put-3 c = search needs
-
-put-requires-3 : tie.Need-put-requires-3 Inv-loop μ-loop
-put-requires-3 c κs = search needs
+put-end-requires : tie.Need-put-end-requires Inv-loop μ-loop
+put-end-requires c κs = search needs
 
 same-length : tie.Need-same-length Inv-loop μ-loop
 same-length c = search needs
@@ -67,6 +67,7 @@ put-start-spec =
     slice-aggregate-put
     put-requires
     loop-holds
+    at-place-requires
     cast-has
     has-requires
     fluent-requires
@@ -75,7 +76,6 @@ put-start-spec =
     add-k
     loop-less
     loop-again
-    slice-aggregate-put-3
-    put-requires-3
+    put-end-requires
     same-length
     returns)

@@ -7,10 +7,10 @@ use Rattle.compare.proofs.text.put_steps.Statement.{statement}
 use Rattle.compare.proofs.text.put_steps.Tie as tie
 
 abbrev Inv-loop : tie.InvT-loop
-Inv-loop text₀ from book rule count at₀ k₀ t8 text at k = (k ≤ count) × (length text ≡ length text₀)
+Inv-loop text₀ from book rule dress count at₀ k₀ text at k = (k ≤ count) × (length text ≡ length text₀)
 
 abbrev μ-loop : tie.MeasureT-loop
-μ-loop text₀ from book rule count at₀ k₀ t8 text at k = count - k
+μ-loop text₀ from book rule dress count at₀ k₀ text at k = count - k
 
 word-at-requires : tie.Need-word-at-requires Inv-loop μ-loop
 word-at-requires c κs = search needs
@@ -39,11 +39,8 @@ loop-less c = search needs
 loop-again : tie.Need-loop-again Inv-loop μ-loop
 loop-again c = search needs
 
-slice-aggregate-put : tie.Need-slice-aggregate-put Inv-loop μ-loop
-slice-aggregate-put c = search needs
-
-put-requires : tie.Need-put-requires Inv-loop μ-loop
-put-requires c κs = search needs
+put-end-requires : tie.Need-put-end-requires Inv-loop μ-loop
+put-end-requires c κs = search needs
 
 same-length : tie.Need-same-length Inv-loop μ-loop
 same-length c = search needs
@@ -66,7 +63,6 @@ put-steps-spec =
     add-k
     loop-less
     loop-again
-    slice-aggregate-put
-    put-requires
+    put-end-requires
     same-length
     returns)

@@ -1,0 +1,117 @@
+-- What a line gives to the text, case by case. Assumes nothing.
+use Prim.Native.Nat.{ℕ, suc, _+_, _≤_}
+use native.Mathlib.Omega.{arith}
+use mathlib.Core.Path.{_≡_, refl, ap, _∙_}
+use mathlib.Core.Bool.{Bool, true, false, cond}
+use mathlib.Core.List.{List, [], _∷_, _++_}
+use lib.ListN.{length, getD, take, drop, length-append}
+use lib.Seq.{slice, length-slice, drop-drop}
+use Rattle.steps.specs.State.{State, holds}
+use Rattle.chars.specs.Bytes.{text, LF, HASH, begins}
+use Rattle.chars.specs.Pieces.{fields, bare}
+use Rattle.chars.specs.Places.{same}
+use Rattle.chars.specs.Inner.{FieldEnd, BareEnd}
+use Rattle.chars.proofs.Fields.{fields-first}
+use Rattle.chars.proofs.Names.{same-length}
+use Rattle.writer.specs.Inner.{plainPiece, plainBytes, heldPiece, heldNext, heldBytes, startBytes, linePiece, lineBytes}
+
+-- the line's first field, and what is behind a `fluent`
+module _ (s : List ℕ) (a e end q : ℕ) (B : BareEnd s a e end) (F : FieldEnd s a end q) where
+  pub first-of : getD (fields (bare (slice a e s))) 0 [] ≡ slice a q s
+  first-of = ap (λ (l : List ℕ). getD (fields l) 0 []) (B .cut) ∙ ap (λ (fs : List (List ℕ)). getD fs 0 []) (fields-first s a end q (B .from) F)
+
+  pub tail-of : e ≤ length s → same (slice a q s) (text "fluent") ≡ true → drop 6 (bare (slice a e s)) ≡ slice q end s
+  tail-of w h =
+      let n = same-length (slice a q s) (text "fluent") h in
+      let i = F .within in
+      let j = B .within in
+      let k = F .from in
+      let m = length-slice a q s (omega arith) in
+      let z : a + 6 ≡ q = omega arith in
+      ap (drop 6) (B .cut) ∙ drop-drop 6 a (take end s) ∙ ap (λ (n : ℕ). drop n (take end s)) z
+
+module _ (l : List ℕ) where
+  pub plain-comment : begins HASH l ≡ true → plainPiece l ≡ []
+  unfolding plainPiece
+  plain-comment h = rw h refl
+
+  pub plain-record : begins HASH l ≡ false → plainPiece l ≡ bare l ++ (LF ∷ [])
+  unfolding plainPiece
+  plain-record h = rw h refl
+
+  pub plain-more : (ls : List (List ℕ)) → plainBytes (l ∷ ls) ≡ plainPiece l ++ plainBytes ls
+  unfolding plainBytes
+  plain-more ls = refl
+
+pub plain-none : plainBytes [] ≡ []
+unfolding plainBytes
+plain-none = refl
+
+module _ (k : ℕ) (st : State) (l : List ℕ) where
+  abbrev first : List ℕ
+  first = getD (fields (bare l)) 0 []
+
+  pub held-other : same first (text "fluent") ≡ false → heldPiece k st l ≡ []
+  unfolding heldPiece
+  held-other h = rw h refl
+
+  pub held-not : holds st k ≡ false → heldPiece k st l ≡ []
+  unfolding heldPiece
+  held-not h = ap (λ (u : Bool). cond (same first (text "fluent")) (cond u (drop 6 (bare l)) []) []) h ∙ by (same first (text "fluent"))
+    where
+      by : (t : Bool) → cond {A = List ℕ} t [] [] ≡ []
+      by true = refl
+      by false = refl
+
+  pub held-here : same first (text "fluent") ≡ true → holds st k ≡ true → heldPiece k st l ≡ drop 6 (bare l)
+  unfolding heldPiece
+  held-here h u = ap (λ (t : Bool). cond t (cond (holds st k) (drop 6 (bare l)) []) []) h ∙ ap (λ (t : Bool). cond t (drop 6 (bare l)) []) u
+
+  pub next-other : same first (text "fluent") ≡ false → heldNext k l ≡ k
+  unfolding heldNext
+  next-other h = rw h refl
+
+  pub next-fluent : same first (text "fluent") ≡ true → heldNext k l ≡ suc k
+  unfolding heldNext
+  next-fluent h = rw h refl
+
+  pub held-more : (ls : List (List ℕ)) → heldBytes k st (l ∷ ls) ≡ heldPiece k st l ++ heldBytes (heldNext k l) st ls
+  unfolding heldBytes
+  held-more ls = refl
+
+pub held-none : (k : ℕ) (st : State) → heldBytes k st [] ≡ []
+unfolding heldBytes
+held-none k st = refl
+
+pub start-bytes : (st : State) (all : List (List ℕ)) → startBytes st all ≡ (text "start" ++ heldBytes 0 st all) ++ (LF ∷ [])
+unfolding startBytes
+start-bytes st all = refl
+
+pub start-size : (st : State) (all : List (List ℕ)) → length (startBytes st all) ≡ 6 + length (heldBytes 0 st all)
+start-size st all =
+    let a = ap length (start-bytes st all) in
+    let c = length-append (text "start" ++ heldBytes 0 st all) (LF ∷ []) in
+    let d = length-append (text "start") (heldBytes 0 st all) in
+    omega arith
+
+module _ (st : State) (all : List (List ℕ)) (l : List ℕ) where
+  pub line-comment : begins HASH l ≡ true → linePiece st all l ≡ []
+  unfolding linePiece
+  line-comment h = rw h refl
+
+  module _ (h : begins HASH l ≡ false) where
+    pub line-start : same (getD (fields (bare l)) 0 []) (text "start") ≡ true → linePiece st all l ≡ startBytes st all
+    unfolding linePiece
+    line-start u = rw (h, u) refl
+
+    pub line-other : same (getD (fields (bare l)) 0 []) (text "start") ≡ false → linePiece st all l ≡ bare l ++ (LF ∷ [])
+    unfolding linePiece
+    line-other u = rw (h, u) refl
+
+  pub line-more : (ls : List (List ℕ)) → lineBytes st all (l ∷ ls) ≡ linePiece st all l ++ lineBytes st all ls
+  unfolding lineBytes
+  line-more ls = refl
+
+pub line-none : (st : State) (all : List (List ℕ)) → lineBytes st all [] ≡ []
+unfolding lineBytes
+line-none st all = refl
