@@ -25,6 +25,10 @@
 extern "C" {
 #endif
 
+/* The version of this header, in words and as 10,000 times the first number, 100 times the second and the third. */
+#define LAWHEMURI_VERSION "0.1.0"
+#define LAWHEMURI_VERSION_NUMBER 100u
+
 /* ---- Refusals, in the order in which they are looked for ----
  *
  * No.  Exactly when                                          Buffers afterwards
@@ -180,6 +184,9 @@ typedef struct lawhemuri_archived {
     uint64_t refusal; /* 0: the words or states are written */
     uint64_t count;   /* how many; 0 where refused */
 } lawhemuri_archived;
+
+/* The version of the library that is linked: LAWHEMURI_VERSION_NUMBER of its own header. */
+uint64_t lawhemuri_version(void);
 
 /* Reads a sheet (refusals 10 to 19).
  *

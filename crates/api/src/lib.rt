@@ -9,6 +9,14 @@ ghost use Rattle.evaluator.specs.Evaluated.{Evaluated, asked, lent, told};
 ghost use Rattle.path.specs.Outcome.{Answered};
 ghost use Rattle.archive.specs.Outcome.{Stored, Restored};
 
+// The version, as a host compares it with its header's: 10,000 times the first number, 100 times the second and the third.
+#[no_mangle]
+pub extern "C" fn lawhemuri_version() -> u64
+    ensures { λ r. ⌜ r ≡ 100 ⌝ }
+{
+    100
+}
+
 // Reads a sheet: the rule words of an accepted one go to `rules`, which is unchanged past them and by a refusal.
 #[no_mangle]
 pub extern "C" fn lawhemuri_read(sheet: &[u8], rules: &mut [u16]) -> sheet::Sheet

@@ -46,12 +46,8 @@ pub struct Archived {
 }
 
 extern "C" {
-    pub fn lawhemuri_read(
-        sheet: *const u8,
-        sheet_len: usize,
-        rules: *mut u16,
-        rules_len: usize,
-    ) -> Sheet;
+    pub fn lawhemuri_version() -> u64;
+    pub fn lawhemuri_read(sheet: *const u8, sheet_len: usize, rules: *mut u16, rules_len: usize) -> Sheet;
     pub fn lawhemuri_fluent_name(sheet: *const u8, sheet_len: usize, fluent: u64) -> Span;
     pub fn lawhemuri_write(
         sheet: *const u8,
@@ -91,13 +87,7 @@ extern "C" {
         states: *mut u64,
         states_len: usize,
     ) -> States;
-    pub fn lawhemuri_store(
-        fluents: u64,
-        states: *const u64,
-        states_len: usize,
-        words: *mut u64,
-        words_len: usize,
-    ) -> Archived;
+    pub fn lawhemuri_store(fluents: u64, states: *const u64, states_len: usize, words: *mut u64, words_len: usize) -> Archived;
     pub fn lawhemuri_restore(
         fluents: u64,
         count: u64,

@@ -1,7 +1,17 @@
 //! Safe functions over the proved library: read a rehearsal sheet, write it as its one fixed text, evaluate its goal, list the path
 //! of an answer; store states by fluent, and restore them.
 //!
-//! The caller lends all memory as slices. What each slice holds afterwards, for every
+//! [`Rehearsal`] does all of it in memory of its own, and gives the steps of each way, held against the library's path:
+//!
+//! ```
+//! let text = b"fluent\topen\naction\tpurge\nrule\tpurge\t+open\nstart\ngoal\t!purge\n";
+//! let rehearsal = lawhemuri::Rehearsal::new(text.to_vec()).unwrap();
+//! assert_eq!(rehearsal.ends(), [1]);
+//! let way = rehearsal.way_to(1).unwrap().expect("1 is an end");
+//! assert_eq!((way.states, way.events.len()), (vec![0, 1], 5));
+//! ```
+//!
+//! In the functions below the caller lends all memory as slices. What each slice holds afterwards, for every
 //! refusal, is said at each function. As the header's constants say, [`evaluate`] needs 1.75 MiB of stack, [`path`] 1.125 MiB,
 //! [`read`], [`fluent_name`] and [`write`] 64 KiB, [`store`] and [`restore`] 1 KiB: a thread of the standard library has 2 MiB.
 //!
@@ -18,9 +28,12 @@
 
 mod ffi;
 mod refusal;
+mod rehearsal;
+pub mod unfolding;
 
 use refusal::accepted;
 pub use refusal::Refusal;
+pub use rehearsal::{Rehearsal, Trouble, Way, MOST_EVENTS, MOST_RECORDS, STACK_EVALUATE, STACK_PATH};
 
 /// Words of one rule: head, step count, 16 step words.
 pub const RULE_WORDS: usize = 18;
@@ -105,15 +118,19 @@ pub struct Unrun {
     pub run: Run,
 }
 
+/// The version of the library that is linked: 10,000 times the first number, 100 times the second and the third.
+pub fn version() -> u64 {
+    // SAFETY: the function takes nothing and touches no memory.
+    unsafe { ffi::lawhemuri_version() }
+}
+
 /// Reads a sheet (refusals 10 to 19).
 ///
 /// Accepted, the head of `rules` holds 18 words for each rule and the list past them is
 /// unchanged; refused, `rules` is unchanged.
 pub fn read(sheet: &[u8], rules: &mut [u16]) -> Result<Sheet, Unread> {
-    // The library reads `sheet` and writes `rules`, within the lengths given, and keeps neither.
-    let r = unsafe {
-        ffi::lawhemuri_read(sheet.as_ptr(), sheet.len(), rules.as_mut_ptr(), rules.len())
-    };
+    // SAFETY: the library reads `sheet` and writes `rules`, within the lengths given, and keeps neither.
+    let r = unsafe { ffi::lawhemuri_read(sheet.as_ptr(), sheet.len(), rules.as_mut_ptr(), rules.len()) };
     accepted(r.refusal).map_err(|refusal| Unread { refusal, line: r.line })?;
     Ok(Sheet {
         fluents: r.fluents,
@@ -142,7 +159,7 @@ pub fn write(sheet: &[u8], text: &mut [u8]) -> Result<usize, Unread> {
 ///
 /// Each call reads the whole sheet.
 pub fn fluent_name(sheet: &[u8], fluent: u64) -> &[u8] {
-    // The library reads `sheet` within the length given; the part lies within it.
+    // SAFETY: the library reads `sheet` within the length given; the part lies within it.
     let part = unsafe { ffi::lawhemuri_fluent_name(sheet.as_ptr(), sheet.len(), fluent) };
     &sheet[part.at..part.at + part.len]
 }
@@ -155,7 +172,7 @@ pub fn fluent_name(sheet: &[u8], fluent: u64) -> &[u8] {
 /// * 30: both tables are 0 throughout, the list is unchanged.
 /// * 31: both tables as with no refusal, the counts are given, the list is unchanged.
 pub fn evaluate(question: &Question<'_>, lent: &mut Buffers<'_>) -> Result<Run, Unrun> {
-    // The library reads rules and goal and writes the buffers, within the lengths given, and keeps
+    // SAFETY: the library reads rules and goal and writes the buffers, within the lengths given, and keeps
     // none; the borrows make them disjoint.
     let r = unsafe {
         ffi::lawhemuri_evaluate(
@@ -174,11 +191,7 @@ pub fn evaluate(question: &Question<'_>, lent: &mut Buffers<'_>) -> Result<Run, 
             lent.ends.len(),
         )
     };
-    let run = Run {
-        ends: r.ends as usize,
-        calls: r.calls as usize,
-        answers: r.answers as usize,
-    };
+    let run = Run { ends: r.ends as usize, calls: r.calls as usize, answers: r.answers as usize };
     accepted(r.refusal).map_err(|refusal| Unrun { refusal, run })?;
     Ok(run)
 }
@@ -198,7 +211,7 @@ pub struct Records<'a> {
 /// add none. The list past the states is unchanged; refused, it is unchanged. The tables may come from anybody:
 /// every record is checked. The question's start is not used.
 pub fn path(question: &Question<'_>, records: &Records<'_>, record: usize, states: &mut [u64]) -> Result<usize, Refusal> {
-    // The library reads rules, goal and tables and writes `states`, within the lengths given, and keeps none.
+    // SAFETY: the library reads rules, goal and tables and writes `states`, within the lengths given, and keeps none.
     let r = unsafe {
         ffi::lawhemuri_path(
             question.fluents,
@@ -237,10 +250,8 @@ pub fn path(question: &Question<'_>, records: &Records<'_>, record: usize, state
 /// assert_eq!(states, [0, 1, 3, 2]);
 /// ```
 pub fn store(fluents: u64, states: &[u64], words: &mut [u64]) -> Result<usize, Refusal> {
-    // The library reads `states` and writes `words`, within the lengths given, and keeps neither.
-    let r = unsafe {
-        ffi::lawhemuri_store(fluents, states.as_ptr(), states.len(), words.as_mut_ptr(), words.len())
-    };
+    // SAFETY: the library reads `states` and writes `words`, within the lengths given, and keeps neither.
+    let r = unsafe { ffi::lawhemuri_store(fluents, states.as_ptr(), states.len(), words.as_mut_ptr(), words.len()) };
     accepted(r.refusal)?;
     Ok(r.count as usize)
 }
@@ -250,10 +261,8 @@ pub fn store(fluents: u64, states: &[u64], words: &mut [u64]) -> Result<usize, R
 /// The states come first in `states`, which is unchanged past them; refused, it is unchanged. The words may come from
 /// anybody; those that [`store`] wrote, without what stands past them, give back the states that it was lent.
 pub fn restore(fluents: u64, count: u64, words: &[u64], states: &mut [u64]) -> Result<usize, Refusal> {
-    // The library reads `words` and writes `states`, within the lengths given, and keeps neither.
-    let r = unsafe {
-        ffi::lawhemuri_restore(fluents, count, words.as_ptr(), words.len(), states.as_mut_ptr(), states.len())
-    };
+    // SAFETY: the library reads `words` and writes `states`, within the lengths given, and keeps neither.
+    let r = unsafe { ffi::lawhemuri_restore(fluents, count, words.as_ptr(), words.len(), states.as_mut_ptr(), states.len()) };
     accepted(r.refusal)?;
     Ok(r.count as usize)
 }
