@@ -1,0 +1,193 @@
+//! `lawhemuri`: for instructors and authors of rehearsal sheets. The proved library judges; this program lends it memory, keeps
+//! names and lines, and draws.
+
+mod args;
+mod ask;
+mod choices;
+mod drill;
+mod failure;
+mod layout;
+mod lines;
+mod load;
+mod near;
+mod notes;
+mod page;
+mod progress;
+mod refusal;
+mod sha256;
+mod terminal;
+mod valve;
+mod words;
+
+use std::collections::BTreeSet;
+use std::io::{self, Write};
+use std::process::ExitCode;
+
+use args::{Asked, Given};
+use ask::{one_end, Ask};
+use choices::Answers;
+use drill::Drill;
+use failure::Failure;
+use layout::{Layout, MOST_ROWS};
+use load::{Source, Undrilled};
+use progress::Progress;
+use valve::ByValve;
+use words::{count, grouped};
+
+/// Ways that `path` shows unless it is told how many.
+const MOST_WAYS: usize = 16;
+/// Ways that `page` draws unless it is told how many; and where there are more ends than stand in one table.
+const MOST_DRAWN: usize = 64;
+const FEW_DRAWN: usize = 16;
+
+fn main() -> ExitCode {
+    let words = std::env::args_os().skip(1).map(|word| word.to_string_lossy().into_owned()).collect();
+    let done = args::parse(words).and_then(|asked| match asked {
+        Asked::Text(text) => print(&text),
+        Asked::Command(given) => run(&given),
+    });
+    done.map_or_else(Failure::told, |()| ExitCode::SUCCESS)
+}
+
+fn run(given: &Given) -> Result<(), Failure> {
+    let source = load::source(&given.operands[0])?;
+    match given.command {
+        "ends" => ends(given, &drilled(&source)?),
+        "check" => print(&terminal::accepted(&drilled(&source)?)),
+        "path" => path(given, &drilled(&source)?),
+        "page" => page(given, &source),
+        command => Err(Failure::Internal(format!("no command `{command}`"))),
+    }
+}
+
+/// Writes a result. A reader that wants no more of it is no fault.
+fn print(text: &str) -> Result<(), Failure> {
+    let mut out = io::stdout().lock();
+    match out.write_all(text.as_bytes()).and_then(|()| out.flush()) {
+        Err(error) if error.kind() != io::ErrorKind::BrokenPipe => {
+            Err(Failure::Failed(format!("standard output cannot be written: {error}")))
+        }
+        _ => Ok(()),
+    }
+}
+
+/// The rehearsed sheet; a refusal is told on standard error.
+fn drilled(source: &Source) -> Result<Drill, Failure> {
+    load::drill(source).map_err(|undrilled| match undrilled {
+        Undrilled::Failed(failure) => failure,
+        Undrilled::Refused(told) => {
+            eprint!("{}", terminal::refusal(&told, &source.file, &source.text));
+            Failure::Failed(String::new())
+        }
+    })
+}
+
+fn asked(given: &Given) -> Ask {
+    Ask { with: given.all("--with"), without: given.all("--without") }
+}
+
+fn ends(given: &Given, drill: &Drill) -> Result<(), Failure> {
+    let ask = asked(given);
+    let numbers = ask.ends(drill)?;
+    if !ask.is_empty() {
+        eprintln!("lawhemuri: {}: {} of {} ends", ask.words(), grouped(numbers.len()), grouped(drill.ends().len()));
+    }
+    print(&if given.has("--json") { terminal::ends_json(drill, &numbers) } else { terminal::ends(drill, &numbers) })
+}
+
+/// The ends to be shown of those that are so, and what is left out, told on standard error.
+fn shown(drill: &Drill, ask: &Ask, most: usize) -> Result<Vec<usize>, Failure> {
+    let mut numbers = ask.ends(drill)?;
+    let so = if ask.is_empty() { String::new() } else { format!(" {}", ask.words()) };
+    if numbers.is_empty() && !ask.is_empty() {
+        return Err(Failure::Use(format!("no end{so}")));
+    }
+    if numbers.len() > most {
+        let left = numbers.len() - most;
+        eprintln!(
+            "lawhemuri: ways to {} of {}{so}: {} left out (--most N shows more)",
+            grouped(most),
+            count(numbers.len(), "end"),
+            grouped(left)
+        );
+        numbers.truncate(most);
+    }
+    Ok(numbers)
+}
+
+fn path(given: &Given, drill: &Drill) -> Result<(), Failure> {
+    let (ask, most) = (asked(given), given.number("--most")?.unwrap_or(MOST_WAYS));
+    let numbers = match given.operands.get(1) {
+        Some(_) if !ask.is_empty() => return Err(Failure::Use("give END, or --with and --without, and not both".into())),
+        Some(end) => vec![one_end(drill, end)?],
+        None => shown(drill, &ask, most)?,
+    };
+    let answers = Answers::of(drill);
+    if drill.ends().is_empty() {
+        let stops = terminal::unanswered(drill, &answers);
+        return print(&format!("{}: no end: the procedure can never be finished from this start\n\n{stops}", drill.name));
+    }
+    let progress = Progress::begin("unfolding the ways");
+    let all = given.has("--all");
+    let mut parts = Vec::new();
+    for number in numbers {
+        let layout = way(drill, &answers, number, if all { usize::MAX } else { MOST_ROWS })?;
+        parts.push(terminal::path(drill, &layout, number, all));
+    }
+    drop(progress);
+    print(&parts.join("\n"))
+}
+
+/// Draws the page of a sheet; a refused sheet has a page too, that shows where it is at fault.
+fn page(given: &Given, source: &Source) -> Result<(), Failure> {
+    let named = format!("{}.html", if given.operands[0] == "-" { "sheet" } else { &source.name });
+    let file = given.last("-o").unwrap_or(&named);
+    let drill = match load::drill(source) {
+        Ok(drill) => drill,
+        Err(Undrilled::Failed(failure)) => return Err(failure),
+        Err(Undrilled::Refused(told)) => {
+            eprint!("{}", terminal::refusal(&told, &source.file, &source.text));
+            write(file, &page::refused(&told, source))?;
+            return Err(Failure::Failed(if file == "-" { String::new() } else { format!("{file} shows this to the class") }));
+        }
+    };
+    let most =
+        given.number("--most")?.unwrap_or(if drill.ends().len() > page::MOST_ENDS_IN_ROWS { FEW_DRAWN } else { MOST_DRAWN });
+    let numbers: Vec<usize> = match given.last("--ends") {
+        Some(list) => list.split(',').map(|end| one_end(&drill, end)).collect::<Result<BTreeSet<_>, _>>()?.into_iter().collect(),
+        None => shown(&drill, &asked(given), most)?,
+    };
+    let progress = Progress::begin("drawing the page");
+    let answers = Answers::of(&drill);
+    let mut ways = Vec::new();
+    for number in numbers {
+        let mut layout = way(&drill, &answers, number, MOST_ROWS)?;
+        layout.keep_bars(&page::parts(layout.states.len()).0);
+        ways.push((number, layout));
+    }
+    let text = page::page(&drill, &answers, &ways);
+    drop(progress);
+    write(file, &text)?;
+    if file != "-" {
+        let ends = words::count_or_no(drill.ends().len(), "end");
+        print(&format!("{file}: {ends}, {} bytes; open it in a browser, or print it on A4\n", grouped(text.len())))?;
+    }
+    Ok(())
+}
+
+/// Writes a file, or standard output for `-`.
+fn write(file: &str, text: &str) -> Result<(), Failure> {
+    if file == "-" {
+        return print(text);
+    }
+    std::fs::write(file, text).map_err(|error| Failure::Failed(format!("{file} cannot be written: {error}")))
+}
+
+/// The way to an end, held against the library's path and laid out.
+fn way(drill: &Drill, answers: &Answers<'_>, number: usize, most: usize) -> Result<Layout, Failure> {
+    let end = drill.ends()[number - 1];
+    let way = drill.rehearsal.way_to(end)?.ok_or_else(|| Failure::Internal(format!("end {number} has no answer record")))?;
+    let by_valve = ByValve::of(drill.fluents().len(), &way.states)
+        .map_err(|refusal| Failure::Internal(format!("the states of end {number} are not stored: {refusal}")))?;
+    Ok(Layout::of(answers, way, by_valve, number, most))
+}

@@ -1,0 +1,184 @@
+//! What the program prints, held to stored outputs: every refusal, and the example sheets.
+
+mod common;
+
+use common::{folder, here, name, run, scratch, sheets, stored, told};
+
+/// Every refusal of a sheet and of its run is told in words on standard error, with exit status 1.
+#[test]
+fn refusals() {
+    let mut numbers = std::collections::BTreeSet::new();
+    for sheet in sheets(&here().join("tests/refused")) {
+        let (status, out, err) = told(&["check".as_ref(), sheet.as_os_str()]);
+        assert_eq!((status, out.as_str()), (1, ""), "{}", sheet.display());
+        let number = name(&sheet).split('_').next().unwrap().to_string();
+        assert!(err.starts_with(&format!("refused {number}: ")), "{}: {err}", sheet.display());
+        stored(&sheet.with_extension("told"), &err);
+        numbers.insert(number);
+    }
+    assert_eq!(numbers.into_iter().collect::<Vec<_>>(), ["11", "12", "13", "14", "15", "16", "17", "18", "30"]);
+}
+
+#[test]
+fn a_sheet_that_is_too_long() {
+    let file = scratch("too_long").join("10_long.sheet");
+    std::fs::write(&file, "fluent\topen\n".repeat(6_000)).unwrap();
+    let (status, out, err) = told(&["ends".as_ref(), file.as_os_str()]);
+    assert_eq!((status, out.as_str()), (1, ""));
+    assert!(err.starts_with("refused 10: the sheet has 72,000 bytes\n"), "{err}");
+}
+
+/// Every command refuses a refused sheet with the same words.
+#[test]
+fn every_command_refuses() {
+    let sheet = here().join("tests/refused/16_typo.sheet");
+    let page = scratch("refused").join("refused.html");
+    for command in ["ends", "path", "check"] {
+        let (status, out, err) = told(&[command.as_ref(), sheet.as_os_str()]);
+        assert_eq!((status, out.as_str()), (1, ""));
+        assert!(err.contains("did you mean `?open`?"), "{err}");
+    }
+    let (status, out, err) = told(&["page".as_ref(), sheet.as_os_str(), "-o".as_ref(), page.as_os_str()]);
+    assert_eq!((status, out.as_str()), (1, ""));
+    assert!(err.contains("did you mean `?open`?") && err.contains("refused.html shows this to the class"), "{err}");
+    let drawn = std::fs::read_to_string(page).unwrap();
+    assert!(drawn.contains("Refused, no. 16, line 6: no fluent <code>opne</code>"));
+    assert!(!drawn.contains("<script"));
+}
+
+/// Document 01's format: what the program `ends` prints, wherever its smaller rooms do.
+#[test]
+fn ends_as_the_program_ends_prints_them() {
+    let mut same = 0;
+    for sheet in sheets(&folder("sheets")).into_iter().chain(sheets(&folder("sheets/drills"))) {
+        let kept = std::fs::read_to_string(sheet.with_extension("ends")).unwrap();
+        let (status, out, err) = told(&["ends".as_ref(), sheet.as_os_str()]);
+        if let Some(refused) = kept.strip_prefix("refused\t") {
+            let number = refused.split('\t').next().unwrap();
+            let larger = number == "30" && status == 0;
+            assert!(larger || err.starts_with(&format!("refused {number}: ")), "{}: {err}", sheet.display());
+            continue;
+        }
+        assert_eq!((status, out), (0, kept), "{}", sheet.display());
+        same += 1;
+    }
+    assert!(same >= 12);
+}
+
+#[test]
+fn sheets_checked_and_ways_printed() {
+    for sheet in sheets(&folder("sheets")).into_iter().chain(sheets(&here().join("tests/sheets"))) {
+        let keep = |what: &str| here().join("tests/stored").join(format!("{}.{what}", name(&sheet)));
+        let (status, out, err) = told(&["check".as_ref(), sheet.as_os_str()]);
+        assert_eq!((status, err.as_str()), (0, ""), "{}", sheet.display());
+        stored(&keep("check"), &out);
+        let (status, out, err) = told(&["path".as_ref(), sheet.as_os_str(), "--most".as_ref(), "6".as_ref()]);
+        assert_eq!(status, 0, "{}", sheet.display());
+        stored(&keep("path"), &format!("{out}{err}"));
+    }
+}
+
+#[test]
+fn ends_as_json() {
+    let (status, out, _) = told(&["ends".as_ref(), folder("sheets/low_water.sheet").as_os_str(), "--json".as_ref()]);
+    assert_eq!(status, 0);
+    stored(&here().join("tests/stored/low_water.json"), &out);
+}
+
+#[test]
+fn many_ends() {
+    let boilers = here().join("tests/sheets/four_boilers.sheet");
+    let (_, out, _) = told(&["ends".as_ref(), boilers.as_os_str()]);
+    assert!(out.starts_with("ends\t256\t"), "{out}");
+    assert_eq!(out.lines().count(), 257);
+    let switches = here().join("tests/sheets/switches_14.sheet");
+    let (status, out, _) = told(&["ends".as_ref(), switches.as_os_str()]);
+    assert!(status == 0 && out.starts_with("ends\t16384\t2\t32768\n") && out.lines().count() == 16_385);
+    let asked = ["--with", "switch_1", "--without", "switch_2"];
+    let (status, out, err) = told(&[&["ends", switches.to_str().unwrap()], &asked[..]].concat());
+    assert_eq!((status, out.lines().count()), (0, 4_097));
+    assert_eq!(err, "lawhemuri: with switch_1, without switch_2: 4,096 of 16,384 ends\n");
+    let (_, _, err) = told(&["path".as_ref(), switches.as_os_str()]);
+    assert_eq!(err, "lawhemuri: ways to 16 of 16,384 ends: 16,368 left out (--most N shows more)\n");
+}
+
+#[test]
+fn one_end_by_number_or_by_names() {
+    let sheet = folder("sheets/low_water.sheet");
+    let path = |end: &str| told(&["path".as_ref(), sheet.as_os_str(), end.as_ref()]);
+    let third = path("3");
+    assert!(third.0 == 0 && third.1.starts_with("low_water, end 3: the only end with pilot_valve\n"));
+    assert_eq!(path("pilot_valve"), third);
+    assert_eq!(path("locked_out,pilot_flame"), third);
+    let wrong = |end: &str, said: &str| assert_eq!(path(end), (2, String::new(), format!("lawhemuri: {said}\n")));
+    wrong("7", "no end 7: low_water has ends 1 to 3");
+    wrong("0", "no end 0: low_water has ends 1 to 3");
+    wrong("locked_out", "2 ends with locked_out: 2, 3");
+    wrong("firing", "no end with firing: low_water has ends 1 to 3");
+    wrong("pilot_vlave", "low_water.sheet has no fluent `pilot_vlave`; did you mean `pilot_valve`?");
+}
+
+#[test]
+fn wrong_use_and_files_that_cannot_be_read() {
+    let sheet = folder("sheets/low_water.sheet");
+    let sheet = sheet.to_str().unwrap();
+    let missing = folder("sheets/low_watre.sheet");
+    let missing = missing.to_str().unwrap();
+    let cases: [(&[&str], i32, &str); 12] = [
+        (&[], 2, "a command is missing"),
+        (&["end", sheet], 2, "no command `end`; did you mean `ends`?"),
+        (&["ends"], 2, "ends needs a sheet"),
+        (&["ends", sheet, sheet], 2, "one word too many"),
+        (&["ends", sheet, "--wiht", "x"], 2, "ends has no option `--wiht`; did you mean `--with`?"),
+        (&["ends", sheet, "--with"], 2, "--with needs NAME after it"),
+        (&["ends", sheet, "--with", "pilot_vlave"], 2, "did you mean `pilot_valve`?"),
+        (&["path", sheet, "--most", "none"], 2, "--most takes a number from 1 on, and not `none`"),
+        (&["path", sheet, "3", "--with", "purged"], 2, "and not both"),
+        (&["ends", missing], 1, "low_water.sheet?"),
+        (&["ends", env!("CARGO_MANIFEST_DIR")], 1, "cannot be read"),
+        (&["page", sheet, "-o", "/no/such/folder/page.html"], 1, "cannot be written"),
+    ];
+    for (words, status, said) in cases {
+        let (code, out, err) = told(words);
+        assert_eq!((code, out.as_str()), (status, ""), "{words:?}");
+        assert!(err.starts_with("lawhemuri: ") && err.contains(said), "{words:?}: {err}");
+    }
+}
+
+#[test]
+fn help_and_version_on_each_command() {
+    for words in [&["--help"][..], &["ends", "--help"], &["check", "--help"], &["path", "x", "--help"], &["page", "--help"]] {
+        let (status, out, err) = told(words);
+        assert!(status == 0 && out.starts_with("lawhemuri") && err.is_empty(), "{words:?}");
+    }
+    let (_, version, _) = told(&["--version"]);
+    let number = env!("CARGO_PKG_VERSION");
+    assert_eq!(version, format!("lawhemuri {number} (library {number})\n"));
+    let header = std::fs::read_to_string(folder("include/lawhemuri.h")).unwrap();
+    assert!(header.contains(&format!("#define LAWHEMURI_VERSION \"{number}\"\n")));
+    for command in ["ends", "check", "path", "page"] {
+        assert_eq!(told(&[command, "--version"]), (0, version.clone(), String::new()));
+        assert!(told(&["--help"]).1.contains(&format!("lawhemuri {command} SHEET")));
+    }
+}
+
+/// The page is a function of the sheet and the library: the same from another folder and at another time.
+#[test]
+fn the_page_is_the_same_from_everywhere() {
+    let folder_of_copy = scratch("elsewhere");
+    let (sheet, copy) = (folder("sheets/low_water.sheet"), folder_of_copy.join("low_water.sheet"));
+    std::fs::copy(&sheet, &copy).unwrap();
+    let page = |sheet: &std::path::Path| run(&["page".as_ref(), sheet.as_os_str(), "-o".as_ref(), "-".as_ref()]).stdout;
+    let drawn = page(&sheet);
+    assert_eq!(drawn, page(&copy));
+    let text = String::from_utf8(drawn).unwrap();
+    assert!(!text.contains("://") && !text.contains(env!("CARGO_MANIFEST_DIR")));
+}
+
+/// A sheet in the folder that LAWHEMURI_SHEETS names is found by its name.
+#[test]
+fn sheets_by_name() {
+    let mut command = std::process::Command::new(env!("CARGO_BIN_EXE_lawhemuri"));
+    let output = command.args(["ends", "example"]).env("LAWHEMURI_SHEETS", folder("sheets")).output().unwrap();
+    assert_eq!(output.stdout, b"ends\t1\t3\t3\nend\t2\tlit\n");
+}
