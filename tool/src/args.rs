@@ -11,7 +11,7 @@ struct Flag {
     says: &'static str,
 }
 
-/// A command. A further one (`archive`, say) is a row of `COMMANDS` and an arm in `main`.
+/// A command. A further one is a row of `COMMANDS` and an arm in `main`.
 struct Usage {
     name: &'static str,
     operands: &'static str,
@@ -23,7 +23,7 @@ struct Usage {
 const WITH: Flag = Flag { name: "--with", takes: Some("NAME"), says: "only ends in which NAME holds (may be given again)" };
 const WITHOUT: Flag = Flag { name: "--without", takes: Some("NAME"), says: "only ends in which it does not" };
 
-const COMMANDS: [Usage; 4] = [
+const COMMANDS: [Usage; 6] = [
     Usage {
         name: "ends",
         operands: "SHEET",
@@ -70,6 +70,20 @@ const COMMANDS: [Usage; 4] = [
             WITH,
             WITHOUT,
         ],
+    },
+    Usage {
+        name: "write",
+        operands: "SHEET",
+        most_operands: 1,
+        says: "the sheet as its one fixed text: no comments, plain line ends, start in the order of the fluents",
+        flags: &[Flag { name: "-o", takes: Some("FILE"), says: "where to write it (standard output unless said)" }],
+    },
+    Usage {
+        name: "archive",
+        operands: "SHEET [END]",
+        most_operands: 2,
+        says: "the states on the way to an end, kept by valve: for each 64 states one word per fluent",
+        flags: &[],
     },
 ];
 
@@ -126,7 +140,7 @@ pub fn version() -> String {
 pub fn help() -> String {
     let mut out = String::from("lawhemuri: how a written procedure can end, and how each end is come to\n\n");
     for usage in &COMMANDS {
-        out += &format!("  {:<28} {}\n", format!("lawhemuri {} {}", usage.name, usage.operands), usage.says);
+        out += &format!("  {:<30} {}\n", format!("lawhemuri {} {}", usage.name, usage.operands), usage.says);
     }
     out += "\n";
     GENERAL.iter().for_each(|flag| out += &flag.line());

@@ -28,6 +28,7 @@ use ask::{one_end, Ask};
 use choices::Answers;
 use drill::Drill;
 use failure::Failure;
+use lawhemuri::Way;
 use layout::{Layout, MOST_ROWS};
 use load::{Source, Undrilled};
 use progress::Progress;
@@ -56,6 +57,8 @@ fn run(given: &Given) -> Result<(), Failure> {
         "check" => print(&terminal::accepted(&drilled(&source)?)),
         "path" => path(given, &drilled(&source)?),
         "page" => page(given, &source),
+        "write" => written(given, &source),
+        "archive" => archive(given, &drilled(&source)?),
         command => Err(Failure::Internal(format!("no command `{command}`"))),
     }
 }
@@ -175,6 +178,36 @@ fn page(given: &Given, source: &Source) -> Result<(), Failure> {
     Ok(())
 }
 
+/// Writes the sheet's one fixed text; it is never longer than the sheet.
+fn written(given: &Given, source: &Source) -> Result<(), Failure> {
+    let mut text = vec![0; source.text.len()];
+    match lawhemuri::write(&source.text, &mut text) {
+        Ok(length) => write(given.last("-o").unwrap_or("-"), &String::from_utf8_lossy(&text[..length])),
+        Err(unread) => {
+            eprint!("{}", terminal::refusal(&refusal::told(&source.text, unread), &source.file, &source.text));
+            Err(Failure::Failed(String::new()))
+        }
+    }
+}
+
+/// Prints the states on the way to an end by valve, once the library has given the same states back.
+fn archive(given: &Given, drill: &Drill) -> Result<(), Failure> {
+    let number = match given.operands.get(1) {
+        Some(end) => one_end(drill, end)?,
+        None if drill.ends().len() == 1 => 1,
+        None => {
+            return Err(Failure::Use(format!("which end? {} has {}", drill.name, words::count_or_no(drill.ends().len(), "end"))))
+        }
+    };
+    let states = whole_way(drill, number)?.states;
+    let stored = |refusal| Failure::Internal(format!("the states of end {number} are not stored: {refusal}"));
+    let by_valve = ByValve::of(drill.fluents().len(), &states).map_err(stored)?;
+    if by_valve.states(states.len()).map_err(stored)? != states {
+        return Err(Failure::Internal(format!("the states of end {number} do not come back")));
+    }
+    print(&terminal::archive(drill, &by_valve, states.len()))
+}
+
 /// Writes a file, or standard output for `-`.
 fn write(file: &str, text: &str) -> Result<(), Failure> {
     if file == "-" {
@@ -185,9 +218,22 @@ fn write(file: &str, text: &str) -> Result<(), Failure> {
 
 /// The way to an end, held against the library's path and laid out.
 fn way(drill: &Drill, answers: &Answers<'_>, number: usize, most: usize) -> Result<Layout, Failure> {
-    let end = drill.ends()[number - 1];
-    let way = drill.rehearsal.way_to(end)?.ok_or_else(|| Failure::Internal(format!("end {number} has no answer record")))?;
+    let way = way_to(drill, number)?;
     let by_valve = ByValve::of(drill.fluents().len(), &way.states)
         .map_err(|refusal| Failure::Internal(format!("the states of end {number} are not stored: {refusal}")))?;
     Ok(Layout::of(answers, way, by_valve, number, most))
+}
+
+fn way_to(drill: &Drill, number: usize) -> Result<Way, Failure> {
+    let end = drill.ends()[number - 1];
+    drill.rehearsal.way_to(end)?.ok_or_else(|| Failure::Internal(format!("end {number} has no answer record")))
+}
+
+/// The way to an end, if it is not so long that only a part of it is unfolded.
+fn whole_way(drill: &Drill, number: usize) -> Result<Way, Failure> {
+    let way = way_to(drill, number)?;
+    if way.whole {
+        return Ok(way);
+    }
+    Err(Failure::Failed(format!("the way to end {number} is too long to be kept")))
 }

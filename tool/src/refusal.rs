@@ -88,11 +88,12 @@ fn too_long(text: &[u8]) -> Told {
 }
 
 /// Where the first byte stands that the sheet may not have, as the library judges: the shortest beginning of the sheet that it refuses
-/// for a byte, each with a line feed added.
+/// for a byte. None is cut between CR and LF, where the CR alone would be refused.
 fn first_bad_byte(text: &[u8]) -> usize {
     let refused = |length: usize| {
-        let beginning = [&text[..length], b"\n"].concat();
-        matches!(read(&beginning, &mut [0; MOST_RULE_WORDS]), Err(Unread { refusal: Refusal::BadByte, .. }))
+        let cut = text[length - 1] == b'\r' && text.get(length) == Some(&b'\n');
+        let beginning = &text[..length + usize::from(cut)];
+        matches!(read(beginning, &mut [0; MOST_RULE_WORDS]), Err(Unread { refusal: Refusal::BadByte, .. }))
     };
     let (mut good, mut bad) = (0, text.len());
     while bad - good > 1 {
@@ -115,9 +116,9 @@ fn bad_byte(text: &[u8]) -> Told {
     let column = String::from_utf8_lossy(&text[begin..at]).chars().count();
     let stands = format!("byte {byte}, at place {} of the sheet", grouped(at + 1));
     let told = match byte {
-        b' ' => Told::new("a space", stands, "part fields by one TAB; in a name write `_`"),
-        b'\r' if text.get(at + 1) == Some(&b'\n') => {
-            Told::new("a Windows line end (CR before LF)", stands, "save the sheet with plain line feeds (LF)")
+        b' ' => Told::new("a space", stands, "part fields by one TAB; in a name write `_`; a comment begins with # in front"),
+        b'\r' => {
+            Told::new("a carriage return (CR) that no line feed follows", stands, "end each line with LF, or with CR and LF")
         }
         128.. => {
             let shown =

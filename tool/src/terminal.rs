@@ -7,6 +7,7 @@ use crate::lines::{cropped, lines_of};
 use crate::notes::notes;
 use crate::refusal::Told;
 use crate::sha256::digest;
+use crate::valve::ByValve;
 use crate::words::{count, count_or_no, grouped, wrapped};
 
 /// Characters of a list's line.
@@ -50,6 +51,18 @@ pub fn ends_json(drill: &Drill, numbers: &[usize]) -> String {
         drill.start(),
         if list.is_empty() { String::new() } else { format!("\n{}\n  ", list.join(",\n")) }
     )
+}
+
+/// States kept by valve: how many there are, the fluents, then for each block of 64 states its words, bit i of a fluent's word for
+/// state i of the block.
+pub fn archive(drill: &Drill, by_valve: &ByValve, states: usize) -> String {
+    let names: String = drill.fluents().iter().map(|name| format!("\t{name}")).collect();
+    let mut out = format!("states\t{states}\nfluents{names}\n");
+    for block in by_valve.blocks() {
+        let words: String = block.iter().map(|word| format!("\t{word}")).collect();
+        out += &format!("words{words}\n");
+    }
+    out
 }
 
 /// A refusal like a good compiler's: number, what, where, the line with a mark under the place, what to do.

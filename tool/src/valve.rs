@@ -1,7 +1,7 @@
 //! Paths by valve, as the library stores them: for each block of 64 states one word per fluent, bit i set exactly if it holds in
 //! state i of the block.
 
-use lawhemuri::{store, Refusal};
+use lawhemuri::{restore, store, Refusal};
 
 /// States in one block.
 const BLOCK: usize = 64;
@@ -18,6 +18,18 @@ impl ByValve {
         let mut words = vec![0; states.len().div_ceil(BLOCK) * fluents];
         store(fluents as u64, states, &mut words)?;
         Ok(ByValve { fluents, words })
+    }
+
+    /// The words of each block, in the order of the fluents.
+    pub fn blocks(&self) -> impl Iterator<Item = &[u64]> {
+        self.words.chunks(self.fluents.max(1))
+    }
+
+    /// So many states, as the library gives them back.
+    pub fn states(&self, count: usize) -> Result<Vec<u64>, Refusal> {
+        let mut states = vec![0; count];
+        restore(self.fluents as u64, count as u64, &self.words, &mut states)?;
+        Ok(states)
     }
 
     /// Whether a fluent holds in a state.
@@ -50,6 +62,8 @@ mod tests {
         for (i, state) in states.iter().enumerate() {
             assert!((0..5).all(|k| by_valve.holds(k, i) == (state >> k & 1 == 1)), "state {i}");
         }
+        assert_eq!(by_valve.states(200), Ok(states.clone()));
+        assert_eq!(by_valve.states(300), Err(Refusal::BadWordCount));
         assert_eq!(ByValve::of(4, &states).err(), Some(Refusal::BadStart));
     }
 

@@ -33,7 +33,7 @@ fn a_sheet_that_is_too_long() {
 fn every_command_refuses() {
     let sheet = here().join("tests/refused/16_typo.sheet");
     let page = scratch("refused").join("refused.html");
-    for command in ["ends", "path", "check"] {
+    for command in ["ends", "path", "check", "write", "archive"] {
         let (status, out, err) = told(&[command.as_ref(), sheet.as_os_str()]);
         assert_eq!((status, out.as_str()), (1, ""));
         assert!(err.contains("did you mean `?open`?"), "{err}");
@@ -156,10 +156,46 @@ fn help_and_version_on_each_command() {
     assert_eq!(version, format!("lawhemuri {number} (library {number})\n"));
     let header = std::fs::read_to_string(folder("include/lawhemuri.h")).unwrap();
     assert!(header.contains(&format!("#define LAWHEMURI_VERSION \"{number}\"\n")));
-    for command in ["ends", "check", "path", "page"] {
+    for command in ["ends", "check", "path", "page", "write", "archive"] {
         assert_eq!(told(&[command, "--version"]), (0, version.clone(), String::new()));
         assert!(told(&["--help"]).1.contains(&format!("lawhemuri {command} SHEET")));
     }
+}
+
+/// A sheet with comments and CR LF: its lines are told as they stand, and it is written as its one fixed text.
+#[test]
+fn a_dressed_sheet() {
+    let plain = std::fs::read_to_string(folder("sheets/low_water.sheet")).unwrap();
+    let folder_of_copy = scratch("dressed");
+    let (dressed, copy) = (folder_of_copy.join("low_water.sheet"), folder_of_copy.join("plain.sheet"));
+    std::fs::write(&dressed, format!("# the late shift\r\n#\n{}# end\n", plain.replace('\n', "\r\n"))).unwrap();
+    let way = |sheet: &std::path::Path| told(&["path".as_ref(), sheet.as_os_str(), "3".as_ref()]).1;
+    let original = way(&folder("sheets/low_water.sheet"));
+    let line_of = |text: &str| plain.lines().position(|line| line == text).unwrap() + 1;
+    let rule = line_of("rule\ttrip\t?level_dry\t!shut_main\t+dry_trip\t+locked_out");
+    assert!(original.contains(&rule.to_string()) && way(&dressed).contains(&(rule + 2).to_string()));
+    assert_ne!(way(&dressed), original);
+    let out = told(&["write".as_ref(), dressed.as_os_str()]);
+    assert_eq!(out, told(&["write".as_ref(), folder("sheets/low_water.sheet").as_os_str()]));
+    assert_eq!((out.0, out.2.as_str()), (0, ""));
+    assert!(!out.1.contains('#') && !out.1.contains('\r'));
+    let words = ["write".as_ref(), dressed.as_os_str(), "-o".as_ref(), copy.as_os_str()];
+    assert_eq!(told(&words), (0, String::new(), String::new()));
+    assert_eq!(std::fs::read_to_string(&copy).unwrap(), out.1);
+    assert_eq!(told(&["write".as_ref(), copy.as_os_str()]).1, out.1);
+}
+
+/// The states on a way by valve: bit i of a fluent's word for state i.
+#[test]
+fn states_kept_by_valve() {
+    let keystrokes = here().join("tests/sheets/keystrokes.sheet");
+    let example = told(&["archive".as_ref(), folder("sheets/example.sheet").as_os_str()]);
+    assert_eq!(example, (0, "states\t4\nfluents\topen\tlit\nwords\t6\t12\n".into(), String::new()));
+    let (status, out, _) = told(&["archive".as_ref(), keystrokes.as_os_str(), "1".as_ref()]);
+    assert_eq!(status, 0);
+    stored(&here().join("tests/stored/keystrokes.archive"), &out);
+    let (status, out, err) = told(&["archive".as_ref(), folder("sheets/low_water.sheet").as_os_str()]);
+    assert_eq!((status, out.as_str(), err.as_str()), (2, "", "lawhemuri: which end? low_water has 3 ends\n"));
 }
 
 /// The page is a function of the sheet and the library: the same from another folder and at another time.
