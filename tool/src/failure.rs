@@ -40,7 +40,7 @@ impl From<Trouble> for Failure {
     fn from(trouble: Trouble) -> Failure {
         match trouble {
             Trouble::Difference(difference) => {
-                Failure::Internal(format!("the steps do not give the states that the library lists: {difference}"))
+                Failure::Internal(format!("the steps do not give what the library's tables and path say: {difference}"))
             }
             Trouble::Thread(error) => Failure::Failed(format!("no thread could be started: {error}")),
             other => Failure::Internal(other.to_string()),

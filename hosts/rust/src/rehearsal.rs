@@ -3,7 +3,7 @@
 use std::collections::HashMap;
 use std::{fmt, io, panic, thread};
 
-use crate::unfolding::{hold, replay, unfold, Answer, Difference, Event, Kind, Step, Tables};
+use crate::unfolding::{hold, hold_structure, replay, unfold, Answer, Difference, Event, Kind, Step, Tables};
 use crate::{evaluate, fluent_name, path, read, Buffers, Question, Records, Refusal, Run, Sheet, Unread};
 use crate::{ANSWER_WORDS, CALL_WORDS, GOAL_ACTION, MOST_RULE_WORDS};
 
@@ -32,7 +32,7 @@ pub enum Trouble {
     Refused(Refusal),
     /// No thread with the stack needed could be started.
     Thread(io::Error),
-    /// The steps unfolded are not those of the library's path.
+    /// The steps unfolded are not those of the library's tables and path.
     Difference(Difference),
 }
 
@@ -178,11 +178,12 @@ impl Rehearsal {
         }
     }
 
-    /// The execution that an answer record unfolds to, held against the library's path; of one that is too long, a part.
+    /// The execution that an answer record unfolds to, held against the library's tables and path; of one that is too long, a part.
     pub fn way(&self, record: usize) -> Result<Way, Trouble> {
         let part = self.part(record);
         let tables = self.tables();
         let events = unfold(&tables, part);
+        hold_structure(&tables, part, &events)?;
         let replayed = replay(tables.call(tables.answer(part).call).1, &events)?;
         // One place more than the steps need: a longer path is then seen to be longer.
         let Some(states) = self.path(part, replayed.len() + 1)? else {

@@ -1,6 +1,7 @@
 //! The execution that an answer's evidence unfolds to, step by step, and its comparison with the states that the library lists.
 //!
-//! The library judges: what is unfolded here is shown only if, replayed, it gives exactly the states of [`crate::path`].
+//! The library judges: what is unfolded here is shown only if, replayed, it gives exactly the states of [`crate::path`], and if
+//! each event stands where the library's tables have it.
 
 use std::fmt;
 
@@ -204,6 +205,44 @@ pub enum Difference {
     Count { replayed: usize, listed: Option<usize> },
     /// A way from another state than asked for, or to another one.
     Ends { asked: (u64, u64), replayed: (u64, u64) },
+    /// An event, counted from 0, that the library's tables do not have there.
+    Structure { event: usize, wrong: Wrong },
+}
+
+/// What in an event is not as the library's tables have it.
+#[derive(Clone, Copy, Debug, PartialEq, Eq)]
+pub enum Wrong {
+    /// A step, a call or an end of an action where the bodies have something else, or nothing more, or more.
+    Order,
+    /// Another depth than the number of actions begun and not finished.
+    Depth,
+    /// Another place than the next one of the body.
+    Place,
+    /// Another step word than stands there.
+    Word,
+    /// Another rule than the answer's.
+    Rule,
+    /// Another action than the call record's.
+    Action,
+    /// Another state than the call record or the answer has.
+    State,
+    /// A record that is not there.
+    Record,
+}
+
+impl fmt::Display for Wrong {
+    fn fmt(&self, f: &mut fmt::Formatter<'_>) -> fmt::Result {
+        f.write_str(match self {
+            Wrong::Order => "is not what comes next in the rules used",
+            Wrong::Depth => "has a wrong depth",
+            Wrong::Place => "has a wrong place in its rule",
+            Wrong::Word => "has another step than its rule has there",
+            Wrong::Rule => "has a wrong rule",
+            Wrong::Action => "has a wrong action",
+            Wrong::State => "has a wrong state",
+            Wrong::Record => "needs a record that is not there",
+        })
+    }
 }
 
 impl fmt::Display for Difference {
@@ -233,6 +272,9 @@ impl fmt::Display for Difference {
                     "the steps lead from {} to {}, asked for was the way from {} to {}",
                     replayed.0, replayed.1, asked.0, asked.1
                 )
+            }
+            Difference::Structure { event, wrong } => {
+                write!(f, "event {event} of the steps {wrong}, by the library's tables")
             }
         }
     }
@@ -279,6 +321,135 @@ pub fn hold(replayed: &[u64], listed: &[u64]) -> Result<(), Difference> {
     Ok(())
 }
 
+/// An answer on the way of [`hold_structure`], read from the tables anew and apart from [`Frame`]: a fault there is seen here.
+struct Level<'a> {
+    action: u64,
+    rule: u64,
+    /// The states of the call and of the answer.
+    ends: (u64, u64),
+    body: &'a [u16],
+    evidence: &'a [u64],
+    /// The place of the body that comes next.
+    next: usize,
+}
+
+/// A record of so many words, if it is there.
+fn nth<T>(words: &[T], size: usize, record: u64) -> Option<&[T]> {
+    words.chunks_exact(size).nth(usize::try_from(record).ok()?)
+}
+
+impl<'a> Level<'a> {
+    fn of(tables: &Tables<'a>, record: u64) -> Option<Level<'a>> {
+        let &[call, end, rule, ref evidence @ ..] = nth(tables.answers, ANSWER_WORDS, record)? else { return None };
+        let &[action, start] = nth(tables.calls, CALL_WORDS, call)? else { return None };
+        let body = if rule == GOAL_RULE {
+            tables.goal
+        } else {
+            let &[_, length, ref steps @ ..] = nth(tables.rules, RULE_WORDS, rule)? else { return None };
+            steps.get(..usize::from(length))?
+        };
+        Some(Level { action, rule, ends: (start, end), body, evidence, next: 0 })
+    }
+
+    /// The step that comes next.
+    fn step(&self) -> Result<(u16, Step), Wrong> {
+        let word = *self.body.get(self.next).ok_or(Wrong::Order)?;
+        Ok((word, Step::of(word)))
+    }
+}
+
+/// The walk of [`hold_structure`]: the answers begun and not finished, and the state come to.
+struct Walk<'a> {
+    tables: Tables<'a>,
+    levels: Vec<Level<'a>>,
+    now: u64,
+}
+
+/// Two values that must be the same.
+fn same<T: PartialEq>(told: T, held: T, wrong: Wrong) -> Result<(), Wrong> {
+    if told == held {
+        Ok(())
+    } else {
+        Err(wrong)
+    }
+}
+
+impl Walk<'_> {
+    /// Begins an answer: the first event, or what stands next in the body of the level above.
+    fn begin(&mut self, record: u64, held_place: usize, event: &Event) -> Result<(), Wrong> {
+        let Event::Call { depth, action, rule, place, state, .. } = *event else { return Err(Wrong::Order) };
+        let level = Level::of(&self.tables, record).ok_or(Wrong::Record)?;
+        same(depth, self.levels.len(), Wrong::Depth)?;
+        same(place, held_place, Wrong::Place)?;
+        same(action, level.action, Wrong::Action)?;
+        same(rule, level.rule, Wrong::Rule)?;
+        same(state, level.ends.0, Wrong::State)?;
+        self.levels.push(level);
+        Ok(())
+    }
+
+    /// A call: the evidence at its place is the answer begun.
+    fn call(&mut self, event: &Event) -> Result<(), Wrong> {
+        let level = self.levels.last_mut().ok_or(Wrong::Order)?;
+        let (_, step) = level.step()?;
+        same(step.kind, Kind::Call, Wrong::Order)?;
+        let (place, now) = (level.next, self.now);
+        let record = *level.evidence.get(place).ok_or(Wrong::Record)?;
+        level.next += 1;
+        self.begin(record, place, event)?;
+        let begun = self.levels.last().ok_or(Wrong::Order)?;
+        same(begun.action, step.index as u64, Wrong::Action)?;
+        same(begun.ends.0, now, Wrong::State)
+    }
+
+    /// An elementary step of the body.
+    fn step(&mut self, event: &Event) -> Result<(), Wrong> {
+        let Event::Step { depth, action, rule, place, word, state, .. } = *event else { return Err(Wrong::Order) };
+        let height = self.levels.len();
+        let level = self.levels.last_mut().ok_or(Wrong::Order)?;
+        let (held, step) = level.step()?;
+        same(step.kind == Kind::Call, false, Wrong::Order)?;
+        same(depth, height - 1, Wrong::Depth)?;
+        same(place, level.next, Wrong::Place)?;
+        same(word, held, Wrong::Word)?;
+        same(rule, level.rule, Wrong::Rule)?;
+        same(action, level.action, Wrong::Action)?;
+        same(state, self.now, Wrong::State)?;
+        level.next += 1;
+        self.now = step.after(state).ok_or(Wrong::State)?;
+        Ok(())
+    }
+
+    /// The end of an action: its body is gone through and its answer's state come to.
+    fn back(&mut self, told: usize) -> Result<(), Wrong> {
+        let level = self.levels.pop().ok_or(Wrong::Order)?;
+        same(level.next, level.body.len(), Wrong::Order)?;
+        same(told, self.levels.len(), Wrong::Depth)?;
+        same(self.now, level.ends.1, Wrong::State)
+    }
+}
+
+/// Holds each event of an answer record against the tables: that it comes next, with its depth, place, word, rule, action and state.
+pub fn hold_structure(tables: &Tables<'_>, record: usize, events: &[Event]) -> Result<(), Difference> {
+    let mut walk = Walk { tables: *tables, levels: Vec::new(), now: 0 };
+    for (event, told) in events.iter().enumerate() {
+        let held = match *told {
+            Event::Call { state, .. } if event == 0 => {
+                walk.now = state;
+                walk.begin(record as u64, 0, told)
+            }
+            Event::Call { .. } => walk.call(told),
+            Event::Step { .. } => walk.step(told),
+            Event::Back { depth, .. } => walk.back(depth),
+        };
+        held.map_err(|wrong| Difference::Structure { event, wrong })?;
+    }
+    if events.is_empty() || !walk.levels.is_empty() {
+        return Err(Difference::Structure { event: events.len(), wrong: Wrong::Order });
+    }
+    Ok(())
+}
+
 #[cfg(test)]
 mod tests {
     use super::*;
@@ -306,6 +477,23 @@ mod tests {
         unfold(&Tables { rules: &RULES, goal: &[769], calls: &CALLS, answers: &answers }, 2)
     }
 
+    /// What the structure of the events is told to have wrong.
+    fn structure(events: &[Event]) -> Result<(), Difference> {
+        let answers = answers();
+        hold_structure(&Tables { rules: &RULES, goal: &[769], calls: &CALLS, answers: &answers }, 2, events)
+    }
+
+    /// The good events with one of them changed.
+    fn changed(event: usize, change: impl FnOnce(&mut Event)) -> Vec<Event> {
+        let mut events = events();
+        change(&mut events[event]);
+        events
+    }
+
+    fn wrong(event: usize, wrong: Wrong) -> Result<(), Difference> {
+        Err(Difference::Structure { event, wrong })
+    }
+
     #[test]
     fn sizes_count_the_events() {
         let answers = answers();
@@ -318,6 +506,7 @@ mod tests {
     fn replayed_steps_give_the_path() {
         let replayed = replay(0, &events()).unwrap();
         assert_eq!(hold(&replayed, &PATH), Ok(()));
+        assert_eq!(structure(&events()), Ok(()));
     }
 
     /// Each elementary step in turn is exchanged for each other step word of the two fluents: every change is told.
@@ -334,13 +523,15 @@ mod tests {
                 }
                 let told = replay(0, &events).and_then(|replayed| hold(&replayed, &PATH));
                 assert_eq!(told.is_ok(), word == old || harmless(old, word), "{old} exchanged for {word}");
+                assert_eq!(structure(&events).is_ok(), word == old, "{old} exchanged for {word}");
                 planted += usize::from(told.is_err());
             }
         }
         assert_eq!(planted, 27);
     }
 
-    /// The query of `open`, where `open` holds and `lit` does not, may be exchanged for `~lit`: the states are the same.
+    /// The query of `open`, where `open` holds and `lit` does not, may be exchanged for `~lit`: the states are the same, and the
+    /// structure alone tells it.
     fn harmless(old: u16, word: u16) -> bool {
         old == 0 && word == 1025
     }
@@ -353,7 +544,11 @@ mod tests {
             let mut lost = good.clone();
             lost.remove(place);
             let told = replay(0, &lost).and_then(|replayed| hold(&replayed, &PATH));
-            assert_eq!(told.is_err(), Step::of(word).is_update(), "step {place} lost");
+            assert_eq!(told.is_err(), Step::of(word).is_update(), "step {place} lost, by the states");
+            assert!(matches!(structure(&lost), Err(Difference::Structure { .. })), "step {place} lost");
+            let mut doubled = good.clone();
+            doubled.insert(place, good[place]);
+            assert!(matches!(structure(&doubled), Err(Difference::Structure { .. })), "step {place} doubled");
             let mut strayed = good.clone();
             if let Event::Step { state, .. } = &mut strayed[place] {
                 *state ^= 1;
@@ -365,6 +560,102 @@ mod tests {
             }
             assert!(matches!(replay(0, &misnumbered), Err(Difference::Misnumbered { .. })));
         }
+    }
+
+    /// Events 0 to 9: goal, light, purge, +open, back, ?open, +lit, -open, back, back. The query lost leaves the states alone.
+    #[test]
+    fn a_lost_query_is_told() {
+        let mut lost = events();
+        lost.remove(5);
+        assert!(replay(0, &lost).and_then(|replayed| hold(&replayed, &PATH)).is_ok());
+        assert_eq!(structure(&lost), wrong(5, Wrong::Place));
+    }
+
+    /// Every event of the three kinds lost, at the ends too, is told, and so is an event too many.
+    #[test]
+    fn every_lost_event_is_told() {
+        for event in 0..events().len() {
+            let mut lost = events();
+            lost.remove(event);
+            assert!(structure(&lost).is_err(), "event {event} lost");
+            let mut doubled = events();
+            doubled.insert(event, doubled[event]);
+            assert!(structure(&doubled).is_err(), "event {event} doubled");
+            assert_eq!(structure(&events()[..event]), wrong(event, Wrong::Order));
+        }
+        let mut lost = events();
+        lost.remove(4);
+        assert_eq!(structure(&lost), wrong(4, Wrong::Order), "the end of purge lost");
+    }
+
+    #[test]
+    fn a_wrong_rule_or_action_is_told() {
+        for event in [0, 1, 2, 3, 5, 6, 7] {
+            let other = changed(event, |e| {
+                let (Event::Call { rule, .. } | Event::Step { rule, .. }) = e else { unreachable!() };
+                *rule = rule.wrapping_sub(1);
+            });
+            assert_eq!(structure(&other), wrong(event, Wrong::Rule));
+            let other = changed(event, |e| {
+                let (Event::Call { action, .. } | Event::Step { action, .. }) = e else { unreachable!() };
+                *action ^= 1;
+            });
+            assert_eq!(structure(&other), wrong(event, Wrong::Action));
+        }
+    }
+
+    #[test]
+    fn a_wrong_depth_or_place_is_told() {
+        for event in 0..events().len() {
+            for told in [0, 1, 2, 3, usize::MAX] {
+                let mut good = false;
+                let other = changed(event, |e| {
+                    let (Event::Call { depth, .. } | Event::Step { depth, .. } | Event::Back { depth, .. }) = e;
+                    good = *depth == told;
+                    *depth = told;
+                });
+                assert_eq!(structure(&other), if good { Ok(()) } else { wrong(event, Wrong::Depth) });
+            }
+            let other = changed(event, |e| {
+                if let Event::Call { place, .. } | Event::Step { place, .. } = e {
+                    *place = usize::MAX;
+                }
+            });
+            let held = if matches!(other[event], Event::Back { .. }) { Ok(()) } else { wrong(event, Wrong::Place) };
+            assert_eq!(structure(&other), held);
+        }
+    }
+
+    /// The events of another record, and those of the right one with the call begun in another state.
+    #[test]
+    fn a_wrong_call_record_is_told() {
+        let answers = answers();
+        let tables = Tables { rules: &RULES, goal: &[769], calls: &CALLS, answers: &answers };
+        assert_eq!(hold_structure(&tables, 2, &unfold(&tables, 1)), wrong(0, Wrong::Action));
+        assert_eq!(hold_structure(&tables, 3, &events()), wrong(0, Wrong::Record));
+        assert_eq!(hold_structure(&tables, usize::MAX, &events()), wrong(0, Wrong::Record));
+        for event in 0..3 {
+            let other = changed(event, |e| {
+                let Event::Call { state, .. } = e else { unreachable!() };
+                *state ^= 2;
+            });
+            assert_eq!(structure(&other), wrong(event, Wrong::State));
+        }
+        let mut another = self::answers();
+        another[ANSWER_WORDS + 1] = 3;
+        let tables = Tables { answers: &another, ..tables };
+        assert_eq!(hold_structure(&tables, 2, &events()), wrong(8, Wrong::State), "the answer has another state");
+    }
+
+    /// No word that an event says is looked up: one of no kind is told too.
+    #[test]
+    fn a_word_of_no_kind_is_told() {
+        let other = changed(5, |e| {
+            let Event::Step { word, .. } = e else { unreachable!() };
+            *word = u16::MAX;
+        });
+        assert_eq!(structure(&other), wrong(5, Wrong::Word));
+        assert_eq!(structure(&[]), wrong(0, Wrong::Order));
     }
 
     #[test]

@@ -1,6 +1,6 @@
 //! The owning layer: rooms that grow, ends and names, and ways that are held against the library's path.
 
-use lawhemuri::unfolding::{Event, Kind, Step};
+use lawhemuri::unfolding::{hold_structure, Event, Kind, Step};
 use lawhemuri::{Refusal, Rehearsal, Run, Trouble, Unread, MOST_EVENTS};
 
 /// Sheets of the repository that are accepted.
@@ -128,4 +128,29 @@ fn random_sheets_have_ways_to_all_ends() {
         }
     }
     assert!(ways > 200 && idle > 200, "{ways} ways with {idle} updates without effect");
+}
+
+/// Each event of each way in turn is left out, and put one level deeper: both are told, whatever they do to the states.
+#[test]
+fn events_lost_or_in_another_depth_are_told() {
+    let (mut numbers, mut planted) = (Numbers(23), 0);
+    for _ in 0..100 {
+        let rehearsal = Rehearsal::new(random_sheet(&mut numbers)).unwrap();
+        for &end in rehearsal.ends() {
+            let way = rehearsal.way_to(end).unwrap().unwrap();
+            let held = |events: &[Event]| hold_structure(&rehearsal.tables(), way.record, events);
+            assert_eq!(held(&way.events), Ok(()));
+            for event in 0..way.events.len() {
+                let mut lost = way.events.clone();
+                lost.remove(event);
+                assert!(held(&lost).is_err(), "event {event} lost");
+                let mut deeper = way.events.clone();
+                let (Event::Call { depth, .. } | Event::Step { depth, .. } | Event::Back { depth, .. }) = &mut deeper[event];
+                *depth += 1;
+                assert!(held(&deeper).is_err(), "event {event} deeper");
+                planted += 2;
+            }
+        }
+    }
+    assert!(planted > 1000, "{planted} faults");
 }
