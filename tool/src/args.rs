@@ -144,7 +144,8 @@ pub fn help() -> String {
     }
     out += "\n";
     GENERAL.iter().for_each(|flag| out += &flag.line());
-    out + "\nSHEET is a file, - for standard input, or the name of a sheet in the folder that LAWHEMURI_SHEETS names.\n\
+    out + "\nSHEET is a file, - for standard input, or the name of a sheet in the folder that LAWHEMURI_SHEETS names;\n\
+           where it is not set, of a sheet that is installed with the program.\n\
            END is the number of an end, or names that hold in it: 3, or pilot_valve, or pilot_valve,locked_out.\n\
            Results go to standard output; refusals, errors and progress to standard error.\n\
            Exit status: 0 a result (also where there is no end), 1 refused or failed, 2 wrong use, 3 an internal error.\n"

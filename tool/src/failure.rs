@@ -1,5 +1,7 @@
 //! What ends a command without its result, and the exit status that says so.
 
+use std::io::{self, Write};
+use std::panic::{self, UnwindSafe};
 use std::process::ExitCode;
 
 use lawhemuri::Trouble;
@@ -13,6 +15,21 @@ pub enum Failure {
     Use(String),
     /// What was drawn differs from what the library says: a fault of this program.
     Internal(String),
+}
+
+/// Says something on standard error. Where that is closed or full nobody can be told, and the work goes on.
+pub fn say(text: &str) {
+    let _ = io::stderr().write_all(text.as_bytes());
+}
+
+/// Panics are told with their words and their place, without a backtrace.
+pub fn tell_panics() {
+    panic::set_hook(Box::new(|info| say(&format!("lawhemuri: {info}\n"))));
+}
+
+/// Does the work; a panic in it is an internal error.
+pub fn guarded(work: impl FnOnce() -> Result<(), Failure> + UnwindSafe) -> Result<(), Failure> {
+    panic::catch_unwind(work).unwrap_or_else(|_| Err(Failure::Internal("the work broke off".into())))
 }
 
 const NOT_DRAWN: &str = "Nothing was drawn. This is a fault of lawhemuri and not of the sheet: please report it.";
@@ -29,7 +46,7 @@ impl Failure {
             Failure::Internal(words) => (format!("internal error: {words}\n{NOT_DRAWN}"), INTERNAL),
         };
         if !words.is_empty() {
-            eprintln!("lawhemuri: {words}");
+            say(&format!("lawhemuri: {words}\n"));
         }
         ExitCode::from(status)
     }
@@ -45,5 +62,18 @@ impl From<Trouble> for Failure {
             Trouble::Thread(error) => Failure::Failed(format!("no thread could be started: {error}")),
             other => Failure::Internal(other.to_string()),
         }
+    }
+}
+
+#[cfg(test)]
+mod tests {
+    use super::*;
+
+    #[test]
+    fn a_panic_is_an_internal_error() {
+        let Err(Failure::Internal(words)) = guarded(|| panic!("planted, to be caught")) else { panic!("not caught") };
+        assert_eq!(words, "the work broke off");
+        assert!(guarded(|| Ok(())).is_ok());
+        assert!(matches!(guarded(|| Err(Failure::Use(String::new()))), Err(Failure::Use(_))));
     }
 }

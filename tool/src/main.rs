@@ -21,13 +21,14 @@ mod words;
 
 use std::collections::BTreeSet;
 use std::io::{self, Write};
+use std::path::Path;
 use std::process::ExitCode;
 
 use args::{Asked, Given};
 use ask::{one_end, Ask};
 use choices::Answers;
 use drill::Drill;
-use failure::Failure;
+use failure::{say, Failure};
 use lawhemuri::Way;
 use layout::{Layout, MOST_ROWS};
 use load::{Source, Undrilled};
@@ -42,12 +43,15 @@ const MOST_DRAWN: usize = 64;
 const FEW_DRAWN: usize = 16;
 
 fn main() -> ExitCode {
-    let words = std::env::args_os().skip(1).map(|word| word.to_string_lossy().into_owned()).collect();
-    let done = args::parse(words).and_then(|asked| match asked {
-        Asked::Text(text) => print(&text),
-        Asked::Command(given) => run(&given),
-    });
-    done.map_or_else(Failure::told, |()| ExitCode::SUCCESS)
+    failure::tell_panics();
+    let work = || {
+        let words = std::env::args_os().skip(1).map(|word| word.to_string_lossy().into_owned()).collect();
+        match args::parse(words)? {
+            Asked::Text(text) => print(&text),
+            Asked::Command(given) => run(&given),
+        }
+    };
+    failure::guarded(work).map_or_else(Failure::told, |()| ExitCode::SUCCESS)
 }
 
 fn run(given: &Given) -> Result<(), Failure> {
@@ -79,7 +83,7 @@ fn drilled(source: &Source) -> Result<Drill, Failure> {
     load::drill(source).map_err(|undrilled| match undrilled {
         Undrilled::Failed(failure) => failure,
         Undrilled::Refused(told) => {
-            eprint!("{}", terminal::refusal(&told, &source.file, &source.text));
+            say(&terminal::refusal(&told, &source.file, &source.text));
             Failure::Failed(String::new())
         }
     })
@@ -93,7 +97,8 @@ fn ends(given: &Given, drill: &Drill) -> Result<(), Failure> {
     let ask = asked(given);
     let numbers = ask.ends(drill)?;
     if !ask.is_empty() {
-        eprintln!("lawhemuri: {}: {} of {} ends", ask.words(), grouped(numbers.len()), grouped(drill.ends().len()));
+        let (so, all) = (grouped(numbers.len()), grouped(drill.ends().len()));
+        say(&format!("lawhemuri: {}: {so} of {all} ends\n", ask.words()));
     }
     print(&if given.has("--json") { terminal::ends_json(drill, &numbers) } else { terminal::ends(drill, &numbers) })
 }
@@ -102,26 +107,31 @@ fn ends(given: &Given, drill: &Drill) -> Result<(), Failure> {
 fn shown(drill: &Drill, ask: &Ask, most: usize) -> Result<Vec<usize>, Failure> {
     let mut numbers = ask.ends(drill)?;
     let so = if ask.is_empty() { String::new() } else { format!(" {}", ask.words()) };
-    if numbers.is_empty() && !ask.is_empty() {
-        return Err(Failure::Use(format!("no end{so}")));
-    }
     if numbers.len() > most {
-        let left = numbers.len() - most;
-        eprintln!(
-            "lawhemuri: ways to {} of {}{so}: {} left out (--most N shows more)",
-            grouped(most),
-            count(numbers.len(), "end"),
-            grouped(left)
-        );
+        let (of, left) = (count(numbers.len(), "end"), grouped(numbers.len() - most));
+        say(&format!("lawhemuri: ways to {} of {of}{so}: {left} left out (--most N shows more)\n", grouped(most)));
         numbers.truncate(most);
     }
     Ok(numbers)
 }
 
+/// Refuses ends that are named one by one where they are asked for by a question or a count too.
+fn one_question(given: &Given, named: bool, name: &str) -> Result<(), Failure> {
+    if named && ["--with", "--without", "--most"].iter().any(|option| given.has(option)) {
+        return Err(Failure::Use(format!("give {name}, or --with, --without and --most, and not both")));
+    }
+    Ok(())
+}
+
+/// That a sheet has ends and none of them is as was asked.
+fn none_so(drill: &Drill, ask: &Ask) -> String {
+    format!("{}: no end {}\n", drill.name, ask.words())
+}
+
 fn path(given: &Given, drill: &Drill) -> Result<(), Failure> {
+    one_question(given, given.operands.len() > 1, "END")?;
     let (ask, most) = (asked(given), given.number("--most")?.unwrap_or(MOST_WAYS));
     let numbers = match given.operands.get(1) {
-        Some(_) if !ask.is_empty() => return Err(Failure::Use("give END, or --with and --without, and not both".into())),
         Some(end) => vec![one_end(drill, end)?],
         None => shown(drill, &ask, most)?,
     };
@@ -129,6 +139,9 @@ fn path(given: &Given, drill: &Drill) -> Result<(), Failure> {
     if drill.ends().is_empty() {
         let stops = terminal::unanswered(drill, &answers);
         return print(&format!("{}: no end: the procedure can never be finished from this start\n\n{stops}", drill.name));
+    }
+    if numbers.is_empty() {
+        return print(&none_so(drill, &ask));
     }
     let progress = Progress::begin("unfolding the ways");
     let all = given.has("--all");
@@ -145,46 +158,61 @@ fn path(given: &Given, drill: &Drill) -> Result<(), Failure> {
 fn page(given: &Given, source: &Source) -> Result<(), Failure> {
     let named = format!("{}.html", if given.operands[0] == "-" { "sheet" } else { &source.name });
     let file = given.last("-o").unwrap_or(&named);
+    not_the_sheet(file, source)?;
+    one_question(given, given.has("--ends"), "--ends")?;
     let drill = match load::drill(source) {
         Ok(drill) => drill,
         Err(Undrilled::Failed(failure)) => return Err(failure),
         Err(Undrilled::Refused(told)) => {
-            eprint!("{}", terminal::refusal(&told, &source.file, &source.text));
+            say(&terminal::refusal(&told, &source.file, &source.text));
             write(file, &page::refused(&told, source))?;
             return Err(Failure::Failed(if file == "-" { String::new() } else { format!("{file} shows this to the class") }));
         }
     };
-    let most =
-        given.number("--most")?.unwrap_or(if drill.ends().len() > page::MOST_ENDS_IN_ROWS { FEW_DRAWN } else { MOST_DRAWN });
-    let numbers: Vec<usize> = match given.last("--ends") {
-        Some(list) => list.split(',').map(|end| one_end(&drill, end)).collect::<Result<BTreeSet<_>, _>>()?.into_iter().collect(),
-        None => shown(&drill, &asked(given), most)?,
-    };
-    let progress = Progress::begin("drawing the page");
-    let answers = Answers::of(&drill);
+    let numbers = drawn(given, &drill)?;
+    let none = if numbers.is_empty() && !drill.ends().is_empty() { none_so(&drill, &asked(given)) } else { String::new() };
+    let text = page_of(&drill, numbers)?;
+    write(file, &text)?;
+    if file == "-" {
+        say(&none);
+        return Ok(());
+    }
+    let ends = words::count_or_no(drill.ends().len(), "end");
+    print(&format!("{none}{file}: {ends}, {} bytes; open it in a browser, or print it on A4\n", grouped(text.len())))
+}
+
+/// The ends to which the page draws ways.
+fn drawn(given: &Given, drill: &Drill) -> Result<Vec<usize>, Failure> {
+    if let Some(list) = given.last("--ends") {
+        let ends: BTreeSet<usize> = list.split(',').map(|end| one_end(drill, end)).collect::<Result<_, _>>()?;
+        return Ok(ends.into_iter().collect());
+    }
+    let unless_said = if drill.ends().len() > page::MOST_ENDS_IN_ROWS { FEW_DRAWN } else { MOST_DRAWN };
+    shown(drill, &asked(given), given.number("--most")?.unwrap_or(unless_said))
+}
+
+/// The page with the ways to some ends.
+fn page_of(drill: &Drill, numbers: Vec<usize>) -> Result<String, Failure> {
+    let _progress = Progress::begin("drawing the page");
+    let answers = Answers::of(drill);
     let mut ways = Vec::new();
     for number in numbers {
-        let mut layout = way(&drill, &answers, number, MOST_ROWS)?;
+        let mut layout = way(drill, &answers, number, MOST_ROWS)?;
         layout.keep_bars(&page::parts(layout.states.len()).0);
         ways.push((number, layout));
     }
-    let text = page::page(&drill, &answers, &ways);
-    drop(progress);
-    write(file, &text)?;
-    if file != "-" {
-        let ends = words::count_or_no(drill.ends().len(), "end");
-        print(&format!("{file}: {ends}, {} bytes; open it in a browser, or print it on A4\n", grouped(text.len())))?;
-    }
-    Ok(())
+    Ok(page::page(drill, &answers, &ways))
 }
 
 /// Writes the sheet's one fixed text; it is never longer than the sheet.
 fn written(given: &Given, source: &Source) -> Result<(), Failure> {
+    let file = given.last("-o").unwrap_or("-");
+    not_the_sheet(file, source)?;
     let mut text = vec![0; source.text.len()];
     match lawhemuri::write(&source.text, &mut text) {
-        Ok(length) => write(given.last("-o").unwrap_or("-"), &String::from_utf8_lossy(&text[..length])),
+        Ok(length) => write(file, &String::from_utf8_lossy(&text[..length])),
         Err(unread) => {
-            eprint!("{}", terminal::refusal(&refusal::told(&source.text, unread), &source.file, &source.text));
+            say(&terminal::refusal(&refusal::told(&source.text, source.length, unread), &source.file, &source.text));
             Err(Failure::Failed(String::new()))
         }
     }
@@ -206,6 +234,15 @@ fn archive(given: &Given, drill: &Drill) -> Result<(), Failure> {
         return Err(Failure::Internal(format!("the states of end {number} do not come back")));
     }
     print(&terminal::archive(drill, &by_valve, states.len()))
+}
+
+/// Refuses to write over the sheet that was read, by whatever path it is named.
+fn not_the_sheet(file: &str, source: &Source) -> Result<(), Failure> {
+    let read = source.path.as_ref().and_then(|path| path.canonicalize().ok());
+    if file != "-" && read.is_some() && read == Path::new(file).canonicalize().ok() {
+        return Err(Failure::Use(format!("{file} is the sheet itself, and would be overwritten: give another file after -o")));
+    }
+    Ok(())
 }
 
 /// Writes a file, or standard output for `-`.

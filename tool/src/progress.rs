@@ -4,6 +4,8 @@ use std::sync::mpsc::{channel, RecvTimeoutError, Sender};
 use std::thread::{self, JoinHandle};
 use std::time::{Duration, Instant};
 
+use crate::failure::say;
+
 /// After so long the work is told, and then again after each further `AGAIN`.
 const SILENT: Duration = Duration::from_secs(1);
 const AGAIN: Duration = Duration::from_secs(5);
@@ -16,7 +18,7 @@ pub struct Progress {
 
 impl Progress {
     pub fn begin(work: &'static str) -> Progress {
-        Progress::telling(SILENT, AGAIN, move |time| eprintln!("lawhemuri: {work}, {} s …", time.as_secs()))
+        Progress::telling(SILENT, AGAIN, move |time| say(&format!("lawhemuri: {work}, {} s …\n", time.as_secs())))
     }
 
     fn telling(silent: Duration, again: Duration, tell: impl Fn(Duration) + Send + 'static) -> Progress {

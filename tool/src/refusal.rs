@@ -9,7 +9,7 @@ use crate::near::near;
 use crate::words::{article, grouped};
 
 /// The most bytes of a sheet.
-const MOST_BYTES: usize = 65_536;
+pub const MOST_BYTES: usize = 65_536;
 /// The most steps of a body.
 const MOST_STEPS: usize = 16;
 /// The most fluents, and the most actions.
@@ -56,12 +56,12 @@ impl Told {
     }
 }
 
-/// The words for a refused sheet.
-pub fn told(text: &[u8], unread: Unread) -> Told {
+/// The words for a refused sheet, and of one that is too long for its length, if that is known.
+pub fn told(text: &[u8], length: Option<usize>, unread: Unread) -> Told {
     let lines = lines_of(text);
     let line = unread.line as usize;
     let told = match unread.refusal {
-        Refusal::TooLong => too_long(text),
+        Refusal::TooLong => too_long(length),
         Refusal::BadByte => bad_byte(text),
         Refusal::NotEnded => not_ended(&lines),
         Refusal::Incomplete => incomplete(&lines),
@@ -81,10 +81,11 @@ pub fn too_large() -> Told {
     Told { number: Refusal::TablesFull.number(), ..Told::new(title, "", remedy) }
 }
 
-fn too_long(text: &[u8]) -> Told {
+fn too_long(length: Option<usize>) -> Told {
     let remedy =
         format!("at most {} are read: shorten names, drop rules, or divide the procedure into two sheets", grouped(MOST_BYTES));
-    Told::new(format!("the sheet has {} bytes", grouped(text.len())), "", remedy)
+    let bytes = length.map_or_else(|| format!("more than {}", grouped(MOST_BYTES)), grouped);
+    Told::new(format!("the sheet has {bytes} bytes"), "", remedy)
 }
 
 /// Where the first byte stands that the sheet may not have, as the library judges: the shortest beginning of the sheet that it refuses

@@ -198,7 +198,7 @@ fn bands(drill: &Drill, layout: &Layout, all: bool) -> String {
         out += &format!("  {:width$}  {}\n  {:>width$}  {ones}\n", "", tens.trim_end(), "state");
         for &k in &rows {
             let line: String = (first..last).map(|state| if by_valve.holds(k, state) { '▔' } else { '▁' }).collect();
-            let end = if last < states.len() {
+            let end = if last < states.len() || !layout.whole {
                 ""
             } else if by_valve.holds(k, last - 1) {
                 "  ●"

@@ -33,6 +33,7 @@ const PROBE: &str = r##"<script>
   var shown = function () { return all(document, 'section.end').filter(function (x) { return x.offsetParent; }).map(function (x) { return x.id; }).join(' '); };
   out.push('wide ' + (document.documentElement.scrollWidth <= window.innerWidth));
   out.push('shown ' + shown());
+  out.push('begins ' + text(document.getElementById('said')));
   all(document, 'a[href^="#"]').forEach(function (a) {
     if (!document.querySelector(a.getAttribute('href'))) out.push('leads nowhere ' + a.getAttribute('href'));
   });
@@ -184,9 +185,12 @@ fn many_ends() {
         ["with lit_1, with lit_2, with lit_3: 4 of 256 ends: end 1, end 65, end 129, end 193 show all"]
     );
     assert_eq!(lines(&told, "left "), ["end1"]);
+    assert!(lines(&told, "begins ")[0].starts_with("All ends are shown. "));
     let told = probed(&browser, &here().join("tests/sheets/switches_14.sheet"), 1280, "[['with switch_1','without switch_14']]");
+    let press = "Press “with” or “without” beside a name to ask for some.";
+    assert_eq!(lines(&told, "begins "), [format!("The first 60 of 16,384 ends are listed. {press}")]);
     let said = lines(&told, "said ")[0];
-    assert!(said.starts_with("with switch_1, without switch_14: 4096 of 16384 ends: end 2, end 4, "), "{said}");
+    assert!(said.starts_with("with switch_1, without switch_14: 4,096 of 16,384 ends: end 2, end 4, "), "{said}");
     let told = probed(&browser, &folder("sheets/light_up.sheet"), 600, "[]");
     assert_eq!(lines(&told, "wide "), ["true"]);
 }

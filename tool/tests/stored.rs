@@ -2,7 +2,7 @@
 
 mod common;
 
-use common::{folder, here, name, run, scratch, sheets, stored, told};
+use common::{folder, here, name, run, scratch, sheets, stored, told, told_from};
 
 /// Every refusal of a sheet and of its run is told in words on standard error, with exit status 1.
 #[test]
@@ -26,6 +26,103 @@ fn a_sheet_that_is_too_long() {
     let (status, out, err) = told(&["ends".as_ref(), file.as_os_str()]);
     assert_eq!((status, out.as_str()), (1, ""));
     assert!(err.starts_with("refused 10: the sheet has 72,000 bytes\n"), "{err}");
+    let drawn = run(&["page".as_ref(), file.as_os_str(), "-o".as_ref(), "-".as_ref()]).stdout;
+    let drawn = String::from_utf8(drawn).unwrap();
+    assert!(drawn.contains("the sheet has 72,000 bytes") && !drawn.contains("SHA-256"));
+    let (status, _, err) = told_from(&["write", "-"], std::fs::File::open(&file).unwrap());
+    assert_eq!(status, 1);
+    assert!(err.starts_with("refused 10: the sheet has more than 65,536 bytes\n"), "{err}");
+}
+
+/// Of a file without bound only the beginning is read: one without an end is refused like any that is too long.
+#[test]
+fn a_sheet_without_end() {
+    if !std::path::Path::new("/dev/zero").exists() {
+        return;
+    }
+    let (status, out, err) = told(&["ends", "/dev/zero"]);
+    assert_eq!((status, out.as_str()), (1, ""));
+    assert!(err.starts_with("refused 10: the sheet has more than 65,536 bytes\n"), "{err}");
+}
+
+/// A sheet is not overwritten by its own page or text, by whatever path it is named.
+#[test]
+fn no_sheet_is_overwritten() {
+    let place = scratch("overwritten");
+    let sheet = place.join("low_water.sheet");
+    std::fs::copy(folder("sheets/low_water.sheet"), &sheet).unwrap();
+    let before = std::fs::read(&sheet).unwrap();
+    std::fs::create_dir(place.join("in")).unwrap();
+    for (command, to) in [("page", sheet.clone()), ("write", sheet.clone()), ("write", place.join("in/../low_water.sheet"))] {
+        let (status, out, err) = told(&[command.as_ref(), sheet.as_os_str(), "-o".as_ref(), to.as_os_str()]);
+        assert_eq!((status, out.as_str()), (2, ""), "{command}");
+        assert!(err.contains("is the sheet itself, and would be overwritten"), "{err}");
+        assert_eq!(std::fs::read(&sheet).unwrap(), before, "{command}");
+    }
+    let refused = place.join("refused.sheet");
+    std::fs::write(&refused, "no sheet\n").unwrap();
+    assert_eq!(told(&["page".as_ref(), refused.as_os_str(), "-o".as_ref(), refused.as_os_str()]).0, 2);
+    assert_eq!(std::fs::read(&refused).unwrap(), b"no sheet\n");
+}
+
+/// Where standard error takes nothing, the exit status is the same.
+#[test]
+fn a_full_standard_error() {
+    let Ok(full) = std::fs::File::options().write(true).open("/dev/full") else { return };
+    let refused = here().join("tests/refused/16_typo.sheet");
+    let low_water = folder("sheets/low_water.sheet");
+    let cases: [(&[&std::ffi::OsStr], i32); 4] = [
+        (&["ends".as_ref(), refused.as_os_str()], 1),
+        (&["write".as_ref(), refused.as_os_str()], 1),
+        (&["no_command".as_ref()], 2),
+        (&["path".as_ref(), low_water.as_os_str(), "--most".as_ref(), "1".as_ref()], 0),
+    ];
+    for (words, status) in cases {
+        let mut command = std::process::Command::new(env!("CARGO_BIN_EXE_lawhemuri"));
+        let output = command.args(words).stderr(full.try_clone().unwrap()).output().unwrap();
+        assert_eq!(output.status.code(), Some(status), "{words:?}");
+    }
+}
+
+/// A question that no end answers has a result: the sentence that says so, and a page without ways.
+#[test]
+fn no_end_is_so() {
+    let place = scratch("none_so");
+    let (sheet, page) = (folder("sheets/light_up.sheet"), place.join("page.html"));
+    let (sheet, page) = (sheet.to_str().unwrap(), page.to_str().unwrap());
+    let question = ["--with", "main_valve", "--without", "main_flame"];
+    let sentence = "light_up: no end with main_valve, without main_flame\n";
+    assert_eq!(told(&[&["path", sheet], &question[..]].concat()), (0, sentence.into(), String::new()));
+    let (status, out, err) = told(&[&["page", sheet, "-o", page], &question[..]].concat());
+    assert_eq!((status, err.as_str()), (0, ""));
+    assert!(out.starts_with(sentence) && out.contains("page.html: "), "{out}");
+    let drawn = std::fs::read_to_string(page).unwrap();
+    assert!(drawn.contains("Ways are drawn to none of the ") && !drawn.contains("<section class=\"end\""));
+    let (status, out, err) = told(&[&["page", sheet, "-o", "-"], &question[..]].concat());
+    assert_eq!((status, out, err.as_str()), (0, drawn, sentence));
+    let no_end = here().join("tests/sheets/no_end.sheet");
+    let fluent = told(&["ends".as_ref(), no_end.as_os_str(), "--json".as_ref()]).1;
+    let fluent = fluent.split("\"fluents\":[\"").nth(1).unwrap().split('"').next().unwrap();
+    let (status, out, _) = told(&["path".as_ref(), no_end.as_os_str(), "--with".as_ref(), fluent.as_ref()]);
+    assert!(status == 0 && out.starts_with("no_end: no end: the procedure can never be finished"), "{out}");
+}
+
+/// The last state of a part of a way is not marked as an end; that of a whole way is.
+#[test]
+fn a_part_has_no_end() {
+    let part = here().join("tests/sheets/too_long.sheet");
+    let whole = folder("sheets/example.sheet");
+    for (sheet, marked) in [(part, false), (whole, true)] {
+        let (status, out, _) = told(&["path".as_ref(), sheet.as_os_str(), "1".as_ref(), "--all".as_ref()]);
+        let bands: Vec<&str> = out.lines().filter(|line| line.contains('▔') || line.contains('▁')).collect();
+        assert!(status == 0 && !bands.is_empty());
+        assert_eq!(bands.iter().any(|line| line.ends_with('●') || line.ends_with('·')), marked, "{}", sheet.display());
+        let drawn = run(&["page".as_ref(), sheet.as_os_str(), "-o".as_ref(), "-".as_ref()]).stdout;
+        let drawn = String::from_utf8(drawn).unwrap();
+        for mark in ["class=\"state last\"", "class=\"endcol\""] {
+            assert_eq!(drawn.contains(mark), marked, "{}: {mark}", sheet.display());
+        }
+    }
 }
 
 /// Every command refuses a refused sheet with the same words.
@@ -124,7 +221,7 @@ fn wrong_use_and_files_that_cannot_be_read() {
     let sheet = sheet.to_str().unwrap();
     let missing = folder("sheets/low_watre.sheet");
     let missing = missing.to_str().unwrap();
-    let cases: [(&[&str], i32, &str); 12] = [
+    let cases: [(&[&str], i32, &str); 16] = [
         (&[], 2, "a command is missing"),
         (&["end", sheet], 2, "no command `end`; did you mean `ends`?"),
         (&["ends"], 2, "ends needs a sheet"),
@@ -134,6 +231,14 @@ fn wrong_use_and_files_that_cannot_be_read() {
         (&["ends", sheet, "--with", "pilot_vlave"], 2, "did you mean `pilot_valve`?"),
         (&["path", sheet, "--most", "none"], 2, "--most takes a number from 1 on, and not `none`"),
         (&["path", sheet, "3", "--with", "purged"], 2, "and not both"),
+        (&["path", sheet, "3", "--most", "2"], 2, "give END, or --with, --without and --most, and not both"),
+        (
+            &["page", sheet, "-o", "-", "--ends", "3", "--most", "2"],
+            2,
+            "give --ends, or --with, --without and --most, and not both",
+        ),
+        (&["page", sheet, "-o", "-", "--ends", "3", "--with", "purged"], 2, "give --ends, or "),
+        (&["page", sheet, "-o", "-", "--ends", "3", "--without", "purged"], 2, "give --ends, or "),
         (&["ends", missing], 1, "low_water.sheet?"),
         (&["ends", env!("CARGO_MANIFEST_DIR")], 1, "cannot be read"),
         (&["page", sheet, "-o", "/no/such/folder/page.html"], 1, "cannot be written"),
@@ -217,4 +322,28 @@ fn sheets_by_name() {
     let mut command = std::process::Command::new(env!("CARGO_BIN_EXE_lawhemuri"));
     let output = command.args(["ends", "example"]).env("LAWHEMURI_SHEETS", folder("sheets")).output().unwrap();
     assert_eq!(output.stdout, b"ends\t1\t3\t3\nend\t2\tlit\n");
+}
+
+/// The installed program knows the installed sheets, with their ending and without it; a folder hides none, and near names are told.
+#[test]
+fn sheets_where_installed() {
+    let place = scratch("installed");
+    let (program, known) = (place.join("bin/lawhemuri"), place.join("share/lawhemuri/sheets"));
+    std::fs::create_dir_all(&known).unwrap();
+    std::fs::create_dir_all(place.join("bin/example")).unwrap();
+    std::fs::copy(env!("CARGO_BIN_EXE_lawhemuri"), &program).unwrap();
+    std::fs::copy(folder("sheets/example.sheet"), known.join("example.sheet")).unwrap();
+    let ends = |operand: &str| {
+        let mut command = std::process::Command::new(&program);
+        let output =
+            command.args(["ends", operand]).current_dir(place.join("bin")).env_remove("LAWHEMURI_SHEETS").output().unwrap();
+        (output.status.code(), String::from_utf8(output.stdout).unwrap(), String::from_utf8(output.stderr).unwrap())
+    };
+    let found = (Some(0), "ends\t1\t3\t3\nend\t2\tlit\n".to_string(), String::new());
+    assert_eq!((ends("example"), ends("example.sheet")), (found.clone(), found));
+    for near in ["exmaple", "exmaple.sheet"] {
+        assert_eq!(ends(near), (Some(1), String::new(), format!("lawhemuri: no file {near}; did you mean example?\n")));
+    }
+    std::fs::copy(folder("sheets/low_water.sheet"), place.join("bin/example.sheet")).unwrap();
+    assert!(ends("example.sheet").1.starts_with("ends\t3\t"), "a file goes before a known sheet");
 }

@@ -11,6 +11,7 @@
     for (var k in asked) if (asked[k] && (asked[k] > 0) !== !!holds(end, k)) return false;
     return true;
   }
+  function grouped(number) { return number.toLocaleString('en'); }
   function link(number) {
     return doc.getElementById('end' + number) ? '<a href="#end' + number + '">end ' + number + '</a>' : 'end ' + number;
   }
@@ -31,12 +32,13 @@
       if (!hits) doc.querySelectorAll('[data-e="' + number + '"]').forEach(function (x) { x.classList.toggle('out', !so); });
       if (way) way.hidden = !so;
     });
-    if (hits) hits.innerHTML = list + (count > MOST_LISTED ? '<p>\u2026 and ' + (count - MOST_LISTED) + ' more</p>' : '');
+    if (hits) hits.innerHTML = list + (count > MOST_LISTED ? '<p>\u2026 and ' + grouped(count - MOST_LISTED) + ' more</p>' : '');
     out.classList.toggle('set', words.length > 0);
     out.innerHTML = words.length
-      ? '<b>' + words.join(', ') + ':</b> ' + (count ? count + ' of ' + ends.length + ' ends: ' + named.join(', ')
+      ? '<b>' + words.join(', ') + ':</b> ' + (count ? grouped(count) + ' of ' + grouped(ends.length) + ' ends: ' + named.join(', ')
         + (count > named.length ? ' \u2026' : '') : 'no end') + ' <button type="button" class="q" id="clear">show all</button>'
-      : 'All ends are shown. Press \u201cwith\u201d or \u201cwithout\u201d beside a name to ask for some.';
+      : (hits ? 'The first ' + MOST_LISTED + ' of ' + grouped(ends.length) + ' ends are listed.' : 'All ends are shown.')
+        + ' Press \u201cwith\u201d or \u201cwithout\u201d beside a name to ask for some.';
     var clear = doc.getElementById('clear');
     if (clear) clear.onclick = function () {
       asked = {};

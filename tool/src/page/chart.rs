@@ -102,9 +102,9 @@ impl Chart<'_> {
         self.x(self.last)
     }
 
-    /// Whether the last state drawn is the last of the way.
+    /// Whether the last state drawn is the end; the last of a part of a way is none.
     fn ends(&self) -> bool {
-        self.last == self.layout.states.len()
+        self.layout.whole && self.last == self.layout.states.len()
     }
 
     /// Stripes behind the rows, lines between the states, the end's column.

@@ -151,7 +151,7 @@ fn left_out(drill: &Drill, drawn: &[usize]) -> String {
     format!(
         "<p class=\"soft\" id=\"left-out\">Ways are drawn to {} of the {} ends; {} left out. \
          <code>lawhemuri page {} --ends {other}</code> draws the way to another end, <code>--most</code> draws more.</p>",
-        grouped(drawn.len()),
+        if drawn.is_empty() { "none".into() } else { grouped(drawn.len()) },
         grouped(all),
         plural(all - drawn.len(), "one is", &format!("{} are", grouped(all - drawn.len()))),
         esc(&drill.file)

@@ -4,7 +4,7 @@ use super::head;
 use super::html::{esc, ticks};
 use crate::lines::{cropped, lines_of};
 use crate::load::Source;
-use crate::refusal::Told;
+use crate::refusal::{Told, MOST_BYTES};
 use crate::sha256::digest;
 
 /// Lines shown before and after the one at fault.
@@ -33,10 +33,18 @@ pub fn refused(told: &Told, source: &Source) -> String {
     out += &format!("<p class=\"do\"><b>What to do:</b> {}.</p>{more}</main>", ticks(&told.remedy));
     out + &format!(
         "<footer><p class=\"small soft\">The number comes from the proved library, and so does the line of 13 to 17; the words, the mark and the \
-         advice are this program’s. Sheet <code>{}</code>, SHA-256 <code class=\"long\">{}</code>.</p></footer></body></html>\n",
+         advice are this program’s. Sheet <code>{}</code>{}.</p></footer></body></html>\n",
         esc(&source.file),
-        digest(&source.text)
+        fingerprint(&source.text)
     )
+}
+
+/// The digest of the sheet; none of one that is too long, since it was not read to its end.
+fn fingerprint(text: &[u8]) -> String {
+    if text.len() > MOST_BYTES {
+        return String::new();
+    }
+    format!(", SHA-256 <code class=\"long\">{}</code>", digest(text))
 }
 
 /// The line at fault with its neighbours and a mark under the place.

@@ -30,7 +30,15 @@ pub fn run<S: AsRef<std::ffi::OsStr>>(words: &[S]) -> Output {
 
 /// Runs the program and gives exit status, standard output, and standard error without the lines about slow work.
 pub fn told<S: AsRef<std::ffi::OsStr>>(words: &[S]) -> (i32, String, String) {
-    let output = run(words);
+    parts(run(words))
+}
+
+/// The same, with a file on standard input.
+pub fn told_from<S: AsRef<std::ffi::OsStr>>(words: &[S], input: std::fs::File) -> (i32, String, String) {
+    parts(Command::new(env!("CARGO_BIN_EXE_lawhemuri")).args(words).env_remove("LAWHEMURI_SHEETS").stdin(input).output().unwrap())
+}
+
+fn parts(output: Output) -> (i32, String, String) {
     let text = |bytes: Vec<u8>| String::from_utf8(bytes).expect("what is printed is UTF-8");
     let err: String = text(output.stderr).split_inclusive('\n').filter(|line| !line.ends_with(" s …\n")).collect();
     (output.status.code().expect("no signal"), text(output.stdout), err)
