@@ -1,9 +1,8 @@
 //! Paths of tables written by hand: chains of answers of one call, each of which uses the one before.
 
 use crate::book::{Book, CALL, DELETE, INSERT};
-use crate::{least, verdict};
+use crate::timing::{race, verdict};
 use lawhemuri::{path, Records, Refusal, ANSWER_WORDS};
-use std::collections::HashMap;
 
 /// The body of the first record, and that of all others.
 struct Chain {
@@ -34,37 +33,69 @@ fn answers(chain: &Chain, records: usize) -> Vec<u64> {
     words
 }
 
-/// How many states each record adds, by plain recursion over the records with a hash map; saturating.
-fn plain_sizes(chain: &Chain, records: usize) -> HashMap<usize, u64> {
-    let mut sizes = HashMap::new();
-    for n in 0..records {
-        let steps = if n == 0 { chain.first } else { chain.others };
-        let size = steps.iter().map(|&step| if step == CALL { sizes[&(n - 1)] } else { 1 });
-        sizes.insert(n, size.fold(0, u64::saturating_add));
-    }
-    sizes
+/// What the plain program is given: the two bodies and the words of the answers.
+struct Table<'a> {
+    bodies: [&'a [u16]; 2],
+    answers: &'a [u64],
 }
 
-/// The path as a program with a stack of its own would list it, or nothing where there is no room.
-fn plain_path(chain: &Chain, record: usize, room: u64) -> Option<Vec<u64>> {
-    let sizes = plain_sizes(chain, record + 1);
-    if sizes[&record] >= room {
-        return None;
+impl Table<'_> {
+    fn record(&self, n: usize) -> &[u64] {
+        &self.answers[ANSWER_WORDS * n..][..ANSWER_WORDS]
     }
-    let mut states = vec![0];
-    let mut left = vec![(record, 0)];
-    while let Some((n, place)) = left.pop() {
-        let steps = if n == 0 { chain.first } else { chain.others };
-        if place == steps.len() || sizes[&n] == 0 {
-            continue;
-        }
-        left.push((n, place + 1));
-        match steps[place] {
-            CALL => left.push((n - 1, 0)),
-            step => states.push(u64::from(step == INSERT)),
-        }
+
+    /// The steps of a record's rule, each with its evidence.
+    fn steps(&self, n: usize) -> impl Iterator<Item = (u16, usize)> + '_ {
+        let record = self.record(n);
+        self.bodies[record[2] as usize].iter().zip(&record[3..]).map(|(&step, &evidence)| (step, evidence as usize))
     }
-    Some(states)
+
+    /// Whether the evidence of a record leads from state 0 to its final state.
+    fn justified(&self, n: usize) -> bool {
+        let mut state = 0;
+        for (step, evidence) in self.steps(n) {
+            match step {
+                CALL if state != 0 || evidence >= n => return false,
+                CALL => state = self.record(evidence)[1],
+                _ => state = u64::from(step == INSERT),
+            }
+        }
+        state == self.record(n)[1]
+    }
+
+    /// How many states each record up to the last one adds; saturating.
+    fn sizes(&self, last: usize) -> Vec<u64> {
+        let mut sizes = Vec::with_capacity(last + 1);
+        for n in 0..=last {
+            let adds = self.steps(n).map(|(step, evidence)| if step == CALL { sizes[evidence] } else { 1 });
+            sizes.push(adds.fold(0, u64::saturating_add));
+        }
+        sizes
+    }
+
+    /// The path of the last record as a program with a stack of its own would list it, or nothing where a record is not justified
+    /// or there is no room.
+    fn path(&self, room: u64) -> Option<Vec<u64>> {
+        let last = self.answers.len() / ANSWER_WORDS - 1;
+        if !(0..=last).all(|n| self.justified(n)) {
+            return None;
+        }
+        let sizes = self.sizes(last);
+        if sizes[last] >= room {
+            return None;
+        }
+        let mut states = vec![0];
+        let mut left = vec![self.steps(last)];
+        while let Some(steps) = left.last_mut() {
+            match steps.next() {
+                Some((CALL, evidence)) if sizes[evidence] == 0 => {}
+                Some((CALL, evidence)) => left.push(self.steps(evidence)),
+                Some((step, _)) => states.push(u64::from(step == INSERT)),
+                None => drop(left.pop()),
+            }
+        }
+        Some(states)
+    }
 }
 
 /// One line of the table; whether both paths agree.
@@ -77,8 +108,9 @@ fn measure(chain: &Chain, count: usize) -> bool {
     let records = Records { calls: &[0, 0], call_count: 1, answers: &answers, answer_count: count };
     let mut states = vec![0; 2 * 65536 + 1];
     let room = states.len() as u64;
-    let (result, ours) = least(|| path(&question, &records, count - 1, &mut states));
-    let (plain, theirs) = least(|| plain_path(chain, count - 1, room));
+    let table = Table { bodies: [chain.first, chain.others], answers: &answers };
+    let ours = || path(&question, &records, count - 1, &mut states);
+    let ((result, ours), (plain, theirs)) = race(ours, || table.path(room));
     let same = match (result, plain) {
         (Ok(n), Some(list)) => states[..n] == list,
         (Err(refusal), None) => refusal == Refusal::StatesShort,
@@ -88,20 +120,14 @@ fn measure(chain: &Chain, count: usize) -> bool {
         Ok(n) => format!("{n} states"),
         Err(refusal) => format!("refused {}", refusal.number()),
     };
-    println!(
-        "{:<10}{count:>9}{shown:>16}{:>12.3}{:>12.3}{:>10.1}  {}",
-        chain.name,
-        1e3 * ours,
-        1e3 * theirs,
-        ours / theirs,
-        verdict(same),
-    );
+    let (name, ratio, verdict) = (chain.name, ours / theirs, verdict(same));
+    println!("{name:<10}{count:>9}{shown:>20}{ours:>11.3}{theirs:>11.3}{ratio:>8.2}  {verdict}");
     same
 }
 
 /// A table of chains and sizes; whether all paths agree.
 pub fn print() -> bool {
-    println!("\n{:<10}{:>9}{:>16}{:>12}{:>12}{:>10}", "path", "records", "result", "ms", "plain ms", "ratio");
+    println!("\npath        records              result         ms   plain ms   ratio");
     let mut all_same = true;
     for chain in &CHAINS {
         for count in [1024, 16384, 65536] {

@@ -1,92 +1,104 @@
-//! A plain evaluator with hash maps: each call is tabled, each place of a body that waits for a
-//! call's answers is resumed once for each of them.
+//! A plain evaluator: what the library's times are held against. It is a worklist over hash tables. A body that comes to a call
+//! waits for it as a continuation; each new answer of a call resumes each continuation that waits for it, and each new
+//! continuation is resumed by each answer that is known, so that the two meet once. Elementary steps run in a loop and leave
+//! nothing behind. It keeps no evidence, which the library does.
 
-use crate::book::Book;
-use std::collections::{HashMap, HashSet};
+use crate::book::{Book, CALL, DELETE, DENY, END, INSERT, QUERY};
+use crate::hash::{Map, Set};
+use crate::lists::Lists;
+use lawhemuri::GOAL_ACTION;
 
-/// A place of a body: the call it belongs to, the body's number, the step to do next, the state there.
+/// A body that goes on: the call it belongs to by its row, its next step by the place in the book's list, the state there.
 #[derive(Clone, Copy, PartialEq, Eq, Hash)]
 struct Place {
-    call: usize,
-    body: usize,
-    step: usize,
+    row: u32,
+    step: u32,
     state: u64,
 }
 
 #[derive(Default)]
 struct Tables {
-    numbers: HashMap<(u16, u64), usize>,
-    answers: Vec<Vec<u64>>,
-    known: HashSet<(usize, u64)>,
-    waiting: Vec<Vec<Place>>,
-    met: HashSet<Place>,
+    /// The calls by row, and the rows by call.
+    calls: Vec<(u16, u64)>,
+    rows: Map<(u16, u64), u32>,
+    /// The final states known for each row, as lists and as one set.
+    answers: Lists<u64>,
+    known: Set<(u32, u64)>,
+    /// The places that wait for each row, and all of them as one set.
+    waiting: Lists<Place>,
+    continuations: Set<Place>,
+    /// The places to go on from.
     todo: Vec<Place>,
 }
 
 impl Tables {
-    fn go(&mut self, place: Place) {
-        if self.met.insert(place) {
-            self.todo.push(place);
-        }
+    /// The row of a call, new or old.
+    fn row(&mut self, action: u16, state: u64) -> u32 {
+        *self.rows.entry((action, state)).or_insert_with(|| {
+            self.calls.push((action, state));
+            self.answers.open();
+            self.waiting.open()
+        })
     }
 
-    /// The number of a call; a new one has all its bodies begun.
-    fn call(&mut self, book: &Book, action: u16, state: u64) -> usize {
-        if let Some(&number) = self.numbers.get(&(action, state)) {
-            return number;
-        }
-        let call = self.answers.len();
-        self.numbers.insert((action, state), call);
-        self.answers.push(Vec::new());
-        self.waiting.push(Vec::new());
-        for &body in &book.by_action[action as usize] {
-            self.go(Place { call, body, step: 0, state });
-        }
-        call
-    }
-
-    fn answer(&mut self, call: usize, state: u64) {
-        if self.known.insert((call, state)) {
-            self.answers[call].push(state);
-            for i in 0..self.waiting[call].len() {
-                let p = self.waiting[call][i];
-                self.go(Place { step: p.step + 1, state, ..p });
+    /// Goes on to the body's next call or to its end, or to a query or denial that fails.
+    fn go(&mut self, steps: &[u16], mut place: Place) {
+        loop {
+            let word = steps[place.step as usize];
+            let bit = 1 << (word % 64);
+            match word - word % 256 {
+                _ if word == END => return self.answer(place.row, place.state),
+                QUERY if place.state & bit == 0 => return,
+                DENY if place.state & bit != 0 => return,
+                INSERT => place.state |= bit,
+                DELETE => place.state &= !bit,
+                CALL => return self.wait(place, word % 256),
+                _ => {}
             }
+            place.step += 1;
         }
     }
 
-    fn step(&mut self, book: &Book, p: Place) {
-        let Some(&word) = book.bodies[p.body].get(p.step) else {
-            return self.answer(p.call, p.state);
-        };
-        let (kind, bit) = (word / 256, 1u64.checked_shl(u32::from(word % 256)).unwrap_or(0));
-        let on = |state| Place { step: p.step + 1, state, ..p };
-        match kind {
-            0 if p.state & bit != 0 => self.go(on(p.state)),
-            0 => {}
-            1 => self.go(on(p.state | bit)),
-            2 => self.go(on(p.state & !bit)),
-            4 if p.state & bit == 0 => self.go(on(p.state)),
-            4 => {}
-            _ => {
-                let callee = self.call(book, word % 256, p.state);
-                self.waiting[callee].push(p);
-                for i in 0..self.answers[callee].len() {
-                    self.go(on(self.answers[callee][i]));
-                }
-            }
+    /// A place comes to a call of this action.
+    fn wait(&mut self, place: Place, action: u16) {
+        if self.continuations.insert(place) {
+            let row = self.row(action, place.state);
+            let behind = Place { step: place.step + 1, ..place };
+            self.waiting.push(row, behind);
+            self.todo.extend(self.answers.of(row).map(|state| Place { state, ..behind }));
+        }
+    }
+
+    /// A body of this row comes to its end.
+    fn answer(&mut self, row: u32, state: u64) {
+        if self.known.insert((row, state)) {
+            self.answers.push(row, state);
+            self.todo.extend(self.waiting.of(row).map(|place| Place { state, ..place }));
         }
     }
 }
 
-/// The ends in rising order, and the counts of calls and answers.
-pub fn evaluate(book: &Book) -> (Vec<u64>, usize, usize) {
-    let mut t = Tables::default();
-    t.call(book, 64, book.start);
-    while let Some(p) = t.todo.pop() {
-        t.step(book, p);
+/// What a run gives: the ends in rising order, and the counts of calls and answers.
+pub struct Run {
+    pub ends: Vec<u64>,
+    pub calls: usize,
+    pub answers: usize,
+}
+
+pub fn evaluate(book: &Book) -> Run {
+    let mut tables = Tables::default();
+    let goal = tables.row(GOAL_ACTION as u16, book.start);
+    let mut row = 0;
+    while let Some(&(action, state)) = tables.calls.get(row as usize) {
+        for &step in &book.begins[usize::from(action)] {
+            tables.go(&book.steps, Place { row, step, state });
+        }
+        while let Some(place) = tables.todo.pop() {
+            tables.go(&book.steps, place);
+        }
+        row += 1;
     }
-    let mut ends = t.answers[0].clone();
+    let mut ends: Vec<u64> = tables.answers.of(goal).collect();
     ends.sort_unstable();
-    (ends, t.answers.len(), t.known.len())
+    Run { ends, calls: tables.calls.len(), answers: tables.known.len() }
 }
