@@ -36,6 +36,17 @@ pub fn is_of(rules: &[u16], number: u64, action: u64) -> bool
     false
 }
 
+// Whether the k-th body, of the rules and the goal behind them, is one of the action.
+pub fn is_at(rules: &[u16], k: usize, action: u64) -> bool
+    requires { ⌜ length (now rules) / 18 ≤ 256 ⌝ }
+    ensures { λ r. ⌜ r ≡ bodies-of (now (rules .entry)) [] .fits (number-at (length (now (rules .entry)) / 18) k) action ⌝ }
+{
+    if k < rules.len() / 18 {
+        return rules[18 * k] as u64 == action;
+    }
+    action == Call::GOAL
+}
+
 // The steps of rule r.
 fn rule_steps(rules: &[u16], r: usize) -> &[u16]
     requires { ⌜ (r < length (now rules) / 18) × (count-of (now rules) r ≤ 16) ⌝ }

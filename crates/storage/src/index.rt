@@ -16,24 +16,24 @@ ghost use Rattle.tabling.proofs.Storage.{Stored, FindCall, FindAnswer, NextAnsw
 ghost use Rattle.tabling.proofs.Index.{bucket, Keyed, OfRow, Tail, noted, joined, CallIndex, AnswerIndex};
 
 // Where the parts of an index begin, after the heads.
-const LINKS: usize = 65536;
+const LINKS: usize = 57344;
 
-const FIRSTS: usize = 131072;
+const FIRSTS: usize = 122880;
 
-const LASTS: usize = 196608;
+const LASTS: usize = 188416;
 
-const NEXTS: usize = 262144;
+const NEXTS: usize = 253952;
 
 // The bucket of a record with these first two words.
 fn bucket(a: u64, s: u64) -> usize
     ensures { λ r. ⌜ r ≡ bucket a s ⌝ }
 {
-    ((s % 65521 + a % 65536 * 1021) % 65536) as usize
+    ((s % 65521 + a % 65536 * 1021) % 65536 * 7 / 8) as usize
 }
 
 // The record of `width` words among the first n that has these first two words, or n.
 fn find(words: &[u64], width: usize, n: usize, index: &[u16], first: u64, second: u64) -> usize
-    requires { ⌜ (2 ≤ width) × (width * n ≤ length (now words)) × (n ≤ 65536) × (131072 ≤ length (now index)) × Keyed (calls-in width (now words) n) (now index) ⌝ }
+    requires { ⌜ (2 ≤ width) × (width * n ≤ length (now words)) × (n ≤ 65536) × (122880 ≤ length (now index)) × Keyed (calls-in width (now words) n) (now index) ⌝ }
     ensures { λ r. ⌜ (r ≤ n) × FindCall (calls-in width (now (words .entry)) n) first second r ⌝ }
 {
     let k = bucket(first, second);
@@ -71,7 +71,7 @@ pub fn find_call(calls: &[u64], n: usize, index: &[u16], call: Call) -> usize
 
 // Notes record n as the latest of bucket k.
 fn note(index: &mut [u16], k: usize, n: usize)
-    requires { ⌜ (131072 ≤ length (now index)) × (k < 65536) × (n < 65536) ⌝ }
+    requires { ⌜ (122880 ≤ length (now index)) × (k < 57344) × (n < 65536) ⌝ }
     ensures { λ _. ⌜ now (index .exit) ≡ noted (now (index .entry)) k n ⌝ }
 {
     index[LINKS + n] = index[k];
@@ -161,8 +161,8 @@ pub fn later_answer(answers: &[u64], known: usize, index: &[u16], x: usize) -> u
 
 // Where the number of one more answer of this call record goes: behind its last answer, or to its first where it has none.
 fn tail(answers: &[u64], m: usize, index: &[u16], row: usize) -> usize
-    requires { ⌜ (19 * m ≤ length (now answers)) × (m ≤ 65536) × (row < 65536) × (327680 ≤ length (now index)) ⌝ }
-    ensures { λ r. ⌜ (r < 327680) × Tail (answers-in 19 (now (answers .entry)) m) (now (index .entry)) row r ⌝ }
+    requires { ⌜ (19 * m ≤ length (now answers)) × (m ≤ 65536) × (row < 65536) × (319488 ≤ length (now index)) ⌝ }
+    ensures { λ r. ⌜ (r < 319488) × Tail (answers-in 19 (now (answers .entry)) m) (now (index .entry)) row r ⌝ }
 {
     let last = index[LASTS + row] as usize;
     if is_answer(answers, m, last, row as u64) {
@@ -173,7 +173,7 @@ fn tail(answers: &[u64], m: usize, index: &[u16], row: usize) -> usize
 
 // Puts answer m at that place, and makes it the last of its call record.
 fn join(index: &mut [u16], place: usize, row: usize, m: usize)
-    requires { ⌜ (327680 ≤ length (now index)) × (place < 327680) × (row < 65536) × (m < 65536) ⌝ }
+    requires { ⌜ (319488 ≤ length (now index)) × (place < 319488) × (row < 65536) × (m < 65536) ⌝ }
     ensures { λ _. ⌜ now (index .exit) ≡ joined (now (index .entry)) place row m ⌝ }
 {
     index[place] = m as u16;

@@ -1,11 +1,38 @@
-// From which call records a call record is called: one word for each record, the least and the greatest of their numbers. A record is walked
-// again only if it lies between the callers of a record that has gained an answer.
+// What a run notes of its call records, five numbers of 16 bits for each. No other code knows the parts.
+//
+// From which call records it is called, the least and the greatest of their numbers: a record is walked again only if it lies between the
+// callers of a record that has gained an answer. After which answer it is called, and from which of its own answers on a round looks at it: an
+// answer is taken again only if it is new, if a record called after it has an answer that is, or if a smaller answer of its own record is.
+use crate::index;
 use crate::tables;
 ghost use mathlib.Core.Path.{_≡_};
-ghost use Prim.Native.Nat.{_*_, _<_, _≤_, min, max};
+ghost use mathlib.Core.Bool.{true};
+ghost use mathlib.Core.List.{List};
+ghost use Prim.Native.Nat.{ℕ, _+_, _*_, _<_, _≤_, min, max};
 ghost use lib.ListN.{length, getD};
 ghost use Rattle.tabling.specs.Records.{answers-in};
-ghost use Rattle.tabling.proofs.Uses.{with-use, least, greatest, Spans};
+ghost use Rattle.tabling.proofs.Uses.{with-use, with-via, after-both, least, greatest, heat, Used, Came, Noted, Spans};
+ghost use Rattle.tabling.proofs.Turn.{FirstHot, FirstNew};
+ghost use Rattle.tabling.proofs.Index.{AnswerIndex};
+ghost use Rattle.tabling.proofs.Heat.{with-start, Drawn, Looked, Begun};
+
+// How many numbers there are, and where the parts begin after the first: 65,535 less the least caller; the greatest caller; one more than the
+// answer after which walks come to the record (0 for none, or SEVERAL); the first of its answers that a round looks at; one more than the
+// new answer for which it does, the record's own first where it has any.
+pub const NOTES: usize = 327680;
+
+const GREATEST: usize = 65536;
+
+const VIAS: usize = 131072;
+
+const STARTS: usize = 196608;
+
+const HEATS: usize = 262144;
+
+const SEVERAL: usize = 65535;
+
+// No round looks at part of the answers once there are this many: their numbers and SEVERAL could not be told apart.
+const MOST: usize = 65535;
 
 fn lesser(a: usize, b: usize) -> usize
     ensures { λ r. ⌜ r ≡ min a b ⌝ }
@@ -25,78 +52,293 @@ fn greater(a: usize, b: usize) -> usize
     a
 }
 
-// The numbers of a word: the greatest in its low half, the least, counted down from the highest, in its high half.
-pub struct Bounds {
-    pub least: usize,
-    pub greatest: usize,
+// One of the numbers.
+fn number(uses: &[u16], i: usize) -> usize
+    requires { ⌜ i < length (now uses) ⌝ }
+    ensures { λ r. ⌜ (r ≡ getD (now (uses .entry)) i 0) × (r ≤ 65535) ⌝ }
+{
+    uses[i] as usize
 }
 
-// The callers of record i; none for a number that no record has.
-fn callers_of(uses: &[u32], i: usize) -> Bounds
-    ensures { λ r. ⌜ (r .least ≡ least (getD (now (uses .entry)) i 0)) × (r .greatest ≡ greatest (getD (now (uses .entry)) i 0)) ⌝ }
+// The least number of a record's callers.
+fn least_of(uses: &[u16], i: usize) -> usize
+    requires { ⌜ (length (now uses) ≡ 327680) × (i < 65536) ⌝ }
+    ensures { λ r. ⌜ (r ≡ least (now (uses .entry)) i) × (r ≤ 65535) ⌝ }
 {
-    if i < uses.len() {
-        let word = uses[i] as usize;
-        return Bounds {
-            least: 65535 - word / 65536,
-            greatest: word % 65536,
-        };
-    }
-    Bounds {
-        least: 65535,
-        greatest: 0,
-    }
+    65535 - number(uses, i)
+}
+
+// The greatest.
+fn greatest_of(uses: &[u16], i: usize) -> usize
+    requires { ⌜ (length (now uses) ≡ 327680) × (i < 65536) ⌝ }
+    ensures { λ r. ⌜ (r ≡ greatest (now (uses .entry)) i) × (r ≤ 65535) ⌝ }
+{
+    number(uses, GREATEST + i)
 }
 
 // Notes that a walk of record `row` has come to record `callee`.
-pub fn note(uses: &mut [u32], row: usize, callee: usize)
-    requires { ⌜ (callee < length (now uses)) × (row < 65536) ⌝ }
+fn note_caller(uses: &mut [u16], row: usize, callee: usize)
+    requires { ⌜ (length (now uses) ≡ 327680) × (callee < 65536) × (row < 65536) ⌝ }
     ensures { λ _. ⌜ now (uses .exit) ≡ with-use (now (uses .entry)) row callee ⌝ }
 {
-    let known = callers_of(uses, callee);
-    let low = lesser(known.least, row);
-    let high = greater(known.greatest, row);
-    uses[callee] = ((65535 - low) * 65536 + high) as u32;
+    let low = lesser(least_of(uses, callee), row);
+    let high = greater(greatest_of(uses, callee), row);
+    uses[callee] = (65535 - low) as u16;
+    uses[GREATEST + callee] = high as u16;
 }
 
-// The records that a round looks at: from `low` up to `top`; those from `high` on only if they were never walked.
-pub struct Span {
+// What is noted where walks have come after `was` and now come after `last`.
+fn after_both(was: usize, last: usize) -> usize
+    ensures { λ r. ⌜ r ≡ after-both was last ⌝ }
+{
+    if was == 0 {
+        return lesser(last, SEVERAL);
+    }
+    if was == last {
+        return last;
+    }
+    SEVERAL
+}
+
+// Notes that walks come to record `callee` after the answer `last - 1`.
+fn note_via(uses: &mut [u16], callee: usize, last: usize)
+    requires { ⌜ (length (now uses) ≡ 327680) × (callee < 65536) ⌝ }
+    ensures { λ _. ⌜ now (uses .exit) ≡ with-via (now (uses .entry)) last callee ⌝ }
+{
+    let was = number(uses, VIAS + callee);
+    uses[VIAS + callee] = after_both(was, last) as u16;
+}
+
+// Whether it is noted that a walk of record `row` has come to record `callee` after the answer `last - 1`, or after none.
+fn is_noted(uses: &[u16], row: usize, callee: usize, last: usize) -> bool
+    requires { ⌜ (length (now uses) ≡ 327680) × (callee < 65536) ⌝ }
+    ensures { λ r. ⌜ (r ≡ true → Used (now (uses .entry)) row callee × Came (now (uses .entry)) last callee) ⌝ }
+{
+    if row < least_of(uses, callee) {
+        return false;
+    }
+    if greatest_of(uses, callee) < row {
+        return false;
+    }
+    if last == 0 {
+        return true;
+    }
+    let via = number(uses, VIAS + callee);
+    if via == last {
+        return true;
+    }
+    via == SEVERAL
+}
+
+// Notes that a walk of record `row` has come to record `callee`, after the answer `last - 1` or, where `last` is 0, after none. Most often it
+// is noted already, and nothing is written.
+pub fn note(uses: &mut [u16], row: usize, callee: usize, last: usize)
+    requires { ⌜ (length (now uses) ≡ 327680) × (callee < 65536) × (row < 65536) ⌝ }
+    ensures { λ _. ⌜ Noted (now (uses .entry)) (now (uses .exit)) row last callee ⌝ }
+{
+    if is_noted(uses, row, callee, last) {
+        return;
+    }
+    note_caller(uses, row, callee);
+    if last == 0 {
+        return;
+    }
+    note_via(uses, callee, last);
+}
+
+// Has the round look at the answers of record k from y on, for the new answer `heat - 1`.
+fn put_start(uses: &mut [u16], k: usize, y: usize, heat: usize)
+    requires { ⌜ (length (now uses) ≡ 327680) × (k < 65536) × (y ≤ 65535) × (heat ≤ 65535) ⌝ }
+    ensures { λ _. ⌜ now (uses .exit) ≡ with-start (now (uses .entry)) k y heat ⌝ }
+{
+    uses[STARTS + k] = y as u16;
+    uses[HEATS + k] = heat as u16;
+}
+
+// The callers of all records with answers from `seen` up to `known`: from `low` up to `high`; and up to where a round looks at records.
+pub struct Within {
     pub low: usize,
     pub high: usize,
     pub top: usize,
 }
 
+// Has the round look at the answers from `seen` on, each record from its first of them on, and gives the callers of their records.
+fn look_at_new(
+    uses: &mut [u16],
+    answers: &[u64],
+    seen: usize,
+    known: usize,
+    walked: usize,
+    rows: usize,
+) -> Within
+    requires { ⌜ (19 * known ≤ length (now answers)) × (known ≤ 65536) × (seen ≤ known) × (walked ≤ rows) × (rows ≤ 65536) × (length (now uses) ≡ 327680) ⌝ }
+    requires { ⌜ ((x : ℕ) → x < known → getD (now answers) (19 * x) 0 < 65536) ⌝ }
+    requires { ⌜ ((k : ℕ) → heat (now uses) k ≤ seen) ⌝ }
+    ensures { λ r. ⌜ Spans (answers-in 19 (now (answers .entry)) known) (now (uses .entry)) walked seen known rows (r .low) (r .high) (r .top) ⌝ }
+    ensures { λ _. ⌜ Drawn (answers-in 19 (now (answers .entry)) known) (now (uses .entry)) (now (uses .exit)) seen known seen ⌝ }
+{
+    let mut low = walked;
+    let mut high: usize = 0;
+    let mut x = known;
+    while seen < x {
+        x -= 1;
+        let k = tables::call_of(answers, x) as usize;
+        low = lesser(low, least_of(uses, k));
+        high = greater(high, greatest_of(uses, k) + 1);
+        put_start(uses, k, x, lesser(x + 1, MOST));
+    }
+    if walked < rows {
+        return Within {
+            low,
+            high,
+            top: rows,
+        };
+    }
+    Within {
+        low,
+        high,
+        top: lesser(high, rows),
+    }
+}
+
+// Where x is the first new answer of its record: has the round look at the answer after which walks come to that record, and so on; false
+// where there are several.
+fn look_before(uses: &mut [u16], answers: &[u64], seen: usize, known: usize, x: usize) -> bool
+    requires { ⌜ (19 * known ≤ length (now answers)) × (known < 65535) × (seen ≤ x) × (x < known) × (length (now uses) ≡ 327680) ⌝ }
+    requires { ⌜ ((x : ℕ) → x < known → getD (now answers) (19 * x) 0 < 65536) ⌝ }
+    ensures { λ r. ⌜ ((uses₀ : List ℕ) → Looked (answers-in 19 (now (answers .entry)) known) uses₀ (now (uses .entry)) seen known x true
+        → Looked (answers-in 19 (now (answers .entry)) known) uses₀ (now (uses .exit)) seen known (x + 1) r) × (length (now (uses .exit)) ≡ length (now (uses .entry))) ⌝ }
+{
+    let first = tables::call_of(answers, x) as usize;
+    if number(uses, HEATS + first) != x + 1 {
+        return true;
+    }
+    let mut via = number(uses, VIAS + first);
+    let mut left: usize = 65536;
+    while 0 < left {
+        if via == 0 {
+            return true;
+        }
+        if known < via {
+            return false;
+        }
+        let y = via - 1;
+        let k = tables::call_of(answers, y) as usize;
+        let heat = number(uses, HEATS + k);
+        if seen < heat {
+            let start = lesser(number(uses, STARTS + k), y);
+            put_start(uses, k, start, heat);
+            return true;
+        }
+        via = number(uses, VIAS + k);
+        put_start(uses, k, y, x + 1);
+        left -= 1;
+    }
+    false
+}
+
+// Has the round look at the answers before those from `seen` on; whether all that it has to look at is known.
+fn look_back(uses: &mut [u16], answers: &[u64], seen: usize, known: usize) -> bool
+    requires { ⌜ (19 * known ≤ length (now answers)) × (known < 65535) × (seen ≤ known) × (length (now uses) ≡ 327680) ⌝ }
+    requires { ⌜ ((x : ℕ) → x < known → getD (now answers) (19 * x) 0 < 65536) ⌝ }
+    ensures { λ r. ⌜ Looked (answers-in 19 (now (answers .entry)) known) (now (uses .entry)) (now (uses .exit)) seen known known r ⌝ }
+{
+    let mut x = seen;
+    while x < known {
+        let all = look_before(uses, answers, seen, known, x);
+        if !all {
+            return false;
+        }
+        x += 1;
+    }
+    true
+}
+
+// The first answer of record `row` that the round looks at, or `known`.
+pub fn first_looked(
+    uses: &[u16],
+    answers: &[u64],
+    seen: usize,
+    known: usize,
+    answer_index: &[u16],
+    row: usize,
+) -> usize
+    requires { ⌜ (row < 65536) × (known ≤ 65536) × (length (now uses) ≡ 327680) ⌝ }
+    requires { ⌜ ((m : ℕ) × (known ≤ m) × (19 * m ≤ length (now answers)) × AnswerIndex (answers-in 19 (now answers) m) (now «answer_index»)) ⌝ }
+    ensures { λ r. ⌜ FirstHot (answers-in 19 (now (answers .entry)) known) (now (uses .entry)) seen known row r ⌝ }
+{
+    if number(uses, HEATS + row) <= seen {
+        return known;
+    }
+    let x = number(uses, STARTS + row);
+    if x < known {
+        if tables::call_of(answers, x) == row as u64 {
+            return x;
+        }
+    }
+    index::first_answer(answers, known, answer_index, row)
+}
+
+// The first answer of record `row` from `seen` on, or `known`.
+pub fn first_new(uses: &[u16], answers: &[u64], seen: usize, known: usize, row: usize) -> usize
+    requires { ⌜ (row < 65536) × (19 * known ≤ length (now answers)) × (known ≤ 65536) × (length (now uses) ≡ 327680) ⌝ }
+    ensures { λ r. ⌜ FirstNew (answers-in 19 (now (answers .entry)) known) (now (uses .entry)) seen known row r ⌝ }
+{
+    let heat = number(uses, HEATS + row);
+    if heat <= seen {
+        return known;
+    }
+    let x = heat - 1;
+    if x < known {
+        if tables::call_of(answers, x) == row as u64 {
+            return x;
+        }
+    }
+    known
+}
+
+// The records that a round looks at: from `low` up to `top`; those from `high` on only if they were never walked. The walks of those below
+// `old` may pass over answers: at the last call of a body over those that are not new, and if `warm` over those that the round does not
+// look at.
+pub struct Span {
+    pub low: usize,
+    pub high: usize,
+    pub top: usize,
+    pub old: usize,
+    pub warm: bool,
+}
+
 // The span of a round: all callers of records with answers from `seen` up to `known`, and the records from `walked` on.
 pub fn span_of(
-    uses: &[u32],
+    uses: &mut [u16],
     answers: &[u64],
     seen: usize,
     known: usize,
     walked: usize,
     rows: usize,
 ) -> Span
-    requires { ⌜ (19 * known ≤ length (now answers)) × (known ≤ 65536) × (seen ≤ known) × (walked ≤ rows) × (rows ≤ 65536) ⌝ }
-    ensures { λ r. ⌜ Spans (answers-in 19 (now (answers .entry)) known) (now (uses .entry)) walked seen known rows (r .low) (r .high) (r .top) ⌝ }
+    requires { ⌜ (19 * known ≤ length (now answers)) × (known ≤ 65536) × (seen ≤ known) × (walked ≤ rows) × (rows ≤ 65536) × (length (now uses) ≡ 327680) ⌝ }
+    requires { ⌜ ((x : ℕ) → x < known → getD (now answers) (19 * x) 0 < 65536) ⌝ }
+    requires { ⌜ ((k : ℕ) → heat (now uses) k ≤ seen) ⌝ }
+    ensures { λ r. ⌜ Spans (answers-in 19 (now (answers .entry)) known) (now (uses .exit)) walked seen known rows (r .low) (r .high) (r .top) ⌝ }
+    ensures { λ r. ⌜ Begun (answers-in 19 (now (answers .entry)) known) (now (uses .entry)) (now (uses .exit)) walked seen known (r .old) (r .warm) ⌝ }
 {
-    let mut low = walked;
-    let mut high: usize = 0;
-    let mut x = seen;
-    while x < known {
-        let of = callers_of(uses, tables::call_of(answers, x) as usize);
-        low = lesser(low, of.least);
-        high = greater(high, of.greatest + 1);
-        x += 1;
-    }
-    if walked < rows {
+    let within = look_at_new(uses, answers, seen, known, walked, rows);
+    if known < MOST {
+        let warm = look_back(uses, answers, seen, known);
         return Span {
-            low,
-            high,
-            top: rows,
+            low: within.low,
+            high: within.high,
+            top: within.top,
+            old: walked,
+            warm: warm,
         };
     }
     Span {
-        low,
-        high,
-        top: lesser(high, rows),
+        low: within.low,
+        high: within.high,
+        top: within.top,
+        old: 0,
+        warm: false,
     }
 }

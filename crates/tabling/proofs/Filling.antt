@@ -1,6 +1,6 @@
 -- The invariants of the nest of loops that fills the tables, and what it leaves. Each loop's invariant starts from the tables (marked ₀)
 -- that stood where that loop began. Assumes nothing.
-use Prim.Native.Nat.{ℕ, _+_, _/_, _≤_}
+use Prim.Native.Nat.{ℕ, _+_, _/_, _<_, _≤_}
 use native.Mathlib.Omega.{arith}
 use mathlib.Core.Path.{_≡_, refl, sym, ap, _∙_}
 use mathlib.Core.Bool.{Bool, true, false}
@@ -9,18 +9,20 @@ use mathlib.Core.Logic.{inl}
 use lib.ListN.{length}
 use Rattle.steps.specs.State.{State}
 use Rattle.steps.proofs.EachBelow.{true-not-false}
+use Rattle.steps.proofs.AcceptanceLaws.{AcceptedWords}
 use Rattle.steps.proofs.Deductions.{Does}
 use Rattle.steps.proofs.Tables.{Reached}
 use Rattle.steps.proofs.Rows.{table-full}
-use Rattle.tabling.specs.Records.{Calls, Answers, Bodies, room, bodies-of}
+use Rattle.tabling.specs.Records.{Calls, Answers, Bodies, room, answers-in, bodies-of}
 use Rattle.tabling.proofs.Storage.{CallAt, CallPut, call-stood, call-added, call-no-room}
 use Rattle.tabling.proofs.Growth.{tables}
 use Rattle.tabling.proofs.Justification.{Has}
 use Rattle.tabling.proofs.Evidence.{Among, Valid}
 use Rattle.tabling.proofs.Marks.{Stamped}
 use Rattle.tabling.proofs.Numbers.{number-at}
-use Rattle.tabling.proofs.Turn.{Outgrown, Given}
-use Rattle.tabling.proofs.Uses.{UsesGrew}
+use Rattle.tabling.proofs.Turn.{Outgrown, Given, before}
+use Rattle.tabling.proofs.Walking.{Node}
+use Rattle.tabling.proofs.Uses.{UsesGrew, Spans, Lit, heat}
 use Rattle.tabling.proofs.Rounds.{Round, Rows, Rules, Whole}
 use Rattle.tabling.proofs.Going.{Kept, Indexed, Going, in-words}
 
@@ -32,40 +34,85 @@ pub record Words (calls₀ answers₀ uses₀ calls : List ℕ) (n : ℕ) (call-
   pub indexed : Indexed calls n call-index answers m answer-index
   pub uses-more : UsesGrew uses₀ uses
 
+-- Where a round begins: what the rules and goal are, and what is known of the tables for some roots.
+pub record Standing (rules goal : List ℕ) (first walked seen : ℕ) (calls : List ℕ) (n : ℕ) (call-index answers : List ℕ) (m : ℕ) (answer-index marks : List ℕ) (walk : ℕ) (uses : List ℕ) : Type 0 where
+  pub fluents : ℕ
+  pub actions : ℕ
+  pub accepted : AcceptedWords fluents actions rules goal
+  pub kept : Kept calls n answers m
+  pub indexed : Indexed calls n call-index answers m answer-index
+  pub stamped : Stamped marks walk
+  pub uses-long : length uses ≡ 327680
+  pub stale : (k : ℕ) → heat uses k ≤ seen
+  pub roots : List (ℕ × State)
+  pub round : Round (bodies-of rules goal) (Among roots) first walked seen (in-words calls n answers m) uses
+
+-- What it leaves: where all is closed with the answers that stood then, or there are more calls or answers than places.
+pub record Went (rules goal : List ℕ) (first walked seen : ℕ) (calls₀ : List ℕ) (n₀ : ℕ) (answers₀ : List ℕ) (m₀ : ℕ) (uses₀ : List ℕ)
+    (full : Bool) (calls : List ℕ) (n : ℕ) (call-index answers : List ℕ) (m : ℕ) (answer-index marks : List ℕ) (walk : ℕ) (uses : List ℕ) : Type 0 where
+  pub calls-long : length calls ≡ length calls₀
+  pub answers-long : length answers ≡ length answers₀
+  pub kept : Kept calls n answers m
+  pub indexed : Indexed calls n call-index answers m answer-index
+  pub rows-in : full ≡ false → n₀ ≤ n
+  pub known-in : full ≡ false → m₀ ≤ m
+  pub stamped : full ≡ false → Stamped marks walk
+  pub uses-long : length uses ≡ length uses₀
+  pub stale : (k : ℕ) → heat uses k ≤ m₀
+  pub next : full ≡ false → (roots : List (ℕ × State)) → Round (bodies-of rules goal) (Among roots) first walked seen (in-words calls₀ n₀ answers₀ m₀) uses₀
+      → Round (bodies-of rules goal) (Among roots) first n₀ m₀ (in-words calls n answers m) uses × (n + m ≡ n₀ + m₀ → Whole (bodies-of rules goal) (Among roots) first (in-words calls n answers m))
+  pub outgrown : full ≡ true → (roots : List (ℕ × State)) → Round (bodies-of rules goal) (Among roots) first walked seen (in-words calls₀ n₀ answers₀ m₀) uses₀
+      → Outgrown (bodies-of rules goal) (Among roots) (room 2 (length calls₀)) (room 19 (length answers₀))
+
 module _ (rules goal : List ℕ) (first : ℕ) (calls₀ : List ℕ) (n₀ : ℕ) (answers₀ : List ℕ) (m₀ : ℕ) (uses₀ : List ℕ) where
-  -- the rounds
-  pub record Rounding (walked seen : ℕ) (calls : List ℕ) (n : ℕ) (call-index answers : List ℕ) (m : ℕ) (answer-index marks uses : List ℕ) (walk : ℕ) : Type 0 where
-    pub words : Words calls₀ answers₀ uses₀ calls n call-index answers m answer-index uses
+  -- the rounds, for roots that held at first
+  pub record Rounding (walked seen : ℕ) (calls : List ℕ) (n : ℕ) (call-index answers : List ℕ) (m : ℕ) (answer-index marks : List ℕ) (walk : ℕ) (uses : List ℕ) : Type 0 where
+    pub calls-long : length calls ≡ length calls₀
+    pub answers-long : length answers ≡ length answers₀
+    pub kept : Kept calls n answers m
+    pub indexed : Indexed calls n call-index answers m answer-index
+    pub uses-long : length uses ≡ length uses₀
+    pub stale : (k : ℕ) → heat uses k ≤ seen
     pub stamped : Stamped marks walk
-    pub first-in : first ≤ n
-    pub seen-in : seen ≤ m
     pub round : (roots : List (ℕ × State)) → Valid (bodies-of rules goal) (Among roots) (in-words calls₀ n₀ answers₀ m₀) → Round (bodies-of rules goal) (Among roots) first walked seen (in-words calls n answers m) uses
 
+  -- a round whose answers to look at are noted: nothing is walked yet
+  pub record Begins (walked seen low high top old : ℕ) (warm : Bool) (rows known : ℕ) (calls : List ℕ) (n : ℕ) (call-index answers : List ℕ) (m : ℕ) (answer-index marks uses : List ℕ) (walk : ℕ) : Type 0 where
+    pub words : Words calls₀ answers₀ uses₀ calls n call-index answers m answer-index uses
+    pub stamped : Stamped marks walk
+    pub rows-all : n ≡ rows
+    pub known-all : m ≡ known
+    pub spans : Spans (answers-in 19 answers m) uses walked seen m n low high top
+    pub closed : (roots : List (ℕ × State)) → Round (bodies-of rules goal) (Among roots) first walked seen (in-words calls₀ n₀ answers₀ m₀) uses₀
+        → ((r : ℕ) → r < old → (r < walked) × Lit (in-words calls₀ n₀ answers₀ m₀ .answers) uses₀ seen known warm)
+        → Round (bodies-of rules goal) (Among roots) first walked seen (in-words calls n answers m) uses × ((r : ℕ) → r < old → (r < walked) × Lit (in-words calls n answers m .answers) uses seen m warm)
+
   -- the call records of a round
-  pub record RowsDone (walked seen low high top rows known row : ℕ) (calls : List ℕ) (n : ℕ) (call-index answers : List ℕ) (m : ℕ) (answer-index marks uses : List ℕ) (walk : ℕ) : Type 0 where
+  pub record RowsDone (walked seen low high top old : ℕ) (warm : Bool) (rows known row : ℕ) (calls : List ℕ) (n : ℕ) (call-index answers : List ℕ) (m : ℕ) (answer-index marks uses : List ℕ) (walk : ℕ) : Type 0 where
     pub words : Words calls₀ answers₀ uses₀ calls n call-index answers m answer-index uses
     pub stamped : Stamped marks walk
     pub row-in : row ≤ rows
     pub rows-in : rows ≤ n
     pub known-in : known ≤ m
     pub closed : (roots : List (ℕ × State)) → Round (bodies-of rules goal) (Among roots) first walked seen (in-words calls₀ n₀ answers₀ m₀) uses₀
-        → Rows (bodies-of rules goal) (Among roots) first walked seen low high top rows known row (in-words calls n answers m) uses
+        → ((r : ℕ) → r < old → (r < walked) × Lit (in-words calls₀ n₀ answers₀ m₀ .answers) uses₀ seen known warm)
+        → Rows (bodies-of rules goal) (Among roots) first walked seen low high top old warm rows known row uses₀ (in-words calls n answers m) uses
 
   -- the rules of a call record
-  pub record RulesDone (walked seen low high top rows known row rule : ℕ) (calls : List ℕ) (n : ℕ) (call-index answers : List ℕ) (m : ℕ) (answer-index marks uses : List ℕ) (walk : ℕ) : Type 0 where
+  pub record RulesDone (walked seen low high top old : ℕ) (warm : Bool) (rows known row rule : ℕ) (calls : List ℕ) (n : ℕ) (call-index answers : List ℕ) (m : ℕ) (answer-index marks uses : List ℕ) (walk : ℕ) : Type 0 where
     pub words : Words calls₀ answers₀ uses₀ calls n call-index answers m answer-index uses
     pub stamped : Stamped marks walk
     pub rule-in : rule ≤ length rules / 18 + 1
     pub rows-in : rows ≤ n
     pub known-in : known ≤ m
-    pub closed : (roots : List (ℕ × State)) → Rows (bodies-of rules goal) (Among roots) first walked seen low high top rows known row (in-words calls₀ n₀ answers₀ m₀) uses₀
-        → Rules (bodies-of rules goal) (Among roots) (number-at (length rules / 18)) first walked seen low high top rows known row rule (in-words calls n answers m) uses
+    pub closed : (roots : List (ℕ × State)) (notes : List ℕ) → Rows (bodies-of rules goal) (Among roots) first walked seen low high top old warm rows known row notes (in-words calls₀ n₀ answers₀ m₀) uses₀
+        → Rules (bodies-of rules goal) (Among roots) (number-at (length rules / 18)) first walked seen low high top old warm rows known row rule notes (in-words calls n answers m) uses
 
   -- the walk of a body
-  pub record Walked (known number row walk : ℕ) (body : List ℕ) (calls : List ℕ) (n : ℕ) (call-index answers : List ℕ) (m : ℕ) (answer-index marks uses chosen rest : List ℕ) (s : State) : Type 0 where
+  pub record Walked (known number row walk old seen : ℕ) (warm : Bool) (body : List ℕ) (calls : List ℕ) (n : ℕ) (call-index answers : List ℕ) (m : ℕ) (answer-index marks uses chosen rest : List ℕ) (s : Node) : Type 0 where
     pub words : Words calls₀ answers₀ uses₀ calls n call-index answers m answer-index uses
-    pub going : (roots : List (ℕ × State)) → Given (bodies-of rules goal) (Among roots) (in-words calls₀ n₀ answers₀ m₀) known number row body
-        → Going (bodies-of rules goal) (Among roots) (in-words calls₀ n₀ answers₀ m₀) known number row walk body (in-words calls n answers m) marks uses chosen rest s
+    pub going : (roots : List (ℕ × State)) (notes : List ℕ) → Given (bodies-of rules goal) (Among roots) (in-words calls₀ n₀ answers₀ m₀) known number row (before first old seen warm notes) body → UsesGrew notes uses₀
+        → Going (bodies-of rules goal) (Among roots) (in-words calls₀ n₀ answers₀ m₀) known number row walk (before first old seen warm notes) body (in-words calls n answers m) marks uses chosen rest s
 
 -- Every record from `first` on is closed under all answers, or there are more calls or answers than places.
 pub record Filled (rules goal : List ℕ) (roots : List (ℕ × State)) (first : ℕ) (calls answers calls′ answers′ : List ℕ) (full : Bool) (n m : ℕ) : Type 0 where

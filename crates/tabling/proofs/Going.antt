@@ -2,16 +2,20 @@
 use Prim.Native.Nat.{ℕ, _+_, _-_, _<_, _≤_}
 use native.Mathlib.Omega.{arith}
 use mathlib.Core.Path.{_≡_, refl, ap, _∙_}
+use mathlib.Core.Bool.{false}
 use mathlib.Core.List.{List}
 use lib.ListN.{length, getD, set, take, drop, length-drop}
 use lib.Seq.{getD-drop, getD-set-same, getD-set-other, take-all, drop-drop}
 use Rattle.steps.specs.State.{State}
+use Rattle.steps.specs.Words.{is-call}
 use Rattle.tabling.specs.Records.{Bodies, calls-in, answers-in}
 use Rattle.tabling.proofs.Storage.{Stored, NextAnswer}
 use Rattle.tabling.proofs.Growth.{Tables, tables}
 use Rattle.tabling.proofs.Index.{CallIndex, AnswerIndex}
 use Rattle.tabling.proofs.Measure.{left, left-back}
-use Rattle.tabling.proofs.Turn.{RetreatRow, Turning, Turned, Over, turned-over, turned-take}
+use Rattle.tabling.proofs.Walking.{Node}
+use Rattle.tabling.proofs.Cold.{Last}
+use Rattle.tabling.proofs.Turn.{Before, Picked, of-all, of-looked, of-new, RetreatRow, Turning, Turned, Over, turned-over, turned-take}
 
 -- Both tables in their words.
 abbrev pub in-words : List ℕ → ℕ → List ℕ → ℕ → Tables
@@ -30,14 +34,19 @@ pub record Indexed (calls : List ℕ) (n : ℕ) (call-index answers : List ℕ) 
 pub next-among : (words : List ℕ) {k known row from r : ℕ} (m : ℕ) → NextAnswer (answers-in 19 words k) known row from r → NextAnswer (answers-in 19 words m) known row from r
 next-among words m n = record { low = n .low; high = n .high; skipped = n .skipped; found = n .found }
 
+pub picked-among : (words : List ℕ) {uses body chosen : List ℕ} {P : Before} {k known row at r j : ℕ} (m : ℕ) → Picked (answers-in 19 words k) uses known row P body chosen at r j → Picked (answers-in 19 words m) uses known row P body chosen at r j
+picked-among words m (of-all n) = of-all (next-among words m n)
+picked-among words m (of-looked o w e f) = of-looked o w e (record { high = f .high; found = f .found; skipped = f .skipped })
+picked-among words m (of-new o w l f) = of-new o w l (record { high = f .high; found = f .found; skipped = f .skipped })
+
 pub retreat-among : (words : List ℕ) {body chosen : List ℕ} {k known at r j : ℕ} (m : ℕ) → RetreatRow body (answers-in 19 words k) known chosen at r j → RetreatRow body (answers-in 19 words m) known chosen at r j
 retreat-among words m R = record { low = R .low; spent = R .spent; found = λ p e. let (c, l, n) = R .found p e in (c, l, next-among words m n) }
 
 -- What the code leaves where it goes back.
-pub record WentBack (body answers : List ℕ) (known : ℕ) (chosen : List ℕ) (at : ℕ) (chosen′ : List ℕ) (r : ℕ) (s : State) : Type 0 where
+pub record WentBack (body answers : List ℕ) (known : ℕ) (chosen : List ℕ) (at : ℕ) (chosen′ : List ℕ) (r : ℕ) (s : Node) : Type 0 where
   pub j : ℕ
   pub row : RetreatRow body (answers-in 19 answers known) known chosen at r j
-  pub taken : (p : ℕ) → r ≡ p + 1 → (chosen′ ≡ set chosen p j) × (s ≡ answers-in 19 answers known .final j)
+  pub taken : (p : ℕ) → r ≡ p + 1 → (chosen′ ≡ set chosen p j) × (s ≡ (answers-in 19 answers known .final j, j + 1))
 
 -- ---- the tail
 
@@ -51,39 +60,45 @@ module _ (rest body : List ℕ) (at : ℕ) (q : rest ≡ drop at body) where
   pub tail-word : getD rest 0 0 ≡ getD body at 0
   tail-word = ap (λ (l : List ℕ). getD l 0 0) q ∙ getD-drop at body 0 0 ∙ ap (λ (i : ℕ). getD body i 0) (omega arith)
 
+  -- no call comes after the step in front
+  pub tail-last : ((p : ℕ) → 0 < p → p < length rest → is-call (getD rest p 0) ≡ false) → Last body at
+  tail-last n p l h =
+      let e : getD rest (p - at) 0 ≡ getD body p 0 = ap (λ (w : List ℕ). getD w (p - at) 0) q ∙ getD-drop at body (p - at) 0 ∙ ap (λ (i : ℕ). getD body i 0) (omega arith) in
+      rw (← e) (n (p - at) (omega arith) (omega (arith, ap length q, length-drop at body)))
+
 whole-tail : (body : List ℕ) (p : ℕ) {rest : List ℕ} → rest ≡ take (length body - p) (drop p body) → rest ≡ drop p body
 whole-tail body p e = e ∙ take-all (length body - p) (drop p body) (omega (arith, length-drop p body))
 
-module _ (bodies : Bodies) (Root : ℕ → State → Type 0) (b : Tables) (known rule row walk : ℕ) (body : List ℕ) where
+module _ (bodies : Bodies) (Root : ℕ → State → Type 0) (b : Tables) (known rule row walk : ℕ) (P : Before) (body : List ℕ) where
   -- The walk whose steps still to do are `rest`.
-  pub record Going (t : Tables) (marks uses chosen rest : List ℕ) (s : State) : Type 0 where
+  pub record Going (t : Tables) (marks uses chosen rest : List ℕ) (s : Node) : Type 0 where
     pub tail : rest ≡ drop (length body - length rest) body
-    pub turning : Turning bodies Root b known rule row walk body t marks uses chosen (length body - length rest) s
+    pub turning : Turning bodies Root b known rule row walk P body t marks uses chosen (length body - length rest) s
 
-  pub going-start : {t : Tables} {marks uses chosen : List ℕ} {s : State} → Turning bodies Root b known rule row walk body t marks uses chosen 0 s → Going t marks uses chosen body s
+  pub going-start : {t : Tables} {marks uses chosen : List ℕ} {s : Node} → Turning bodies Root b known rule row walk P body t marks uses chosen 0 s → Going t marks uses chosen body s
   going-start T = let z : length body - length body ≡ 0 = omega arith in record { tail = rw z refl; turning = rw z T }
 
-  module _ {t : Tables} {marks uses chosen rest : List ℕ} {s : State} where
+  module _ {t : Tables} {marks uses chosen rest : List ℕ} {s : Node} where
     pub going-fits : Going t marks uses chosen rest s → length rest ≤ length body
     going-fits g = omega (arith, ap length (g .tail), length-drop (length body - length rest) body)
 
     -- the place at which a tail begins
-    place-of : (p : ℕ) → Turning bodies Root b known rule row walk body t marks uses chosen p s → rest ≡ drop p body → length body - length rest ≡ p
+    place-of : (p : ℕ) → Turning bodies Root b known rule row walk P body t marks uses chosen p s → rest ≡ drop p body → length body - length rest ≡ p
     place-of p T e = let i : p ≤ length body = T .walking .inside in omega (arith, ap length e, length-drop p body)
 
-    going-at : (p : ℕ) → Turning bodies Root b known rule row walk body t marks uses chosen p s → rest ≡ drop p body → Going t marks uses chosen rest s
+    going-at : (p : ℕ) → Turning bodies Root b known rule row walk P body t marks uses chosen p s → rest ≡ drop p body → Going t marks uses chosen rest s
     going-at p T e = let z = place-of p T e in record { tail = rw z e; turning = rw z T }
 
     -- `&body[p..]`
-    pub going-back : (p : ℕ) → Turning bodies Root b known rule row walk body t marks uses chosen p s → rest ≡ take (length body - p) (drop p body) → Going t marks uses chosen rest s
+    pub going-back : (p : ℕ) → Turning bodies Root b known rule row walk P body t marks uses chosen p s → rest ≡ take (length body - p) (drop p body) → Going t marks uses chosen rest s
     going-back p T e = going-at p T (whole-tail body p e)
 
-    pub back-less : {l : ℕ} (p : ℕ) → Turning bodies Root b known rule row walk body t marks uses chosen p s → rest ≡ take (length body - p) (drop p body) → left known chosen p < l → left known chosen (length body - length rest) < l
+    pub back-less : {l : ℕ} (p : ℕ) → Turning bodies Root b known rule row walk P body t marks uses chosen p s → rest ≡ take (length body - p) (drop p body) → left known chosen p < l → left known chosen (length body - length rest) < l
     back-less p T e h = rw (place-of p T (whole-tail body p e)) h
 
   -- `&rest[1..]`
-  module _ {t u : Tables} {marks uses chosen marks′ uses′ chosen′ rest rest′ : List ℕ} {s s′ : State} (g : Going t marks uses chosen rest s)
-      (T : Turning bodies Root b known rule row walk body u marks′ uses′ chosen′ (length body - length rest + 1) s′) (e : rest′ ≡ take (length rest - 1) (drop 1 rest)) where
+  module _ {t u : Tables} {marks uses chosen marks′ uses′ chosen′ rest rest′ : List ℕ} {s s′ : Node} (g : Going t marks uses chosen rest s)
+      (T : Turning bodies Root b known rule row walk P body u marks′ uses′ chosen′ (length body - length rest + 1) s′) (e : rest′ ≡ take (length rest - 1) (drop 1 rest)) where
     next-tail : rest′ ≡ drop (length body - length rest + 1) body
     next-tail = e ∙ take-all (length rest - 1) (drop 1 rest) (omega (arith, length-drop 1 rest)) ∙ ap (drop 1) (g .tail) ∙ drop-drop 1 (length body - length rest) body
 
@@ -94,12 +109,12 @@ module _ (bodies : Bodies) (Root : ℕ → State → Type 0) (b : Tables) (known
     on-less h = rw (place-of (length body - length rest + 1) T next-tail) h
 
   -- ---- back
-  module _ (calls : List ℕ) (n : ℕ) (answers : List ℕ) (m : ℕ) {marks uses chosen chosen′ : List ℕ} {at r : ℕ} {s s′ : State} (T : Turned bodies Root b known rule row walk body (in-words calls n answers m) marks uses chosen at s)
+  module _ (calls : List ℕ) (n : ℕ) (answers : List ℕ) (m : ℕ) {marks uses chosen chosen′ : List ℕ} {at r : ℕ} {s s′ : Node} (T : Turned bodies Root b known rule row walk P body (in-words calls n answers m) marks uses chosen at s)
       (w : WentBack body answers known chosen at chosen′ r s′) where
-    pub went-over : r ≡ 0 → Over bodies Root b known rule row walk body (in-words calls n answers m) marks uses
-    went-over e = turned-over bodies Root b known rule row walk body T (rw e at (retreat-among answers m (w .row)))
+    pub went-over : r ≡ 0 → Over bodies Root b known rule row walk P body (in-words calls n answers m) marks uses
+    went-over e = turned-over bodies Root b known rule row walk P body T (rw e at (retreat-among answers m (w .row)))
 
-    pub went-on : (p : ℕ) → r ≡ p + 1 → Turning bodies Root b known rule row walk body (in-words calls n answers m) marks uses chosen′ r s′ × (left known chosen′ r < left known chosen at)
+    pub went-on : (p : ℕ) → r ≡ p + 1 → Turning bodies Root b known rule row walk P body (in-words calls n answers m) marks uses chosen′ r s′ × (left known chosen′ r < left known chosen at)
     went-on p e =
         let (c, f) = w .taken p e in
         let R = retreat-among answers m (w .row) in
@@ -108,7 +123,7 @@ module _ (bodies : Bodies) (Root : ℕ → State → Type 0) (b : Tables) (known
         let (call, i, nx) = R .found p e in
         let low : p < 16 = omega (arith, R .low, T .turning .chosen-long, T .turning .walking .inside, short) in
         let len : p < length chosen = omega (arith, T .turning .chosen-long) in (
-          rw (e, c, f) (turned-take bodies Root b known rule row walk body T p R′),
+          rw (e, c, f) (turned-take bodies Root b known rule row walk P body T p R′),
           rw (e, c) (left-back known chosen (set chosen p (w .j)) at p (λ q l. getD-set-other chosen p q (w .j) 0 (omega arith)) low (omega (arith, R .low))
               (rw (getD-set-same chosen p (w .j) 0 len) (omega (arith, nx .low))) (rw (getD-set-same chosen p (w .j) 0 len) i)),
         )

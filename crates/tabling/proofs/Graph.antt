@@ -1,5 +1,5 @@
 -- A body's steps as a layered graph: the search's moves there, and what a swept body is closed under. Assumes nothing.
-use Prim.Native.Nat.{ℕ, suc, _<_, _≤_}
+use Prim.Native.Nat.{ℕ, suc, _+_, _<_, _≤_}
 use native.Mathlib.Omega.{arith}
 use mathlib.Core.Path.{_≡_, refl, sym, ap, subst, _∙_}
 use mathlib.Core.List.{List, [], _∷_}
@@ -30,6 +30,29 @@ module _ {St Call : Type 0} where
   leads-once of final stuck x l l′ = absurd l
   leads-once of final (goes u) x l l′ = sym (l .1) ∙ l′ .1
   leads-once of final (calls c) x l l′ = sym (l .1) ∙ l′ .1
+
+module _ {St Call : Type 0} where
+  -- the same in a state with a number, which an elementary step keeps
+  abbrev pub numbered : Front St Call → ℕ → Front (St × ℕ) (Call × ℕ)
+  numbered stuck l = stuck
+  numbered (goes t) l = goes (t, l)
+  numbered (calls c) l = calls (c, l)
+
+module _ {St Call : Type 0} where
+  pub leads-plain : (of : Call → ℕ → Type 0) (final : ℕ → St) (f : Front St Call) (l x : ℕ) (u : St × ℕ) → Leads (λ (c : Call × ℕ) (y : ℕ). of (c .0) y) (λ (y : ℕ). (final y, y + 1)) (numbered f l) x u → Leads of final f x (u .0)
+  leads-plain of final stuck l x u e = e
+  leads-plain of final (goes t) l x u (z, e) = (z, ap (λ (v : St × ℕ). v .0) e)
+  leads-plain of final (calls c) l x u (o, e) = (o, ap (λ (v : St × ℕ). v .0) e)
+
+  pub leads-numbered : (of : Call → ℕ → Type 0) (final : ℕ → St) (f : Front St Call) (l x : ℕ) (t : St) → Leads of final f x t → (k : ℕ) × Leads (λ (c : Call × ℕ) (y : ℕ). of (c .0) y) (λ (y : ℕ). (final y, y + 1)) (numbered f l) x (t, k)
+  leads-numbered of final stuck l x t e = (0, e)
+  leads-numbered of final (goes u) l x t (z, e) = (l, (z, λ i. (e i, l)))
+  leads-numbered of final (calls c) l x t (o, e) = (x + 1, (o, λ i. (e i, x + 1)))
+
+  pub known-plain : (C : Call → Type 0) (C′ : Call × ℕ → Type 0) → ((c : Call × ℕ) → C′ c → C (c .0)) → (f : Front St Call) (l : ℕ) → Known C′ (numbered f l) → Known C f
+  known-plain C C′ up stuck l k = k
+  known-plain C C′ up (goes t) l k = k
+  known-plain C C′ up (calls c) l k = up (c, l) k
 
 -- `of c x`: the answer x is of the call c and may be used; `final x` is its state.
 module _ {Step St Call : Type 0} (front : Step → St → Front St Call) (of : Call → ℕ → Type 0) (final : ℕ → St) (d : Step) (body : List Step) where

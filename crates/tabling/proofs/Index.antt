@@ -1,7 +1,7 @@
 -- Indexes of the tables: from a bucket the latest record of it and from each record the one before it of the same bucket; from a call record
 -- its first and its last answer and from each answer the next of the same call record. What an index says is checked against the records
 -- where it is used, so it says nothing of a bucket or a call record without any. Assumes nothing.
-use Prim.Native.Nat.{ℕ, _+_, _*_, _%_, _<_, _≤_}
+use Prim.Native.Nat.{ℕ, _+_, _*_, _/_, _%_, _<_, _≤_}
 use native.Mathlib.Omega.{arith}
 use native.Mathlib.Decide.{ℕ-discrete}
 use native.Mathlib.Nat.{mul-add, mul-le-mul-left}
@@ -17,21 +17,21 @@ use Rattle.tabling.proofs.Storage.{CallAt, FindCall, CallAdded, FindAns
 
 -- The bucket of a record, by its first two words.
 unfoldable pub bucket : ℕ → ℕ → ℕ
-bucket a s = (s % 65521 + a % 65536 * 1021) % 65536
+bucket a s = (s % 65521 + a % 65536 * 1021) % 65536 * 7 / 8
 
-pub bucket-small : (a s : ℕ) → bucket a s < 65536
+pub bucket-small : (a s : ℕ) → bucket a s < 57344
 unfolding bucket
 bucket-small a s = omega arith
 
 -- ---- records by their keys
 
--- Of each key that some record has, the latest record.
-abbrev pub Latest : (ℕ → ℕ) → ℕ → (ℕ → ℕ) → Type 0
-Latest key n latest = (k j : ℕ) → k < 65536 → j < n → key j ≡ k → (latest k < n) × (key (latest k) ≡ k) × (j ≤ latest k)
+-- Of each key below `most` that some record has, the latest record.
+abbrev pub Latest : ℕ → (ℕ → ℕ) → ℕ → (ℕ → ℕ) → Type 0
+Latest most key n latest = (k j : ℕ) → k < most → j < n → key j ≡ k → (latest k < n) × (key (latest k) ≡ k) × (j ≤ latest k)
 
 -- A record more of key k is the latest of it.
-module _ (key key′ latest latest′ : ℕ → ℕ) (n k : ℕ) where
-  latest-more : Latest key n latest → ((i : ℕ) → i < n → key′ i ≡ key i) → key′ n ≡ k → latest′ k ≡ n → ((i : ℕ) → i < 65536 → i ≢ k → latest′ i ≡ latest i) → Latest key′ (n + 1) latest′
+module _ (most : ℕ) (key key′ latest latest′ : ℕ → ℕ) (n k : ℕ) where
+  latest-more : Latest most key n latest → ((i : ℕ) → i < n → key′ i ≡ key i) → key′ n ≡ k → latest′ k ≡ n → ((i : ℕ) → i < most → i ≢ k → latest′ i ≡ latest i) → Latest most key′ (n + 1) latest′
   latest-more c kept new top latest-kept h j s l e = by (ℕ-discrete h k)
     where
       by : Dec (h ≡ k) → (latest′ h < n + 1) × (key′ (latest′ h) ≡ h) × (j ≤ latest′ h)
@@ -47,7 +47,7 @@ module _ (key key′ latest latest′ : ℕ → ℕ) (n k : ℕ) where
 
 -- From a key's head the links lead to all records of that key, the latest first.
 pub record Covers (key : ℕ → ℕ) (n : ℕ) (heads links : ℕ → ℕ) : Type 0 where
-  pub head : Latest key n heads
+  pub head : Latest 57344 key n heads
   pub link : (i j : ℕ) → i < n → j < i → key j ≡ key i → (links i < i) × (key (links i) ≡ key i) × (j ≤ links i)
 
 pub covers-none : (key : ℕ → ℕ) (n : ℕ) (heads links : ℕ → ℕ) → n ≡ 0 → Covers key n heads links
@@ -55,10 +55,10 @@ covers-none key n heads links e = record { head = λ k j s l. absurd (omega arit
 
 -- A record more of key k: it is k's head, and its link is the head that k had.
 module _ (key key′ heads heads′ links links′ : ℕ → ℕ) (n k : ℕ) where
-  pub covers-more : Covers key n heads links → ((i : ℕ) → i < n → key′ i ≡ key i) → key′ n ≡ k → k < 65536
-      → heads′ k ≡ n → ((i : ℕ) → i < 65536 → i ≢ k → heads′ i ≡ heads i)
+  pub covers-more : Covers key n heads links → ((i : ℕ) → i < n → key′ i ≡ key i) → key′ n ≡ k → k < 57344
+      → heads′ k ≡ n → ((i : ℕ) → i < 57344 → i ≢ k → heads′ i ≡ heads i)
       → links′ n ≡ heads k → ((i : ℕ) → i < n → links′ i ≡ links i) → Covers key′ (n + 1) heads′ links′
-  covers-more c kept new small top heads-kept before links-kept = record { head = latest-more key key′ heads heads′ n k (c .head) kept new top heads-kept; link = λ i j l b e. by-link i j l b e (ℕ-discrete i n) }
+  covers-more c kept new small top heads-kept before links-kept = record { head = latest-more 57344 key key′ heads heads′ n k (c .head) kept new top heads-kept; link = λ i j l b e. by-link i j l b e (ℕ-discrete i n) }
     where
       by-link : (i j : ℕ) → i < n + 1 → j < i → key′ j ≡ key′ i → Dec (i ≡ n) → (links′ i < i) × (key′ (links′ i) ≡ key′ i) × (j ≤ links′ i)
       by-link i j l b e (yes z) =
@@ -77,7 +77,7 @@ module _ (key key′ heads heads′ links links′ : ℕ → ℕ) (n k : ℕ) wh
 
 pub record Queued (call : ℕ → ℕ) (m : ℕ) (firsts lasts nexts : ℕ → ℕ) : Type 0 where
   pub first : (row y : ℕ) → row < 65536 → y < m → call y ≡ row → (firsts row < m) × (call (firsts row) ≡ row) × (firsts row ≤ y)
-  pub last : Latest call m lasts
+  pub last : Latest 65536 call m lasts
   pub next : (x y : ℕ) → x < y → y < m → call y ≡ call x → (x < nexts x) × (nexts x < m) × (call (nexts x) ≡ call x) × (nexts x ≤ y)
 
 pub queued-none : (call : ℕ → ℕ) (m : ℕ) (firsts lasts nexts : ℕ → ℕ) → m ≡ 0 → Queued call m firsts lasts nexts
@@ -87,8 +87,8 @@ queued-none call m firsts lasts nexts e = record { first = λ r y s l. absurd (o
 module _ (call call′ firsts firsts′ lasts lasts′ nexts nexts′ : ℕ → ℕ) (m row : ℕ) (q : Queued call m firsts lasts nexts)
     (kept : (y : ℕ) → y < m → call′ y ≡ call y) (new : call′ m ≡ row) (small : row < 65536)
     (end : lasts′ row ≡ m) (lasts-kept : (r : ℕ) → r < 65536 → r ≢ row → lasts′ r ≡ lasts r) where
-  last-more : Latest call′ (m + 1) lasts′
-  last-more = latest-more call call′ lasts lasts′ m row (q .last) kept new end lasts-kept
+  last-more : Latest 65536 call′ (m + 1) lasts′
+  last-more = latest-more 65536 call call′ lasts lasts′ m row (q .last) kept new end lasts-kept
 
   module _ (held : lasts row < m) (of-row : call (lasts row) ≡ row) (firsts-kept : (r : ℕ) → r < 65536 → firsts′ r ≡ firsts r)
       (joined : nexts′ (lasts row) ≡ m) (nexts-kept : (x : ℕ) → x < m → x ≢ lasts row → nexts′ x ≡ nexts x) where
@@ -182,7 +182,7 @@ Sought calls a D i = (j : ℕ) → j < calls .count → CallAt calls j a D → R
 
 -- The records of a table by their first two words, in the first words of an index.
 abbrev pub Keyed : Calls → List ℕ → Type 0
-Keyed calls index = Covers (λ i. bucket (calls .action i) (calls .state i)) (calls .count) (λ k. getD index k 0) (λ i. getD index (65536 + i) 0)
+Keyed calls index = Covers (λ i. bucket (calls .action i) (calls .state i)) (calls .count) (λ k. getD index k 0) (λ i. getD index (57344 + i) 0)
 
 module _ (calls : Calls) (a : ℕ) (D : State) (index : List ℕ) where
   key-of : (j : ℕ) → CallAt calls j a D → bucket (calls .action j) (calls .state j) ≡ bucket a D
@@ -193,7 +193,7 @@ module _ (calls : Calls) (a : ℕ) (D : State) (index : List ℕ) where
 
   -- where record i is another, its link goes back and leads to them too
   pub sought-link : Keyed calls index → (i : ℕ) → Sought calls a D i → (CallAt calls i a D → ⊥)
-      → (j : ℕ) → j < calls .count → CallAt calls j a D → (getD index (65536 + i) 0 < i) × Reaches calls a D j (getD index (65536 + i) 0)
+      → (j : ℕ) → j < calls .count → CallAt calls j a D → (getD index (57344 + i) 0 < i) × Reaches calls a D j (getD index (57344 + i) 0)
   sought-link c i s not-here j l h =
       let (m, k, b) = s j l h in
       let other : j ≢ i = λ z. not-here (rw z at h) in
@@ -255,51 +255,51 @@ module _ (answers : Answers) (m known : ℕ) (firsts lasts nexts : ℕ → ℕ) 
 
 -- ---- the words of an index
 
--- The index of a table of calls: 65,536 heads, then 65,536 links.
+-- The index of a table of calls: 57,344 heads, then 65,536 links.
 pub record CallIndex (calls : Calls) (index : List ℕ) : Type 0 where
-  pub long : length index ≡ 131072
+  pub long : length index ≡ 122880
   pub covers : Keyed calls index
 
--- The index of a table of answers: heads, links, firsts, lasts and nexts, 65,536 of each.
+-- The index of a table of answers: 57,344 heads, then 65,536 links, firsts, lasts and nexts each.
 pub record AnswerIndex (answers : Answers) (index : List ℕ) : Type 0 where
-  pub long : length index ≡ 327680
-  pub covers : Covers (λ x. bucket (answers .call x) (answers .final x)) (answers .count) (λ k. getD index k 0) (λ x. getD index (65536 + x) 0)
-  pub queued : Queued (answers .call) (answers .count) (λ r. getD index (131072 + r) 0) (λ r. getD index (196608 + r) 0) (λ x. getD index (262144 + x) 0)
+  pub long : length index ≡ 319488
+  pub covers : Covers (λ x. bucket (answers .call x) (answers .final x)) (answers .count) (λ k. getD index k 0) (λ x. getD index (57344 + x) 0)
+  pub queued : Queued (answers .call) (answers .count) (λ r. getD index (122880 + r) 0) (λ r. getD index (188416 + r) 0) (λ x. getD index (253952 + x) 0)
 
 -- Any words are an index of a table without records.
-pub call-index-none : (calls : Calls) (index : List ℕ) → calls .count ≡ 0 → length index ≡ 131072 → CallIndex calls index
+pub call-index-none : (calls : Calls) (index : List ℕ) → calls .count ≡ 0 → length index ≡ 122880 → CallIndex calls index
 call-index-none calls index e long = record { long = long; covers = covers-none _ _ _ _ e }
 
-pub answer-index-none : (answers : Answers) (index : List ℕ) → answers .count ≡ 0 → length index ≡ 327680 → AnswerIndex answers index
+pub answer-index-none : (answers : Answers) (index : List ℕ) → answers .count ≡ 0 → length index ≡ 319488 → AnswerIndex answers index
 answer-index-none answers index e long = record { long = long; covers = covers-none _ _ _ _ e; queued = queued-none _ _ _ _ _ e }
 
 -- The words with record n noted as the latest of bucket k.
 unfoldable pub noted : List ℕ → ℕ → ℕ → List ℕ
-noted index k n = set (set index (65536 + n) (getD index k 0)) k n
+noted index k n = set (set index (57344 + n) (getD index k 0)) k n
 
 pub noted-long : (index : List ℕ) (k n : ℕ) → length (noted index k n) ≡ length index
 unfolding noted
 noted-long index k n = simp length-set
 
-module _ (index : List ℕ) (k n : ℕ) (small : k < 65536) (long : 65536 + n < length index) where
+module _ (index : List ℕ) (k n : ℕ) (small : k < 57344) (long : 57344 + n < length index) where
   noted-head : getD (noted index k n) k 0 ≡ n
   unfolding noted
-  noted-head = getD-set-same (set index (65536 + n) (getD index k 0)) k n 0 (simp length-set (omega arith))
+  noted-head = getD-set-same (set index (57344 + n) (getD index k 0)) k n 0 (simp length-set (omega arith))
 
-  noted-link : getD (noted index k n) (65536 + n) 0 ≡ getD index k 0
+  noted-link : getD (noted index k n) (57344 + n) 0 ≡ getD index k 0
   unfolding noted
-  noted-link = getD-set-other (set index (65536 + n) (getD index k 0)) k (65536 + n) n 0 (omega arith) ∙ getD-set-same index (65536 + n) (getD index k 0) 0 long
+  noted-link = getD-set-other (set index (57344 + n) (getD index k 0)) k (57344 + n) n 0 (omega arith) ∙ getD-set-same index (57344 + n) (getD index k 0) 0 long
 
-  noted-other : (i : ℕ) → i ≢ k → i ≢ 65536 + n → getD (noted index k n) i 0 ≡ getD index i 0
+  noted-other : (i : ℕ) → i ≢ k → i ≢ 57344 + n → getD (noted index k n) i 0 ≡ getD index i 0
   unfolding noted
-  noted-other i d e = getD-set-other (set index (65536 + n) (getD index k 0)) k i n 0 d ∙ getD-set-other index (65536 + n) i (getD index k 0) 0 e
+  noted-other i d e = getD-set-other (set index (57344 + n) (getD index k 0)) k i n 0 d ∙ getD-set-other index (57344 + n) i (getD index k 0) 0 e
 
 pub call-index-more : {calls calls′ : Calls} {a k : ℕ} {D : State} {index index′ : List ℕ} → CallIndex calls index → CallAdded calls a D calls′ → calls .count < 65536
     → k ≡ bucket a D → index′ ≡ noted index k (calls .count) → CallIndex calls′ index′
 call-index-more {calls} {calls′} {a} {k} {D} {index} {index′} c p few e z =
     let n = calls .count in
-    let s : k < 65536 = omega (arith, bucket-small a D) in
-    let inside : 65536 + n < length index = omega (arith, c .long) in
+    let s : k < 57344 = omega (arith, bucket-small a D) in
+    let inside : 57344 + n < length index = omega (arith, c .long) in
     rw z (record {
       long = noted-long index k n ∙ c .long;
       covers = rw (p .count) (covers-more _ _ _ _ _ _ n k (c .covers)
@@ -308,77 +308,77 @@ call-index-more {calls} {calls′} {a} {k} {D} {index} {index′} c p few e z =
           (noted-head index k n s inside)
           (λ i l d. noted-other index k n s inside i d (omega arith))
           (noted-link index k n s inside)
-          (λ i l. noted-other index k n s inside (65536 + i) (omega arith) (omega arith)));
+          (λ i l. noted-other index k n s inside (57344 + i) (omega arith) (omega arith)));
     })
 
 -- Where the number of one more answer of call record `row` goes: the next of its last answer, or its first where it has none.
 pub data Tail (answers : Answers) (index : List ℕ) (row place : ℕ) : Type 0 where
-  behind : getD index (196608 + row) 0 < answers .count → answers .call (getD index (196608 + row) 0) ≡ row → place ≡ 262144 + getD index (196608 + row) 0 → Tail answers index row place
-  alone : (getD index (196608 + row) 0 < answers .count → answers .call (getD index (196608 + row) 0) ≡ row → ⊥) → place ≡ 131072 + row → Tail answers index row place
+  behind : getD index (188416 + row) 0 < answers .count → answers .call (getD index (188416 + row) 0) ≡ row → place ≡ 253952 + getD index (188416 + row) 0 → Tail answers index row place
+  alone : (getD index (188416 + row) 0 < answers .count → answers .call (getD index (188416 + row) 0) ≡ row → ⊥) → place ≡ 122880 + row → Tail answers index row place
 
 -- The words with answer m at that place and as the last of its call record.
 unfoldable pub joined : List ℕ → ℕ → ℕ → ℕ → List ℕ
-joined index place row m = set (set index place m) (196608 + row) m
+joined index place row m = set (set index place m) (188416 + row) m
 
 pub joined-long : (index : List ℕ) (place row m : ℕ) → length (joined index place row m) ≡ length index
 unfolding joined
 joined-long index place row m = simp length-set
 
 module _ (index : List ℕ) (place row m : ℕ) where
-  joined-other : (i : ℕ) → i ≢ place → i ≢ 196608 + row → getD (joined index place row m) i 0 ≡ getD index i 0
+  joined-other : (i : ℕ) → i ≢ place → i ≢ 188416 + row → getD (joined index place row m) i 0 ≡ getD index i 0
   unfolding joined
-  joined-other i d e = getD-set-other (set index place m) (196608 + row) i m 0 e ∙ getD-set-other index place i m 0 d
+  joined-other i d e = getD-set-other (set index place m) (188416 + row) i m 0 e ∙ getD-set-other index place i m 0 d
 
-  joined-place : place ≢ 196608 + row → place < length index → getD (joined index place row m) place 0 ≡ m
+  joined-place : place ≢ 188416 + row → place < length index → getD (joined index place row m) place 0 ≡ m
   unfolding joined
-  joined-place d l = getD-set-other (set index place m) (196608 + row) place m 0 d ∙ getD-set-same index place m 0 l
+  joined-place d l = getD-set-other (set index place m) (188416 + row) place m 0 d ∙ getD-set-same index place m 0 l
 
-  joined-last : 196608 + row < length index → getD (joined index place row m) (196608 + row) 0 ≡ m
+  joined-last : 188416 + row < length index → getD (joined index place row m) (188416 + row) 0 ≡ m
   unfolding joined
-  joined-last l = getD-set-same (set index place m) (196608 + row) m 0 (simp length-set l)
+  joined-last l = getD-set-same (set index place m) (188416 + row) m 0 (simp length-set l)
 
 -- Noted and joined: the first two parts are those of the one, the rest those of the other.
 record Placed (index : List ℕ) (k m place row : ℕ) : Type 0 where
-  long : length index ≡ 327680
-  key : k < 65536
+  long : length index ≡ 319488
+  key : k < 57344
   few : m < 65536
   small : row < 65536
-  high : 131072 ≤ place
-  inside : place < 327680
-  apart : place ≢ 196608 + row
+  high : 122880 ≤ place
+  inside : place < 319488
+  apart : place ≢ 188416 + row
 
 module _ {index : List ℕ} {k m place row : ℕ} (w : Placed index k m place row) where
-  both-long : length (joined (noted index k m) place row m) ≡ 327680
+  both-long : length (joined (noted index k m) place row m) ≡ 319488
   both-long = joined-long (noted index k m) place row m ∙ noted-long index k m ∙ w .long
 
-  front-same : (i : ℕ) → i < 131072 → getD (joined (noted index k m) place row m) i 0 ≡ getD (noted index k m) i 0
+  front-same : (i : ℕ) → i < 122880 → getD (joined (noted index k m) place row m) i 0 ≡ getD (noted index k m) i 0
   front-same i l = joined-other (noted index k m) place row m i (omega arith) (omega arith)
 
-  rest-same : (i : ℕ) → 131072 ≤ i → i ≢ place → i ≢ 196608 + row → getD (joined (noted index k m) place row m) i 0 ≡ getD index i 0
+  rest-same : (i : ℕ) → 122880 ≤ i → i ≢ place → i ≢ 188416 + row → getD (joined (noted index k m) place row m) i 0 ≡ getD index i 0
   rest-same i l d e = joined-other (noted index k m) place row m i d e ∙ noted-other index k m (w .key) (omega arith) i (omega arith) (omega arith)
 
   both-place : (i : ℕ) → i ≡ place → getD (joined (noted index k m) place row m) i 0 ≡ m
   both-place i e = ap (λ (j : ℕ). getD (joined (noted index k m) place row m) j 0) e ∙ joined-place (noted index k m) place row m (w .apart) (omega (arith, noted-long index k m))
 
-  both-last : getD (joined (noted index k m) place row m) (196608 + row) 0 ≡ m
+  both-last : getD (joined (noted index k m) place row m) (188416 + row) 0 ≡ m
   both-last = joined-last (noted index k m) place row m (omega (arith, noted-long index k m))
 
 module _ {answers answers′ : Answers} {row rule k place : ℕ} {f : State} {evidence index : List ℕ} (c : AnswerIndex answers index)
     (p : AnswerAdded answers row f rule evidence answers′) (few : answers .count < 65536) (small : row < 65536) (e : k ≡ bucket row f) where
   covers-both : Placed index k (answers .count) place row → Covers (λ x. bucket (answers′ .call x) (answers′ .final x)) (answers .count + 1)
-      (λ i. getD (joined (noted index k (answers .count)) place row (answers .count)) i 0) (λ x. getD (joined (noted index k (answers .count)) place row (answers .count)) (65536 + x) 0)
+      (λ i. getD (joined (noted index k (answers .count)) place row (answers .count)) i 0) (λ x. getD (joined (noted index k (answers .count)) place row (answers .count)) (57344 + x) 0)
   covers-both w =
       let m = answers .count in
-      let long : 65536 + m < length index = omega (arith, c .long) in
+      let long : 57344 + m < length index = omega (arith, c .long) in
       covers-more _ _ _ _ _ _ m k (c .covers)
       (λ i l. rw (p .call-kept i l, p .final-kept i l) refl)
       (rw (p .new .has-call, p .new .has-final) (sym e)) (w .key)
       (front-same w k (omega arith) ∙ noted-head index k m (w .key) long)
       (λ i l d. front-same w i (omega arith) ∙ noted-other index k m (w .key) long i d (omega arith))
-      (front-same w (65536 + m) (omega arith) ∙ noted-link index k m (w .key) long)
-      (λ i l. front-same w (65536 + i) (omega arith) ∙ noted-other index k m (w .key) long (65536 + i) (omega arith) (omega arith))
+      (front-same w (57344 + m) (omega arith) ∙ noted-link index k m (w .key) long)
+      (λ i l. front-same w (57344 + i) (omega arith) ∙ noted-other index k m (w .key) long (57344 + i) (omega arith) (omega arith))
 
-  placed : 131072 ≤ place → place < 327680 → place ≢ 196608 + row → Placed index k (answers .count) place row
+  placed : 122880 ≤ place → place < 319488 → place ≢ 188416 + row → Placed index k (answers .count) place row
   placed high inside apart = record { long = c .long; key = omega (arith, bucket-small row f); few = few; small = small; high = high; inside = inside; apart = apart }
 
   index-both : Tail answers index row place → AnswerIndex answers′ (joined (noted index k (answers .count)) place row (answers .count))
@@ -389,11 +389,11 @@ module _ {answers answers′ : Answers} {row rule k place : ℕ} {f : State} {ev
         covers = rw (p .count) (covers-both w);
         queued = rw (p .count) (queued-behind _ _ _ _ _ _ _ _ (answers .count) row (c .queued) (p .call-kept) (p .new .has-call) small
             (both-last w)
-            (λ r l d. rest-same w (196608 + r) (omega arith) (omega arith) (omega arith))
+            (λ r l d. rest-same w (188416 + r) (omega arith) (omega arith) (omega arith))
             held of-row
-            (λ r l. rest-same w (131072 + r) (omega arith) (omega arith) (omega arith))
+            (λ r l. rest-same w (122880 + r) (omega arith) (omega arith) (omega arith))
             (both-place w _ (sym z))
-            (λ x l d. rest-same w (262144 + x) (omega arith) (omega arith) (omega arith)));
+            (λ x l d. rest-same w (253952 + x) (omega arith) (omega arith) (omega arith)));
       }
   index-both (alone none z) =
       let w = placed (omega arith) (omega arith) (omega arith) in
@@ -402,11 +402,11 @@ module _ {answers answers′ : Answers} {row rule k place : ℕ} {f : State} {ev
         covers = rw (p .count) (covers-both w);
         queued = rw (p .count) (queued-alone _ _ _ _ _ _ _ _ (answers .count) row (c .queued) (p .call-kept) (p .new .has-call) small
             (both-last w)
-            (λ r l d. rest-same w (196608 + r) (omega arith) (omega arith) (omega arith))
+            (λ r l d. rest-same w (188416 + r) (omega arith) (omega arith) (omega arith))
             none
             (both-place w _ (sym z))
-            (λ r l d. rest-same w (131072 + r) (omega arith) (omega arith) (omega arith))
-            (λ x l. rest-same w (262144 + x) (omega arith) (omega arith) (omega arith)));
+            (λ r l d. rest-same w (122880 + r) (omega arith) (omega arith) (omega arith))
+            (λ x l. rest-same w (253952 + x) (omega arith) (omega arith) (omega arith)));
       }
 
   pub answer-index-more : {between index′ : List ℕ} → Tail answers index row place → between ≡ noted index k (answers .count) → index′ ≡ joined between place row (answers .count) → AnswerIndex answers′ index′

@@ -7,10 +7,12 @@ pub mod Marks
 pub mod Measure
 pub mod Growth
 pub mod Uses
+pub mod Heat
 pub mod Justification
 pub mod Walking
 pub mod Evidence
 pub mod Adding
+pub mod Cold
 pub mod Turn
 pub mod Rounds
 pub mod Going

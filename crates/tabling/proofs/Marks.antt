@@ -24,7 +24,7 @@ pub record Mark (marks : List ℕ) (walk q r : ℕ) : Type 0 where
 pub record Stamped (marks : List ℕ) (walk : ℕ) : Type 0 where
   pub long : length marks ≡ 65536
   pub early : (r : ℕ) → getD marks r 0 / 65536 ≤ walk
-  pub few : walk < 2 ^ 48
+  pub few : walk < 65536
 
 -- The word of a record, as the walk sees it: without the marks of earlier walks.
 unfoldable pub word-in : List ℕ → ℕ → ℕ → ℕ
@@ -45,14 +45,14 @@ pub record Fresh (marks : List ℕ) (walk : ℕ) : Type 0 where
   pub unmarked : (q r : ℕ) → ¬ Mark marks walk q r
 
 -- a later walk has none
-pub fresh-next : {marks : List ℕ} {walk : ℕ} → Stamped marks walk → walk + 1 < 2 ^ 48 → Fresh marks (walk + 1)
+pub fresh-next : {marks : List ℕ} {walk : ℕ} → Stamped marks walk → walk + 1 < 65536 → Fresh marks (walk + 1)
 fresh-next s l = record { stamped = record { long = s .long; early = λ r. omega (arith, s .early r); few = l }; unmarked = λ q r m. omega (arith, s .early r, m .stamp) }
 
 pub zeros-at : (n i : ℕ) → _≡_ {A = ℕ} (getD (replicate n 0) i 0) 0
 zeros-at n i = elim (decLt i n) [ yes l ↦ getD-replicate n i 0 0 l | no m ↦ List·getD-eq-default (replicate n 0) 0 (omega (arith, length-replicate {A = ℕ} n 0)) ]
 
 -- nor has a walk among words that are all 0
-pub zeros-stamped : (n walk : ℕ) → n ≡ 65536 → walk < 2 ^ 48 → Stamped (replicate n 0) walk
+pub zeros-stamped : (n walk : ℕ) → n ≡ 65536 → walk < 65536 → Stamped (replicate n 0) walk
 zeros-stamped n walk e l = record { long = length-replicate {A = ℕ} n 0 ∙ e; early = λ r. rw (zeros-at n r) (omega arith); few = l }
 
 -- ---- the word that is written
@@ -90,6 +90,10 @@ module _ (marks : List ℕ) (walk q r : ℕ) where
 
   pub word-free : q < 16 → ¬ Mark marks walk q r → bit (word-in marks walk r) q ≡ 0
   word-free l free = elim (ℕ-discrete (bit (word-in marks walk r) q) 1) [ yes e ↦ absurd (free (word-mark q l e)) | no n ↦ omega arith ]
+
+  -- the word that is written has 32 bits
+  pub word-fits : q < 16 → walk < 65536 → ¬ Mark marks walk q r → word-in marks walk r + 2 ^ q < 4294967296
+  word-fits l few free = omega (arith, stamp-same (word-in marks walk r) q l (word-free l free), word-stamp)
 
   module _ (l : q < 16) (inside : r < length marks) (free : ¬ Mark marks walk q r) where
     pub mark-new : (p y : ℕ) → Mark (with-mark marks walk q r) walk p y → Mark marks walk p y ⊎ ((p ≡ q) × (y ≡ r))

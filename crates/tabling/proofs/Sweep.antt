@@ -3,7 +3,7 @@
 -- A node is a place q and a state s. An edge to a node at the next place has a number, its label, and the label settles where it leads.
 -- (In a body an elementary step is an edge with the label 0, and a call step has an edge for each usable answer, labelled by its number.)
 -- A marked node is on the way that the search has come, or swept: all that can be met from it is good.
-use Prim.Native.Nat.{ℕ, zero, suc, _<_, _≤_}
+use Prim.Native.Nat.{ℕ, zero, suc, _+_, _<_, _≤_}
 use native.Mathlib.Omega.{arith}
 use native.Mathlib.Decide.{decLt}
 use mathlib.Core.Path.{_≡_, refl, sym, ap, subst, _∙_}
@@ -197,3 +197,16 @@ module _ {St : Type 0} {Edge Edge′ : ℕ → St → ℕ → St → Type 0} (ba
 
   pub swept-back : {Good Good′ : ℕ → St → Type 0} → ((q : ℕ) (s : St) → Good q s → Good′ q s) → {q : ℕ} {s : St} → Swept Edge Good q s → Swept Edge′ Good′ q s
   swept-back up k p t r = up p t (k p t (reach-back r))
+
+-- the nodes of a way, in a graph that has its edges
+pub way-reach : {St : Type 0} {Edge Edge′ : ℕ → St → ℕ → St → Type 0} {ev : ℕ → ℕ} {D s : St} {n : ℕ} (W : Way Edge ev D n s) → ((q : ℕ) → q < n → Edge′ q (W .st q) (ev q) (W .st (suc q))) → Reach Edge′ zero D n s
+way-reach {Edge′ = Edge′} {ev} {D} {s} {n} W edges = rw (← (W .from)) (go n zero (omega arith))
+  where
+    go : (k q : ℕ) → q + k ≡ n → Reach Edge′ q (W .st q) n s
+    go zero q e = let z : q ≡ n = omega arith in rw (z, W .now) here
+    go (suc k) q e = more (edges q (omega arith)) (go k (suc q) (omega arith))
+
+-- one after another
+pub reach-append : {St : Type 0} {Edge : ℕ → St → ℕ → St → Type 0} {q p n : ℕ} {s t u : St} → Reach Edge q s p t → Reach Edge p t n u → Reach Edge q s n u
+reach-append here r = r
+reach-append (more e k) r = more e (reach-append k r)

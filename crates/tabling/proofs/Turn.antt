@@ -1,5 +1,5 @@
 -- One turn of the walk: each way that the code may go keeps the search's invariant or sweeps the node. Assumes nothing.
-use Prim.Native.Nat.{ℕ, _+_, _%_, _<_, _≤_}
+use Prim.Native.Nat.{ℕ, suc, _+_, _-_, _%_, _<_, _≤_}
 use native.Mathlib.Omega.{arith}
 use native.Mathlib.Decide.{decLt}
 use mathlib.Core.Path.{_≡_, refl, sym, subst, ap, _∙_}
@@ -19,12 +19,15 @@ use Rattle.steps.proofs.Tables.{Reached}
 use Rattle.tabling.specs.Records.{Calls, Answers, Bodies}
 use Rattle.tabling.proofs.Storage.{CallAt, NextAnswer, CallPut, call-stood, call-added, call-no-room, AnswerPut, answer-stood, answer-added, answer-no-room, AnswerAdded}
 use Rattle.tabling.proofs.Growth.{Tables, tables, Held, Grew, Inside, grew-refl, grew-trans, grew-call, grew-answer, call-up, held-up, row-once}
-use Rattle.tabling.proofs.Uses.{Used, with-use, UsesGrew, uses-refl, use-grew, HeldUsed, held-used-up}
+use Rattle.tabling.proofs.Uses.{Used, Came, Noted, UsesGrew, kept-of, uses-refl, uses-trans, HeldUsed, held-used-up, heat, Hot, Newest}
 use Rattle.tabling.proofs.Justification.{Has, Proper, Justified}
 use Rattle.tabling.proofs.Evidence.{Valid, inside-of, come-reached, way-ends, way-follows}
 use Rattle.tabling.proofs.Adding.{valid-call, valid-answer, full-calls, full-answers}
-use Rattle.tabling.proofs.Sweep.{Swept, Way}
-use Rattle.tabling.proofs.Walking.{Of, call-of, NoneIn, Retreat, Chosen, EdgeT, GoodT, Walking, walk-start, walk-forward, walk-way, chosen-of, Done, done-end, done-stuck, done-seen, done-call, mark-done, take-first, back-over, back-take, walking-up}
+use Rattle.tabling.proofs.Cold.{Past, Last, upto-cold, upto-last}
+use Rattle.tabling.proofs.Sweep.{Swept, Upto, upto-up, Reach, reach-append, Way, way-reach}
+use Rattle.tabling.proofs.Graph.{Front, goes, calls, numbered, Leads}
+use Rattle.tabling.proofs.Graph as graph
+use Rattle.tabling.proofs.Walking.{Of, call-of, NoneIn, Retreat, Chosen, EdgeT, Node, of-at, final-at, at-call, move, step-at, EdgeN, GoodN, Walking, walk-start, walk-forward, walk-way, plain-way, last-known, good-up, chosen-of, Done, done-end, done-stuck, done-seen, done-call, mark-done, take-first, back-over, back-take, walking-up}
 use Rattle.tabling.proofs.Marks.{Mark, Stamped, with-mark, mark-new, mark-stamped}
 
 -- ---- from record numbers in the present tables to contents in the tables at the walk's start
@@ -76,14 +79,54 @@ module _ {bodies : Bodies} {Root : ℕ → State → Type 0} {b t : Tables} {kno
 
 -- ---- the invariant
 
+-- What was before a round: the records from `first` up to `old` were walked with the answers below `seen`, and what their walks came to is
+-- noted; and whether all that the round has to look at again is.
+pub record Before : Type 0 where
+  pub first : ℕ
+  pub old : ℕ
+  pub seen : ℕ
+  pub warm : Bool
+  pub notes : List ℕ
+
+abbrev pub before : ℕ → ℕ → ℕ → Bool → List ℕ → Before
+before first old seen warm notes = record { first = first; old = old; seen = seen; warm = warm; notes = notes }
+
+abbrev pub Old : Before → ℕ → Type 0
+Old P row = (P .first ≤ row) × (row < P .old)
+
 -- What does not change while a body is walked from a call record.
-pub record Given (bodies : Bodies) (Root : ℕ → State → Type 0) (b : Tables) (known rule row : ℕ) (body : List ℕ) : Type 0 where
+pub record Given (bodies : Bodies) (Root : ℕ → State → Type 0) (b : Tables) (known rule row : ℕ) (P : Before) (body : List ℕ) : Type 0 where
   pub proper : Proper bodies
   pub valid : Valid bodies Root b
   pub enough : known ≤ b .answers .count
   pub row-in : row < b .calls .count
   pub fits : bodies .fits rule (b .calls .action row) ≡ true
   pub words : body ≡ bodies .words rule
+  pub past : Old P row → Past b (P .notes) (P .seen) known (P .warm) row body
+
+-- The first answer of record r that is wanted, or `known`; or an answer of it before that.
+pub record FirstOf (answers : Answers) (Wanted : ℕ → Type 0) (known r j : ℕ) : Type 0 where
+  pub high : j ≤ known
+  pub found : j < known → answers .call j ≡ r
+  pub skipped : (y : ℕ) → y < j → answers .call y ≡ r → Wanted y → ⊥
+
+abbrev pub FirstHot : Answers → List ℕ → ℕ → ℕ → ℕ → ℕ → Type 0
+FirstHot answers uses seen known r j = FirstOf answers (Hot answers uses seen) known r j
+
+abbrev pub FirstNew : Answers → List ℕ → ℕ → ℕ → ℕ → ℕ → Type 0
+FirstNew answers uses seen known r j = FirstOf answers (λ (y : ℕ). (seen ≤ y) × Newest answers uses seen y) known r j
+
+-- The answer that a walk takes first: the first of all; or, where a record walked before is walked again by old answers, the first that is
+-- looked at, or at the last call of a body the first that is new.
+pub data Picked (answers : Answers) (uses : List ℕ) (known row : ℕ) (P : Before) (body chosen : List ℕ) (at r j : ℕ) : Type 0 where
+  of-all : NextAnswer answers known r 0 j → Picked answers uses known row P body chosen at r j
+  of-looked : Old P row → ((q : ℕ) → q < at → getD chosen q 0 < P .seen) → P .warm ≡ true → FirstHot answers uses (P .seen) known r j → Picked answers uses known row P body chosen at r j
+  of-new : Old P row → ((q : ℕ) → q < at → getD chosen q 0 < P .seen) → Last body at → FirstNew answers uses (P .seen) known r j → Picked answers uses known row P body chosen at r j
+
+picked-found : {answers : Answers} {uses : List ℕ} {known row : ℕ} {P : Before} {body chosen : List ℕ} {at r j : ℕ} → Picked answers uses known row P body chosen at r j → j < known → answers .call j ≡ r
+picked-found (of-all n) l = n .found l
+picked-found (of-looked o w e f) l = f .found l
+picked-found (of-new o w k f) l = f .found l
 
 -- More calls or answers than the tables have places.
 abbrev pub Outgrown : Bodies → (ℕ → State → Type 0) → ℕ → ℕ → Type 0
@@ -91,23 +134,24 @@ Outgrown bodies Root call-places answer-places =
     Outnumbers (λ (c : ℕ × State). Reached Does (Has bodies) Root (c .0) (c .1)) call-places
     ⊎ Outnumbers (λ (c : ℕ × State × State). Reached Does (Has bodies) Root (c .0) (c .1) × Ends Does (Has bodies) (c .0) (c .1) (c .2)) answer-places
 
-module _ (bodies : Bodies) (Root : ℕ → State → Type 0) (b : Tables) (known rule row walk : ℕ) (body : List ℕ) where
+module _ (bodies : Bodies) (Root : ℕ → State → Type 0) (b : Tables) (known rule row walk : ℕ) (P : Before) (body : List ℕ) where
   -- the state that the walk begins in
-  abbrev from : State
-  from = b .calls .state row
+  abbrev from : Node
+  from = (b .calls .state row, 0)
 
   -- The search in tables t that have grown from b.
-  pub record Turning (t : Tables) (marks uses chosen : List ℕ) (at : ℕ) (s : State) : Type 0 where
-    pub given : Given bodies Root b known rule row body
+  pub record Turning (t : Tables) (marks uses chosen : List ℕ) (at : ℕ) (s : Node) : Type 0 where
+    pub given : Given bodies Root b known rule row P body
     pub valid : Valid bodies Root t
     pub grew : Grew b t
+    pub noted : UsesGrew (P .notes) uses
     pub stamped : Stamped marks walk
     pub chosen-long : length chosen ≡ 16
     pub unused : (q : ℕ) → length body ≤ q → getD chosen q 0 ≡ 0
     pub walking : Walking body b known walk (HeldUsed t uses row) (Held t row) from marks chosen at at s
 
   -- Where the walk has to go back: nothing is left from the present place on.
-  pub record Turned (t : Tables) (marks uses chosen : List ℕ) (at : ℕ) (s : State) : Type 0 where
+  pub record Turned (t : Tables) (marks uses chosen : List ℕ) (at : ℕ) (s : Node) : Type 0 where
     pub turning : Turning t marks uses chosen at s
     pub done : Done body b known walk (HeldUsed t uses row) (Held t row) from at s
 
@@ -116,90 +160,142 @@ module _ (bodies : Bodies) (Root : ℕ → State → Type 0) (b : Tables) (known
     pub valid : Valid bodies Root t
     pub grew : Grew b t
     pub stamped : Stamped marks walk
-    pub swept : Swept (EdgeT b known body) (GoodT b known body (HeldUsed t uses row) (Held t row)) 0 from
+    pub swept : Swept (EdgeN b known body) (GoodN b known body (HeldUsed t uses row) (Held t row)) 0 from
 
-  has-body : Given bodies Root b known rule row body → Has bodies (b .calls .action row) (body-of body)
+  has-body : Given bodies Root b known rule row P body → Has bodies (b .calls .action row) (body-of body)
   has-body G = (rule, G .fits, ap body-of (G .words))
 
-  pub body-short : Given bodies Root b known rule row body → length body ≤ 16
+  pub body-short : Given bodies Root b known rule row P body → length body ≤ 16
   body-short G = rw (G .words) (G .proper .short rule _ (G .fits))
 
-  turning-up : {t u : Tables} {marks uses uses′ chosen : List ℕ} {at : ℕ} {s : State} → Turning t marks uses chosen at s → Grew t u → UsesGrew uses uses′ → Valid bodies Root u → Turning u marks uses′ chosen at s
+  turning-up : {t u : Tables} {marks uses uses′ chosen : List ℕ} {at : ℕ} {s : Node} → Turning t marks uses chosen at s → Grew t u → UsesGrew uses uses′ → Valid bodies Root u → Turning u marks uses′ chosen at s
   turning-up T g w v = record {
     given = T .given;
     valid = v;
     grew = grew-trans (T .grew) g;
+    noted = uses-trans (T .noted) w;
     stamped = T .stamped;
     chosen-long = T .chosen-long;
     unused = T .unused;
-    walking = walking-up body b known walk from (held-used-up g w row) (held-up g row) (T .walking);
+    walking = walking-up body b known walk from (held-used-up g (kept-of w) row) (held-up g row) (T .walking);
   }
 
   -- the first turn
-  pub turn-start : {marks chosen : List ℕ} (uses : List ℕ) → Given bodies Root b known rule row body → Stamped marks walk → ((q r : ℕ) → ¬ Mark marks walk q r) → length chosen ≡ 16 → ((q : ℕ) → length body ≤ q → getD chosen q 0 ≡ 0)
+  pub turn-start : {marks chosen : List ℕ} (uses : List ℕ) → Given bodies Root b known rule row P body → UsesGrew (P .notes) uses → Stamped marks walk → ((q r : ℕ) → ¬ Mark marks walk q r) → length chosen ≡ 16 → ((q : ℕ) → length body ≤ q → getD chosen q 0 ≡ 0)
       → Turning b marks uses chosen 0 from
-  turn-start uses G s none long unused = record {
+  turn-start uses G w s none long unused = record {
     given = G;
     valid = G .valid;
     grew = grew-refl b;
+    noted = w;
     stamped = s;
     chosen-long = long;
     unused = unused;
     walking = walk-start body b known walk (HeldUsed b uses row) (Held b row) from none;
   }
 
-  module _ {t : Tables} {marks uses chosen : List ℕ} {at : ℕ} {s : State} (T : Turning t marks uses chosen at s) where
+  module _ {t : Tables} {marks uses chosen : List ℕ} {at : ℕ} {s : Node} (T : Turning t marks uses chosen at s) where
     chosen-far : (p j : ℕ) → p < length body → (q : ℕ) → length body ≤ q → getD (set chosen p j) q 0 ≡ 0
     chosen-far p j h q l = getD-set-other chosen p q j 0 (omega arith) ∙ T .unused q l
+
+    pub turn-last : s .1 ≤ known
+    turn-last = last-known body b known walk (HeldUsed t uses row) (Held t row) from (T .walking) (omega arith)
 
     place-low : at < length body → at < 16
     place-low h = omega (arith, body-short (T .given))
 
     -- ---- an elementary step
-    pub turn-forward : {u : State} → at < length body → elementary (step-of (getD body at 0)) s ≡ on u → Turning t marks uses (set chosen at 0) (at + 1) u
+    pub turn-forward : {u : State} → at < length body → elementary (step-of (getD body at 0)) (s .0) ≡ on u → Turning t marks uses (set chosen at 0) (at + 1) (u, s .1)
     turn-forward h e = record {
       given = T .given;
       valid = T .valid;
       grew = T .grew;
+      noted = T .noted;
       stamped = T .stamped;
       chosen-long = simp length-set (T .chosen-long);
       unused = chosen-far at 0 h;
       walking = walk-forward body b known walk (HeldUsed t uses row) (Held t row) from (T .walking) h (omega (arith, T .chosen-long, place-low h)) e;
     }
 
-    pub turn-stuck : at < length body → is-call (getD body at 0) ≡ false → elementary (step-of (getD body at 0)) s ≡ stuck → Turned t marks uses chosen at s
+    pub turn-stuck : at < length body → is-call (getD body at 0) ≡ false → elementary (step-of (getD body at 0)) (s .0) ≡ stuck → Turned t marks uses chosen at s
     turn-stuck h l e = record { turning = T; done = done-stuck body b known walk (HeldUsed t uses row) (Held t row) from (T .walking) h l e }
 
     -- ---- a call
     module _ (h : at < length body) (e : is-call (getD body at 0) ≡ true) where
       -- it is reached
-      came : Reached Does (Has bodies) Root (getD body at 0 % 256) s
+      came : Reached Does (Has bodies) Root (getD body at 0 % 256) (s .0)
       came =
           let G = T .given in
-          come-reached b known body (G .valid) (G .enough) (G .valid .reached row (G .row-in)) (has-body G) h e (walk-way body b known walk (HeldUsed t uses row) (Held t row) from (T .walking))
+          come-reached b known body (G .valid) (G .enough) (G .valid .reached row (G .row-in)) (has-body G) h e (plain-way body b known walk (HeldUsed t uses row) (Held t row) from (T .walking))
 
       -- it stands in the table
-      pub turn-called : {calls′ : Calls} {r places : ℕ} {full : Bool} → CallPut places (t .calls) (getD body at 0 % 256) s calls′ r full → full ≡ false
-          → Turning (tables calls′ (t .answers)) marks uses chosen at s × (r < calls′ .count) × CallAt calls′ r (getD body at 0 % 256) s
+      pub turn-called : {calls′ : Calls} {r places : ℕ} {full : Bool} → CallPut places (t .calls) (getD body at 0 % 256) (s .0) calls′ r full → full ≡ false
+          → Turning (tables calls′ (t .answers)) marks uses chosen at s × (r < calls′ .count) × CallAt calls′ r (getD body at 0 % 256) (s .0)
       turn-called (call-stood f l k z) n = rw z (T, l, k)
       turn-called (call-added f i l none p) n = (turning-up T (grew-call t p) (uses-refl uses) (valid-call (T .valid) (T .given .proper) p none came), omega (arith, p .count), rw i (p .new))
       turn-called (call-no-room f i none z) n = absurd (true-not-false (sym f ∙ n))
 
       -- or there is no room for it
-      pub turn-calls-full : {calls′ : Calls} {r places : ℕ} {full : Bool} (answer-places : ℕ) → CallPut places (t .calls) (getD body at 0 % 256) s calls′ r full → full ≡ true → Outgrown bodies Root places answer-places
+      pub turn-calls-full : {calls′ : Calls} {r places : ℕ} {full : Bool} (answer-places : ℕ) → CallPut places (t .calls) (getD body at 0 % 256) (s .0) calls′ r full → full ≡ true → Outgrown bodies Root places answer-places
       turn-calls-full m (call-stood f l k z) n = absurd (true-not-false (sym n ∙ f))
       turn-calls-full m (call-added f i l none p) n = absurd (true-not-false (sym n ∙ f))
       turn-calls-full m (call-no-room f i none z) n = inl (rw i at (full-calls (T .valid) none came))
 
       -- and is noted
-      pub turn-noted : (r : ℕ) → r < length uses → row < 65536 → Turning t marks (with-use uses row r) chosen at s
-      turn-noted r i l = turning-up T (grew-refl t) (use-grew uses row r i l) (T .valid)
+      pub turn-noted : {uses′ : List ℕ} {r : ℕ} → Noted uses uses′ row (s .1) r → Turning t marks uses′ chosen at s
+      turn-noted w = turning-up T (grew-refl t) (w .grew) (T .valid)
 
-      module _ {r : ℕ} (l : r < t .calls .count) (k : CallAt (t .calls) r (getD body at 0 % 256) s) (used : Used uses row r) where
+      -- a way by old answers is one of the earlier walk
+      old-way : ((q : ℕ) → q < at → getD chosen q 0 < P .seen) → Reach (EdgeN b (P .seen) body) 0 from at s
+      old-way below =
+          let W = walk-way body b known walk (HeldUsed t uses row) (Held t row) from (T .walking) in
+          way-reach W (λ q i. (W .edges q i .0, leads-old (W .st q) (W .st (suc q)) (getD chosen q 0) (getD body q 0) (below q i) (W .edges q i .1)))
+        where
+          by : (f : Front State (ℕ × State)) (n x : ℕ) (u : Node) → x < P .seen → Leads (of-at b known) (final-at b) (numbered f n) x u → Leads (of-at b (P .seen)) (final-at b) (numbered f n) x u
+          by graph.stuck n x u l e = e
+          by (goes v) n x u l e = e
+          by (calls c) n x u l (o, e) = (record { below = l; action = o .action; state = o .state }, e)
+
+          leads-old : (v u : Node) (x w : ℕ) → x < P .seen → Leads (of-at b known) (final-at b) (step-at w v) x u → Leads (of-at b (P .seen)) (final-at b) (step-at w v) x u
+          leads-old v u x w l e = by (move w (v .0)) (v .1) x u l e
+
+      module _ {r : ℕ} (l : r < t .calls .count) (k : CallAt (t .calls) r (getD body at 0 % 256) (s .0)) (used : Used uses row r) (after : Came uses (s .1) r) where
+        -- the first of the new answers is noted still
+        newest-now : (y : ℕ) → y < known → Newest (b .answers) (P .notes) (P .seen) y → Newest (t .answers) uses (P .seen) y
+        newest-now y h (i, a, c, d) =
+            let G = T .given in
+            let z : t .answers .call y ≡ b .answers .call y = T .grew .call-same {x = y} (omega (arith, G .enough)) in
+            let g = T .noted .heats (b .answers .call y) in
+            let x : t .answers .call (heat (P .notes) (b .answers .call y) - 1) ≡ b .answers .call (heat (P .notes) (b .answers .call y) - 1) = T .grew .call-same (omega (arith, G .enough)) in
+            rw (z, g, x) (i, a, c, d)
+
+        -- all answers before the one that is taken are done
+        upto-picked : (j : ℕ) → Picked (t .answers) uses known row P body chosen at r j → Upto (EdgeN b known body) (GoodN b known body (HeldUsed t uses row) (Held t row)) at s j
+        upto-picked j (of-all n) = λ x u i d.
+            (let (o, f) : Leads (of-at b known) (final-at b) (calls ((getD body at 0 % 256, s .0), s .1)) x u = rw (at-call (getD body at 0) s e) at (d .1) in
+            absurd (n .skipped x (omega arith) i (row-of (T .valid) (T .grew) (T .given .enough) (inside-of (T .given .valid)) (getD body at 0 % 256, s .0) l k o)))
+        upto-picked j (of-looked o w warm f) =
+            let G = T .given in
+            let p = G .past o in
+            upto-up (EdgeN b known body) (good-up body b known walk from (held-used-up (T .grew) (kept-of (T .noted)) row) (held-up (T .grew) row))
+            (upto-cold b (P .notes) (P .seen) known row body (G .valid) (G .enough) (p .lit .looked warm) (λ q u i. p .swept q u (reach-append (old-way w) i)) e
+            (λ y i a. λ (j, m, c). f .skipped y i (row-of (T .valid) (T .grew) (G .enough) (inside-of (G .valid)) (getD body at 0 % 256, s .0) l k a)
+            (let z : t .answers .call y ≡ b .answers .call y = T .grew .call-same {x = y} (omega (arith, a .below, G .enough)) in
+            rw (z, T .noted .starts (b .answers .call y), T .noted .heats (b .answers .call y)) (j, m, c))))
+        upto-picked j (of-new o w last f) =
+            let G = T .given in
+            let p = G .past o in
+            upto-up (EdgeN b known body) (good-up body b known walk from (held-used-up (T .grew) (kept-of (T .noted)) row) (held-up (T .grew) row))
+            (upto-last b (P .notes) (P .seen) known row body (λ q u i. p .swept q u (reach-append (old-way w) i)) e last
+            (λ y i a. elim (decLt y (P .seen)) [
+              | yes h ↦ h
+              | no n ↦ absurd (f .skipped y i (row-of (T .valid) (T .grew) (G .enough) (inside-of (G .valid)) (getD body at 0 % 256, s .0) l k a)
+                  (omega arith, newest-now y (a .below) (p .lit .newest y (omega arith) (a .below))))
+            ]))
+
         -- nothing is left from here on where the call has no answer yet
-        none-done : NextAnswer (t .answers) known r 0 known → Done body b known walk (HeldUsed t uses row) (Held t row) from at s
-        none-done n = done-call body b known walk (HeldUsed t uses row) (Held t row) from (T .walking) h e (r, l, k, used)
-            (none-old (T .valid) (T .grew) (T .given .enough) (inside-of (T .given .valid)) (getD body at 0 % 256, s) l k n)
+        none-done : Picked (t .answers) uses known row P body chosen at r known → Done body b known walk (HeldUsed t uses row) (Held t row) from at s
+        none-done n = done-call body b known walk (HeldUsed t uses row) (Held t row) from (T .walking) h e (r, l, k, used, after) (upto-picked known n) (λ y i o z. omega (arith, i, o))
 
         -- a call recorded since the round began has no answer that may be used
         none-new : b .calls .count ≤ r → NextAnswer (t .answers) known r 0 known
@@ -213,7 +309,7 @@ module _ (bodies : Bodies) (Root : ℕ → State → Type 0) (b : Tables) (known
                 omega arith
 
         -- the call's contents at the round's start
-        at-start : r < b .calls .count → CallAt (b .calls) r (getD body at 0 % 256) s
+        at-start : r < b .calls .count → CallAt (b .calls) r (getD body at 0 % 256) (s .0)
         at-start i = record { has-action = sym (T .grew .action-same i) ∙ k .has-action; has-state = sym (T .grew .state-same i) ∙ k .has-state }
 
         -- the node has been searched before
@@ -221,11 +317,11 @@ module _ (bodies : Bodies) (Root : ℕ → State → Type 0) (b : Tables) (known
         turn-seen m = record { turning = T; done = by (decLt r (b .calls .count)) }
           where
             by : Dec (r < b .calls .count) → Done body b known walk (HeldUsed t uses row) (Held t row) from at s
-            by (yes i) = done-seen body b known walk (HeldUsed t uses row) (Held t row) from (T .walking) (r, i, at-start i, m)
-            by (no n) = none-done (none-new (omega arith))
+            by (yes i) = done-seen body b known walk (HeldUsed t uses row) (Held t row) from (T .walking) h e (r, l, k, used, after) (r, i, at-start i, m)
+            by (no n) = none-done (of-all (none-new (omega arith)))
 
         -- the call has no answer yet: its node is marked
-        pub turn-none : r < 65536 → ¬ Mark marks walk at r → NextAnswer (t .answers) known r 0 known → Turned t (with-mark marks walk at r) uses chosen at s
+        pub turn-none : r < 65536 → ¬ Mark marks walk at r → Picked (t .answers) uses known row P body chosen at r known → Turned t (with-mark marks walk at r) uses chosen at s
         turn-none room free n =
             let long : r < length marks = omega (arith, T .stamped .long) in
             let done = none-done n in
@@ -234,6 +330,7 @@ module _ (bodies : Bodies) (Root : ℕ → State → Type 0) (b : Tables) (known
                 given = T .given;
                 valid = T .valid;
                 grew = T .grew;
+                noted = T .noted;
                 stamped = mark-stamped marks walk at r (place-low h) long free (T .stamped);
                 chosen-long = T .chosen-long;
                 unused = T .unused;
@@ -244,14 +341,15 @@ module _ (bodies : Bodies) (Root : ℕ → State → Type 0) (b : Tables) (known
             }
 
         -- its first answer is taken
-        pub turn-take : {j : ℕ} → r < 65536 → ¬ Mark marks walk at r → j < known → NextAnswer (t .answers) known r 0 j → Turning t (with-mark marks walk at r) uses (set chosen at j) (at + 1) (t .answers .final j)
+        pub turn-take : {j : ℕ} → r < 65536 → ¬ Mark marks walk at r → j < known → Picked (t .answers) uses known row P body chosen at r j → Turning t (with-mark marks walk at r) uses (set chosen at j) (at + 1) (t .answers .final j, j + 1)
         turn-take {j} room free i n =
             let G = T .given in
-            let c : ℕ × State = (getD body at 0 % 256, s) in
+            let c : ℕ × State = (getD body at 0 % 256, s .0) in
+            let n-found : t .answers .call j ≡ r = picked-found n i in
             let inside = inside-of (G .valid) in
             let x : j < b .answers .count = omega (arith, G .enough) in
-            let o : Of b known c j = of-row (T .valid) (T .grew) (G .enough) inside c i k (n .found i) in
-            let z : b .answers .call j ≡ r = sym (T .grew .call-same x) ∙ n .found i in
+            let o : Of b known c j = of-row (T .valid) (T .grew) (G .enough) inside c i k n-found in
+            let z : b .answers .call j ≡ r = sym (T .grew .call-same x) ∙ n-found in
             let old : r < b .calls .count = rw z at (inside j x) in
             let at-b : CallAt (b .calls) r (c .0) (c .1) = record { has-action = ap (b .calls .action) (sym z) ∙ o .action; has-state = ap (b .calls .state) (sym z) ∙ o .state } in
             let long : r < length marks = omega (arith, T .stamped .long) in
@@ -259,26 +357,27 @@ module _ (bodies : Bodies) (Root : ℕ → State → Type 0) (b : Tables) (known
               given = G;
               valid = T .valid;
               grew = T .grew;
+              noted = T .noted;
               stamped = mark-stamped marks walk at r (place-low h) long free (T .stamped);
               chosen-long = simp length-set (T .chosen-long);
               unused = chosen-far at j h;
-              walking = rw (T .grew .final-same x) (take-first body b known walk (HeldUsed t uses row) (Held t row) from (T .walking) h e (r, l, k, used) (place-low h) (omega (arith, T .chosen-long, place-low h)) long old at-b free o
-                  (none-old (T .valid) (T .grew) (G .enough) inside c l k n));
+              walking = rw (T .grew .final-same x) (take-first body b known walk (HeldUsed t uses row) (Held t row) from (T .walking) h e (r, l, k, used, after) (place-low h) (omega (arith, T .chosen-long, place-low h)) long old at-b free o
+                  (upto-picked j n) (λ y i o z. omega (arith, i, o)));
             }
 
     -- ---- the body's end
     module _ (h : length body ≤ at) where
-      end-way : Way (EdgeT b known body) (λ q. getD chosen q 0) from (length body) s
+      end-way : Way (EdgeT b known body) (λ q. getD chosen q 0) (from .0) (length body) (s .0)
       end-way =
           let z : at ≡ length body = omega (arith, T .walking .inside) in
-          subst (λ (n : ℕ). Way (EdgeT b known body) (λ q. getD chosen q 0) from n s) z (walk-way body b known walk (HeldUsed t uses row) (Held t row) from (T .walking))
+          subst (λ (n : ℕ). Way (EdgeT b known body) (λ q. getD chosen q 0) (from .0) n (s .0)) z (plain-way body b known walk (HeldUsed t uses row) (Held t row) from (T .walking))
 
-      end-final : Ends Does (Has bodies) (t .calls .action row) (t .calls .state row) s
+      end-final : Ends Does (Has bodies) (t .calls .action row) (t .calls .state row) (s .0)
       end-final =
           let G = T .given in
           rw (T .grew .action-same (G .row-in), T .grew .state-same (G .row-in)) (way-ends b known body (G .valid) (G .enough) (has-body G) end-way)
 
-      end-justified : {answers′ : Answers} → AnswerAdded (t .answers) row s rule chosen answers′ → Justified bodies (tables (t .calls) answers′) (t .answers .count)
+      end-justified : {answers′ : Answers} → AnswerAdded (t .answers) row (s .0) rule chosen answers′ → Justified bodies (tables (t .calls) answers′) (t .answers .count)
       end-justified {answers′} p =
           let G = T .given in
           let u : Tables = tables (t .calls) answers′ in
@@ -291,7 +390,7 @@ module _ (bodies : Bodies) (Root : ℕ → State → Type 0) (b : Tables) (known
             followed = rw (p .new-rule, p .new .has-call, T .grew .state-same (G .row-in), ← (G .words)) w;
           }
 
-      pub turn-ended : {answers′ : Answers} {places : ℕ} {full : Bool} → AnswerPut places (t .answers) row s rule chosen answers′ full → full ≡ false → Turned (tables (t .calls) answers′) marks uses chosen at s
+      pub turn-ended : {answers′ : Answers} {places : ℕ} {full : Bool} → AnswerPut places (t .answers) row (s .0) rule chosen answers′ full → full ≡ false → Turned (tables (t .calls) answers′) marks uses chosen at s
       turn-ended (answer-stood f k z) n = rw z (record { turning = T; done = done-end body b known walk (HeldUsed t uses row) (Held t row) from (T .walking) h k })
       turn-ended {answers′} (answer-added f l none p) n =
           let u : Tables = tables (t .calls) answers′ in
@@ -299,13 +398,13 @@ module _ (bodies : Bodies) (Root : ℕ → State → Type 0) (b : Tables) (known
           record { turning = w; done = done-end body b known walk (HeldUsed u uses row) (Held u row) from (w .walking) h (t .answers .count, omega (arith, p .count), p .new) }
       turn-ended (answer-no-room f i none z) n = absurd (true-not-false (sym f ∙ n))
 
-      pub turn-answers-full : {answers′ : Answers} {places : ℕ} {full : Bool} (call-places : ℕ) → AnswerPut places (t .answers) row s rule chosen answers′ full → full ≡ true → Outgrown bodies Root call-places places
+      pub turn-answers-full : {answers′ : Answers} {places : ℕ} {full : Bool} (call-places : ℕ) → AnswerPut places (t .answers) row (s .0) rule chosen answers′ full → full ≡ true → Outgrown bodies Root call-places places
       turn-answers-full c (answer-stood f k z) n = absurd (true-not-false (sym n ∙ f))
       turn-answers-full c (answer-added f l none p) n = absurd (true-not-false (sym n ∙ f))
       turn-answers-full c (answer-no-room f i none z) n = inr (rw i at (full-answers (T .valid) (omega (arith, T .given .row-in, T .grew .calls-more)) none end-final))
 
   -- ---- back
-  module _ {t : Tables} {marks uses chosen : List ℕ} {at : ℕ} {s : State} (T : Turned t marks uses chosen at s) where
+  module _ {t : Tables} {marks uses chosen : List ℕ} {at : ℕ} {s : Node} (T : Turned t marks uses chosen at s) where
     old : {r j : ℕ} → RetreatRow body (t .answers) known chosen at r j → Retreat body b known chosen at r j
     old R =
         let U = T .turning in
@@ -316,7 +415,7 @@ module _ (bodies : Bodies) (Root : ℕ → State → Type 0) (b : Tables) (known
         let U = T .turning in
         record { valid = U .valid; grew = U .grew; stamped = U .stamped; swept = back-over body b known walk (HeldUsed t uses row) (Held t row) from (U .walking) (T .done) (old R) }
 
-    pub turned-take : {j : ℕ} (p : ℕ) → RetreatRow body (t .answers) known chosen at (p + 1) j → Turning t marks uses (set chosen p j) (p + 1) (t .answers .final j)
+    pub turned-take : {j : ℕ} (p : ℕ) → RetreatRow body (t .answers) known chosen at (p + 1) j → Turning t marks uses (set chosen p j) (p + 1) (t .answers .final j, j + 1)
     turned-take {j} p R =
         let U = T .turning in
         let G = U .given in
@@ -327,6 +426,7 @@ module _ (bodies : Bodies) (Root : ℕ → State → Type 0) (b : Tables) (known
           given = G;
           valid = U .valid;
           grew = U .grew;
+          noted = U .noted;
           stamped = U .stamped;
           chosen-long = simp length-set (U .chosen-long);
           unused = chosen-far U p j (omega arith);

@@ -8,13 +8,15 @@ use Rattle.tabling.specs.Records.{Bodies, room}
 use Rattle.tabling.proofs.Growth.{Tables}
 use Rattle.tabling.proofs.Measure.{left}
 use Rattle.tabling.proofs.Uses.{UsesGrew}
-use Rattle.tabling.proofs.Turn.{Turning, Turned, Over, Outgrown}
+use Rattle.tabling.proofs.Turn.{Before, before, Turning, Turned, Over, Outgrown}
+use Rattle.tabling.proofs.Walking.{Node}
 use Rattle.tabling.proofs.Going.{Kept, Indexed}
 use Rattle.walk.specs.declared.Front.{Front}
 use Rattle.walk.specs.declared.Front.the-variants as front
 use Rattle.walk.specs.declared.Next.{Next}
 use Rattle.walk.specs.declared.Next.the-variants as next
 use Rattle.walk.specs.declared.Job.{Job}
+use Rattle.walk.specs.declared.Spot.{Spot}
 
 -- The tables keep their lengths, their records and indexes stay in order, and no use is forgotten.
 pub record Stays (calls answers uses calls′ : List ℕ) (n : ℕ) (call-index answers′ : List ℕ) (m : ℕ) (answer-index uses′ : List ℕ) : Type 0 where
@@ -24,19 +26,27 @@ pub record Stays (calls answers uses calls′ : List ℕ) (n : ℕ) (call-index 
   pub indexed : Indexed calls′ n call-index answers′ m answer-index
   pub uses-more : UsesGrew uses uses′
 
+-- The node of the search at which a walk is.
+abbrev pub spot-of : Spot → Node
+spot-of spot = (spot .state .0, spot .last)
+
+-- What was before the round of a job.
+abbrev pub past-of : Job → List ℕ → Before
+past-of job notes = before (job .first) (job .old) (job .seen) (job .warm) notes
+
 -- A step forward from place `at` in state s: the invariant one place on, nothing left here, or more records than places.
-abbrev pub Stepped : Front → Bodies → (ℕ → State → Type 0) → Tables → Job → List ℕ → ℕ → ℕ → List ℕ → ℕ → State → Tables → List ℕ → List ℕ → List ℕ → Type 0
-Stepped (front.On s′) bodies Root b job body cw aw chosen at s t marks uses chosen′ =
-    Turning bodies Root b (job .known) (job .rule) (job .row) (job .walk) body t marks uses chosen′ (at + 1) (s′ .0) × (left (job .known) chosen′ (at + 1) < left (job .known) chosen at)
-Stepped front.Spent bodies Root b job body cw aw chosen at s t marks uses chosen′ =
-    Turned bodies Root b (job .known) (job .rule) (job .row) (job .walk) body t marks uses chosen′ at s × (chosen′ ≡ chosen)
-Stepped front.Full bodies Root b job body cw aw chosen at s t marks uses chosen′ = Outgrown bodies Root (room 2 cw) (room 19 aw)
+abbrev pub Stepped : Front → Bodies → (ℕ → State → Type 0) → Tables → List ℕ → Job → List ℕ → ℕ → ℕ → List ℕ → ℕ → Node → Tables → List ℕ → List ℕ → List ℕ → Type 0
+Stepped (front.On s′) bodies Root b notes job body cw aw chosen at s t marks uses chosen′ =
+    Turning bodies Root b (job .known) (job .rule) (job .row) (job .walk) (past-of job notes) body t marks uses chosen′ (at + 1) (spot-of s′) × (left (job .known) chosen′ (at + 1) < left (job .known) chosen at)
+Stepped front.Spent bodies Root b notes job body cw aw chosen at s t marks uses chosen′ =
+    Turned bodies Root b (job .known) (job .rule) (job .row) (job .walk) (past-of job notes) body t marks uses chosen′ at s × (chosen′ ≡ chosen)
+Stepped front.Full bodies Root b notes job body cw aw chosen at s t marks uses chosen′ = Outgrown bodies Root (room 2 cw) (room 19 aw)
 
 -- A whole turn: as above, or back at place p with another answer, or the walk is over.
-abbrev pub Outcome : Next → Bodies → (ℕ → State → Type 0) → Tables → Job → List ℕ → ℕ → ℕ → List ℕ → ℕ → Tables → List ℕ → List ℕ → List ℕ → Type 0
-Outcome (next.On s′) bodies Root b job body cw aw chosen at t marks uses chosen′ =
-    Turning bodies Root b (job .known) (job .rule) (job .row) (job .walk) body t marks uses chosen′ (at + 1) (s′ .0) × (left (job .known) chosen′ (at + 1) < left (job .known) chosen at)
-Outcome (next.Back p s′) bodies Root b job body cw aw chosen at t marks uses chosen′ =
-    Turning bodies Root b (job .known) (job .rule) (job .row) (job .walk) body t marks uses chosen′ p (s′ .0) × (left (job .known) chosen′ p < left (job .known) chosen at)
-Outcome next.Done bodies Root b job body cw aw chosen at t marks uses chosen′ = Over bodies Root b (job .known) (job .rule) (job .row) (job .walk) body t marks uses
-Outcome next.Full bodies Root b job body cw aw chosen at t marks uses chosen′ = Outgrown bodies Root (room 2 cw) (room 19 aw)
+abbrev pub Outcome : Next → Bodies → (ℕ → State → Type 0) → Tables → List ℕ → Job → List ℕ → ℕ → ℕ → List ℕ → ℕ → Tables → List ℕ → List ℕ → List ℕ → Type 0
+Outcome (next.On s′) bodies Root b notes job body cw aw chosen at t marks uses chosen′ =
+    Turning bodies Root b (job .known) (job .rule) (job .row) (job .walk) (past-of job notes) body t marks uses chosen′ (at + 1) (spot-of s′) × (left (job .known) chosen′ (at + 1) < left (job .known) chosen at)
+Outcome (next.Back p s′) bodies Root b notes job body cw aw chosen at t marks uses chosen′ =
+    Turning bodies Root b (job .known) (job .rule) (job .row) (job .walk) (past-of job notes) body t marks uses chosen′ p (spot-of s′) × (left (job .known) chosen′ p < left (job .known) chosen at)
+Outcome next.Done bodies Root b notes job body cw aw chosen at t marks uses chosen′ = Over bodies Root b (job .known) (job .rule) (job .row) (job .walk) (past-of job notes) body t marks uses
+Outcome next.Full bodies Root b notes job body cw aw chosen at t marks uses chosen′ = Outgrown bodies Root (room 2 cw) (room 19 aw)

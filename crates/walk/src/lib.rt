@@ -12,7 +12,7 @@ use storage::marks;
 use storage::tables;
 use storage::uses;
 ghost use mathlib.Core.Path.{_≡_};
-ghost use mathlib.Core.Bool.{true};
+ghost use mathlib.Core.Bool.{true, false};
 ghost use mathlib.Core.List.{List};
 ghost use Prim.Native.Nat.{ℕ, _+_, _-_, _*_, _<_, _≤_};
 ghost use lib.ListN.{length, getD, drop};
@@ -25,22 +25,33 @@ ghost use Rattle.tabling.proofs.Uses.{UsesGrew};
 ghost use Rattle.tabling.proofs.Index.{CallIndex, AnswerIndex};
 ghost use Rattle.tabling.proofs.Walking.{Chosen};
 ghost use Rattle.tabling.proofs.Evidence.{Among};
-ghost use Rattle.tabling.proofs.Turn.{RetreatRow, Turning};
+ghost use Rattle.tabling.proofs.Turn.{RetreatRow, Turning, Picked};
 ghost use Rattle.tabling.proofs.Going.{Kept, Indexed, WentBack, Going, in-words};
-ghost use Rattle.walk.specs.Outcome.{Stepped, Outcome, Stays};
+ghost use Rattle.walk.specs.Outcome.{spot-of, past-of, Stepped, Outcome, Stays};
 
 // What does not change while a body is walked: its rule's number, the call record that it is of, how many answers may serve, and the
-// walk's own number.
+// walk's own number; the records from `first` up to `old` were walked before, with the answers below `seen`; and whether the round has noted
+// all that it has to look at again.
 pub struct Job {
     pub rule: u64,
     pub row: usize,
     pub known: usize,
     pub walk: u64,
+    pub first: usize,
+    pub old: usize,
+    pub seen: usize,
+    pub warm: bool,
+}
+
+// Where a walk is: a state, and one more than the number of the answer taken last, or 0.
+pub struct Spot {
+    pub state: State,
+    pub last: usize,
 }
 
 // How the step in front comes out: the walk goes on in a state, has nothing left from here on, or a table is full.
 pub enum Front {
-    On(State),
+    On(Spot),
     Spent,
     Full,
 }
@@ -60,17 +71,25 @@ fn finish(
     m: usize,
     answer_index: &mut [u16],
     chosen: &[u64; 16],
-    state: State,
+    spot: Spot,
 ) -> Advanced
     requires { ⌜ Stored 19 (now answers) m × AnswerIndex (answers-in 19 (now answers) m) (now «answer_index») × (job .row < 65536) ⌝ }
     ensures { λ r. ⌜ (length (now (answers .exit)) ≡ length (now (answers .entry))) × Stored 19 (now (answers .exit)) (r .answers) × (r .calls ≡ n) ⌝ }
     ensures { λ r. ⌜ AnswerIndex (answers-in 19 (now (answers .exit)) (r .answers)) (now («answer_index» .exit)) ⌝ }
-    ensures { λ r. ⌜ ((bodies : Bodies) (roots : List (ℕ × ℕ)) (b : Tables) (body calls marks uses : List ℕ) (at : ℕ) → length body ≤ at
-        → Turning bodies (Among roots) b (job .known) (job .rule) (job .row) (job .walk) body (in-words calls n (now (answers .entry)) m) marks uses (now (chosen .entry)) at (state .0)
-        → Stepped (r .front) bodies (Among roots) b job body (length calls) (length (now (answers .entry))) (now (chosen .entry)) at (state .0)
+    ensures { λ r. ⌜ ((bodies : Bodies) (roots : List (ℕ × ℕ)) (b : Tables) (notes : List ℕ) (body calls marks uses : List ℕ) (at : ℕ) → length body ≤ at
+        → Turning bodies (Among roots) b (job .known) (job .rule) (job .row) (job .walk) (past-of job notes) body (in-words calls n (now (answers .entry)) m) marks uses (now (chosen .entry)) at (spot-of spot)
+        → Stepped (r .front) bodies (Among roots) b notes job body (length calls) (length (now (answers .entry))) (now (chosen .entry)) at (spot-of spot)
         (in-words calls n (now (answers .exit)) (r .answers)) marks uses (now (chosen .entry))) ⌝ }
 {
-    let put = index::add_answer(answers, m, answer_index, job.row, state, job.rule, chosen);
+    let put = index::add_answer(
+        answers,
+        m,
+        answer_index,
+        job.row,
+        spot.state,
+        job.rule,
+        chosen,
+    );
     if put.full {
         return Advanced {
             calls: n,
@@ -85,8 +104,78 @@ fn finish(
     }
 }
 
+// Whether all answers chosen before this place are below `seen`. The latest is looked at first: a new one is most often there.
+fn is_old(chosen: &[u64; 16], at: usize, seen: usize) -> bool
+    requires { ⌜ at ≤ 16 ⌝ }
+    ensures { λ r. ⌜ (r ≡ true → (q : ℕ) → q < at → getD (now (chosen .entry)) q 0 < seen) ⌝ }
+{
+    let mut place = at;
+    while 0 < place {
+        place -= 1;
+        if (seen as u64) <= chosen[place] {
+            return false;
+        }
+    }
+    true
+}
+
+// Whether no call comes after the step in front.
+fn is_last(rest: &[u16]) -> bool
+    ensures { λ r. ⌜ (r ≡ true → (q : ℕ) → 0 < q → q < length (now (rest .entry)) → is-call (getD (now (rest .entry)) q 0) ≡ false) ⌝ }
+{
+    let mut place = 1;
+    while place < rest.len() {
+        if word::is_call(rest[place]) {
+            return false;
+        }
+        place += 1;
+    }
+    true
+}
+
+// The answer of call record `row` that a walk takes first, or `known`: where a record is walked again and the walk has come by old answers, the
+// first that is new at the last call of the body, else the first that the round looks at; otherwise the first of all.
+fn first_of(
+    rest: &[u16],
+    job: Job,
+    at: usize,
+    answers: &[u64],
+    answer_index: &[u16],
+    uses: &[u16],
+    chosen: &[u64; 16],
+    row: usize,
+) -> usize
+    requires { ⌜ (row < 65536) × (job .known ≤ 65536) × (at ≤ 16) × (length (now uses) ≡ 327680) ⌝ }
+    requires { ⌜ ((m : ℕ) × (job .known ≤ m) × (19 * m ≤ length (now answers)) × AnswerIndex (answers-in 19 (now answers) m) (now «answer_index»)) ⌝ }
+    ensures { λ r. ⌜ (r ≤ job .known) × ((notes body : List ℕ) → now (rest .entry) ≡ drop at body
+        → Picked (answers-in 19 (now (answers .entry)) (job .known)) (now (uses .entry)) (job .known) (job .row) (past-of job notes) body (now (chosen .entry)) at row r) ⌝ }
+{
+    if job.row < job.old {
+        if job.first <= job.row {
+            if is_last(rest) {
+                if is_old(chosen, at, job.seen) {
+                    return uses::first_new(uses, answers, job.seen, job.known, row);
+                }
+            } else if job.warm {
+                if is_old(chosen, at, job.seen) {
+                    return uses::first_looked(
+                        uses,
+                        answers,
+                        job.seen,
+                        job.known,
+                        answer_index,
+                        row,
+                    );
+                }
+            }
+        }
+    }
+    index::first_answer(answers, job.known, answer_index, row)
+}
+
 // A call in front: it is found or added, and its first answer is taken.
 fn enter(
+    rest: &[u16],
     step: u16,
     at: usize,
     job: Job,
@@ -96,20 +185,21 @@ fn enter(
     answers: &[u64],
     m: usize,
     answer_index: &[u16],
-    marks: &mut [u64],
-    uses: &mut [u32],
+    marks: &mut [u32],
+    uses: &mut [u16],
     chosen: &mut [u64; 16],
-    state: State,
+    spot: Spot,
 ) -> Advanced
-    requires { ⌜ Kept (now calls) n (now answers) m × Stamped (now marks) (job .walk) × (at < 16) × (job .known ≤ m) × (job .row < 65536) × (length (now uses) ≡ 65536) ⌝ }
+    requires { ⌜ Kept (now calls) n (now answers) m × Stamped (now marks) (job .walk) × (at < 16) × (job .known ≤ m) × (job .row < 65536) × (length (now uses) ≡ 327680) ⌝ }
     requires { ⌜ Indexed (now calls) n (now «call_index») (now answers) m (now «answer_index») ⌝ }
     ensures { λ r. ⌜ (length (now (calls .exit)) ≡ length (now (calls .entry))) × Stored 2 (now (calls .exit)) (r .calls) × (r .answers ≡ m) × UsesGrew (now (uses .entry)) (now (uses .exit)) ⌝ }
     ensures { λ r. ⌜ CallIndex (calls-in 2 (now (calls .exit)) (r .calls)) (now («call_index» .exit)) ⌝ }
-    ensures { λ r. ⌜ ((bodies : Bodies) (roots : List (ℕ × ℕ)) (b : Tables) (body : List ℕ) → at < length body → is-call (getD body at 0) ≡ true → getD body at 0 ≡ step
-        → Turning bodies (Among roots) b (job .known) (job .rule) (job .row) (job .walk) body (in-words (now (calls .entry)) n (now (answers .entry)) m) (now (marks .entry)) (now (uses .entry)) (now (chosen .entry)) at (state .0)
-        → Stepped (r .front) bodies (Among roots) b job body (length (now (calls .entry))) (length (now (answers .entry))) (now (chosen .entry)) at (state .0)
+    ensures { λ r. ⌜ ((bodies : Bodies) (roots : List (ℕ × ℕ)) (b : Tables) (notes : List ℕ) (body : List ℕ) → at < length body → is-call (getD body at 0) ≡ true → getD body at 0 ≡ step → now (rest .entry) ≡ drop at body
+        → Turning bodies (Among roots) b (job .known) (job .rule) (job .row) (job .walk) (past-of job notes) body (in-words (now (calls .entry)) n (now (answers .entry)) m) (now (marks .entry)) (now (uses .entry)) (now (chosen .entry)) at (spot-of spot)
+        → Stepped (r .front) bodies (Among roots) b notes job body (length (now (calls .entry))) (length (now (answers .entry))) (now (chosen .entry)) at (spot-of spot)
         (in-words (now (calls .exit)) (r .calls) (now (answers .entry)) m) (now (marks .exit)) (now (uses .exit)) (now (chosen .exit))) ⌝ }
 {
+    let state = spot.state;
     let call = Call {
         action: word::index(step),
         state: state,
@@ -124,7 +214,7 @@ fn enter(
             front: Front::Full,
         };
     }
-    uses::note(uses, job.row, row);
+    uses::note(uses, job.row, row, spot.last);
     if marks::is_marked(marks, job.walk, at, row) {
         return Advanced {
             calls: count,
@@ -133,7 +223,7 @@ fn enter(
         };
     }
     marks::mark(marks, job.walk, at, row);
-    let first = index::first_answer(answers, job.known, answer_index, row);
+    let first = first_of(rest, job, at, answers, answer_index, uses, chosen, row);
     if first == job.known {
         return Advanced {
             calls: count,
@@ -142,10 +232,14 @@ fn enter(
         };
     }
     chosen[at] = first as u64;
+    let after = Spot {
+        state: tables::final_of(answers, first),
+        last: first + 1,
+    };
     Advanced {
         calls: count,
         answers: m,
-        front: Front::On(tables::final_of(answers, first)),
+        front: Front::On(after),
     }
 }
 
@@ -160,25 +254,26 @@ fn advance(
     answers: &mut [u64],
     m: usize,
     answer_index: &mut [u16],
-    marks: &mut [u64],
-    uses: &mut [u32],
+    marks: &mut [u32],
+    uses: &mut [u16],
     chosen: &mut [u64; 16],
-    state: State,
+    spot: Spot,
 ) -> Advanced
-    requires { ⌜ Kept (now calls) n (now answers) m × Stamped (now marks) (job .walk) × (at + length (now rest) ≤ 16) × (job .known ≤ m) × (job .row < 65536) × (length (now uses) ≡ 65536) ⌝ }
+    requires { ⌜ Kept (now calls) n (now answers) m × Stamped (now marks) (job .walk) × (at + length (now rest) ≤ 16) × (job .known ≤ m) × (job .row < 65536) × (length (now uses) ≡ 327680) ⌝ }
     requires { ⌜ Indexed (now calls) n (now «call_index») (now answers) m (now «answer_index») ⌝ }
     ensures { λ r. ⌜ Stays (now (calls .entry)) (now (answers .entry)) (now (uses .entry)) (now (calls .exit)) (r .calls) (now («call_index» .exit)) (now (answers .exit)) (r .answers) (now («answer_index» .exit)) (now (uses .exit)) ⌝ }
-    ensures { λ r. ⌜ ((bodies : Bodies) (roots : List (ℕ × ℕ)) (b : Tables) (body : List ℕ) → now (rest .entry) ≡ drop at body
-        → Turning bodies (Among roots) b (job .known) (job .rule) (job .row) (job .walk) body (in-words (now (calls .entry)) n (now (answers .entry)) m) (now (marks .entry)) (now (uses .entry)) (now (chosen .entry)) at (state .0)
-        → Stepped (r .front) bodies (Among roots) b job body (length (now (calls .entry))) (length (now (answers .entry))) (now (chosen .entry)) at (state .0)
+    ensures { λ r. ⌜ ((bodies : Bodies) (roots : List (ℕ × ℕ)) (b : Tables) (notes : List ℕ) (body : List ℕ) → now (rest .entry) ≡ drop at body
+        → Turning bodies (Among roots) b (job .known) (job .rule) (job .row) (job .walk) (past-of job notes) body (in-words (now (calls .entry)) n (now (answers .entry)) m) (now (marks .entry)) (now (uses .entry)) (now (chosen .entry)) at (spot-of spot)
+        → Stepped (r .front) bodies (Among roots) b notes job body (length (now (calls .entry))) (length (now (answers .entry))) (now (chosen .entry)) at (spot-of spot)
         (in-words (now (calls .exit)) (r .calls) (now (answers .exit)) (r .answers)) (now (marks .exit)) (now (uses .exit)) (now (chosen .exit))) ⌝ }
 {
     if rest.len() == 0 {
-        return finish(job, n, answers, m, answer_index, chosen, state);
+        return finish(job, n, answers, m, answer_index, chosen, spot);
     }
     let step = rest[0];
     if word::is_call(step) {
         return enter(
+            rest,
             step,
             at,
             job,
@@ -191,17 +286,22 @@ fn advance(
             marks,
             uses,
             chosen,
-            state,
+            spot,
         );
     }
+    let state = spot.state;
     let next = word::elementary(step, state);
     match next {
         word::Next::On(after) => {
             chosen[at] = 0;
+            let there = Spot {
+                state: after,
+                last: spot.last,
+            };
             Advanced {
                 calls: n,
                 answers: m,
-                front: Front::On(after),
+                front: Front::On(there),
             }
         }
         word::Next::Stuck => Advanced {
@@ -248,10 +348,10 @@ fn retreat(
     Later { at: 0, answer: 0 }
 }
 
-// A place and the state there.
+// A place and where the walk is then.
 pub struct Went {
     pub at: usize,
-    pub state: State,
+    pub spot: Spot,
 }
 
 // Takes the next answer of the latest call step that has one left: the place after it and its final state; place 0 where there is none.
@@ -265,7 +365,7 @@ fn go_back(
 ) -> Went
     requires { ⌜ (known ≤ 65536) × (at ≤ length (now body)) × (at ≤ 16) × Chosen (now body) known (now chosen) at ⌝ }
     requires { ⌜ ((m : ℕ) × (known ≤ m) × (19 * m ≤ length (now answers)) × AnswerIndex (answers-in 19 (now answers) m) (now index)) ⌝ }
-    ensures { λ r. ⌜ WentBack (now (body .entry)) (now (answers .entry)) known (now (chosen .entry)) at (now (chosen .exit)) (r .at) (r .state .0) ⌝ }
+    ensures { λ r. ⌜ WentBack (now (body .entry)) (now (answers .entry)) known (now (chosen .entry)) at (now (chosen .exit)) (r .at) (spot-of (r .spot)) ⌝ }
 {
     let back = retreat(body, answers, known, index, chosen, at);
     let after = back.at;
@@ -273,20 +373,26 @@ fn go_back(
     if after == 0 {
         return Went {
             at: 0,
-            state: State::NOTHING,
+            spot: Spot {
+                state: State::NOTHING,
+                last: 0,
+            },
         };
     }
     chosen[after - 1] = answer as u64;
     Went {
         at: after,
-        state: tables::final_of(answers, answer),
+        spot: Spot {
+            state: tables::final_of(answers, answer),
+            last: answer + 1,
+        },
     }
 }
 
 // How a turn comes out: on after the step in front, back at a place of the body, done, or a table is full.
 pub enum Next {
-    On(State),
-    Back(usize, State),
+    On(Spot),
+    Back(usize, Spot),
     Done,
     Full,
 }
@@ -309,18 +415,18 @@ pub fn turn(
     answers: &mut [u64],
     m: usize,
     answer_index: &mut [u16],
-    marks: &mut [u64],
-    uses: &mut [u32],
+    marks: &mut [u32],
+    uses: &mut [u16],
     chosen: &mut [u64; 16],
-    state: State,
+    spot: Spot,
 ) -> Moved
-    requires { ⌜ Kept (now calls) n (now answers) m × Indexed (now calls) n (now «call_index») (now answers) m (now «answer_index») × (length (now uses) ≡ 65536) ⌝ }
-    requires { ⌜ ((bodies : Bodies) × (roots : List (ℕ × ℕ)) × (b : Tables)
-        × Going bodies (Among roots) b (job .known) (job .rule) (job .row) (job .walk) (now body) (in-words (now calls) n (now answers) m) (now marks) (now uses) (now chosen) (now rest) (state .0)) ⌝ }
+    requires { ⌜ Kept (now calls) n (now answers) m × Indexed (now calls) n (now «call_index») (now answers) m (now «answer_index») × (length (now uses) ≡ 327680) ⌝ }
+    requires { ⌜ ((bodies : Bodies) × (roots : List (ℕ × ℕ)) × (b : Tables) × (notes : List ℕ)
+        × Going bodies (Among roots) b (job .known) (job .rule) (job .row) (job .walk) (past-of job notes) (now body) (in-words (now calls) n (now answers) m) (now marks) (now uses) (now chosen) (now rest) (spot-of spot)) ⌝ }
     ensures { λ r. ⌜ Stays (now (calls .entry)) (now (answers .entry)) (now (uses .entry)) (now (calls .exit)) (r .calls) (now («call_index» .exit)) (now (answers .exit)) (r .answers) (now («answer_index» .exit)) (now (uses .exit)) ⌝ }
-    ensures { λ r. ⌜ ((bodies : Bodies) (roots : List (ℕ × ℕ)) (b : Tables)
-        → Going bodies (Among roots) b (job .known) (job .rule) (job .row) (job .walk) (now (body .entry)) (in-words (now (calls .entry)) n (now (answers .entry)) m) (now (marks .entry)) (now (uses .entry)) (now (chosen .entry)) (now (rest .entry)) (state .0)
-        → Outcome (r .next) bodies (Among roots) b job (now (body .entry)) (length (now (calls .entry))) (length (now (answers .entry))) (now (chosen .entry)) (length (now (body .entry)) - length (now (rest .entry)))
+    ensures { λ r. ⌜ ((bodies : Bodies) (roots : List (ℕ × ℕ)) (b : Tables) (notes : List ℕ)
+        → Going bodies (Among roots) b (job .known) (job .rule) (job .row) (job .walk) (past-of job notes) (now (body .entry)) (in-words (now (calls .entry)) n (now (answers .entry)) m) (now (marks .entry)) (now (uses .entry)) (now (chosen .entry)) (now (rest .entry)) (spot-of spot)
+        → Outcome (r .next) bodies (Among roots) b notes job (now (body .entry)) (length (now (calls .entry))) (length (now (answers .entry))) (now (chosen .entry)) (length (now (body .entry)) - length (now (rest .entry)))
         (in-words (now (calls .exit)) (r .calls) (now (answers .exit)) (r .answers)) (now (marks .exit)) (now (uses .exit)) (now (chosen .exit))) ⌝ }
 {
     let at = body.len() - rest.len();
@@ -337,7 +443,7 @@ pub fn turn(
         marks,
         uses,
         chosen,
-        state,
+        spot,
     );
     let front = a.front;
     match front {
@@ -354,7 +460,7 @@ pub fn turn(
         Front::Spent => {
             let back = go_back(body, answers, job.known, answer_index, chosen, at);
             let place = back.at;
-            let there = back.state;
+            let there = back.spot;
             if place == 0 {
                 return Moved {
                     calls: a.calls,

@@ -1,15 +1,15 @@
 -- `tabulate` meets its contract: the goal's call stands first, or there is no room for it. Assumes nothing.
-use Prim.Native.Nat.{ℕ}
+use Prim.Native.Nat.{ℕ, _+_, _≤_}
 use native.Mathlib.Omega.{arith}
 use mathlib.Core.Path.{refl, _∙_}
 use mathlib.Core.List.{[], _∷_}
-use lib.ListN.{length, length-replicate}
+use lib.ListN.{length, replicate, length-replicate}
 use borrow.Author.Needs.{needs}
 use Rattle.steps.proofs.EachBelow.{true-not-false}
 use Rattle.tabling.specs.Records.{bodies-of, room, calls-in, answers-in}
 use Rattle.tabling.proofs.Storage.{CallPut}
 use Rattle.tabling.proofs.Evidence.{Among, Valid}
-use Rattle.tabling.proofs.Marks.{zeros-stamped}
+use Rattle.tabling.proofs.Marks.{zeros-stamped, zeros-at}
 use Rattle.tabling.proofs.Index.{call-index-none, answer-index-none}
 use Rattle.tabling.proofs.Going.{in-words}
 use Rattle.tabling.proofs.Filling.{first-valid, first-full}
@@ -28,7 +28,7 @@ goal-requires : tie.Need-goal-requires
 goal-requires c κs = search needs
 
 add-call-requires : tie.Need-add-call-requires
-add-call-requires c κs = let i = c .before .before .before .before .before .before .before in (zeros-stored 2 _ (i .pre .1 .0), call-index-none (calls-in 2 (i .args .calls .now) 0) _ refl (length-replicate {A = ℕ} 131072 0))
+add-call-requires c κs = let i = c .before .before .before .before .before .before .before in (zeros-stored 2 _ (i .pre .1 .0), call-index-none (calls-in 2 (i .args .calls .now) 0) _ refl (length-replicate {A = ℕ} 122880 0))
 
 -- the goal's call
 put-at : (c : tie.After-add-call) → CallPut (room 2 (length (c .before .before .before .before .before .before .before .before .args .calls .now))) (calls-in 2 (c .before .before .before .before .before .before .before .before .args .calls .now) 0) 64 (c .before .before .before .before .before .before .before .before .args .start) (calls-in 2 (c .add-call .last .0) (c .add-call .result .count)) (c .add-call .result .row) (c .add-call .result .full)
@@ -77,10 +77,11 @@ fill-requires c κs =
     let i = start p in (
       (
         record { calls-stored = p .add-call .ensures .0 .stored; answers-stored = zeros-stored 19 _ (i .pre .1 .1) },
-        record { of-calls = p .add-call .ensures .1; of-answers = answer-index-none (answers-in 19 (i .args .answers .now) 0) _ refl (length-replicate {A = ℕ} 327680 0) },
+        record { of-calls = p .add-call .ensures .1; of-answers = answer-index-none (answers-in 19 (i .args .answers .now) 0) _ refl (length-replicate {A = ℕ} 319488 0) },
         zeros-stamped 65536 0 refl (omega arith),
         omega arith,
-        length-replicate {A = ℕ} 65536 0,
+        length-replicate {A = ℕ} 327680 0,
+        λ k. zeros-at 327680 (262144 + k),
       ),
       (i .pre .0, ((64, i .args .start) ∷ [], first e)),
     )

@@ -10,16 +10,17 @@ use Rattle.tabling.specs.Records.{room, calls-in}
 use Rattle.tabling.proofs.Storage.{CallPut}
 use Rattle.tabling.proofs.StorageLaws.{put-row}
 use Rattle.tabling.proofs.Evidence.{Among}
-use Rattle.tabling.proofs.Uses.{uses-refl, use-new, use-grew}
+use Rattle.tabling.proofs.Uses.{uses-refl}
 use Rattle.tabling.proofs.Measure.{left-on}
 use Rattle.tabling.proofs.Turn.{turn-called, turn-calls-full, turn-noted, turn-seen, turn-none, turn-take}
-use Rattle.tabling.proofs.Going.{next-among}
+use Rattle.tabling.proofs.Going.{picked-among}
+use Rattle.walk.specs.Outcome.{past-of}
 use Rattle.walk.proofs.enter.Statement.{statement}
 use Rattle.walk.proofs.enter.Tie as tie
 
 -- where the function begins, and what it is asked
 abbrev start : tie.After-add-call → tie.Start
-start c = c .before .before .before .before .before .before .before .before .before .before
+start c = c .before .before .before .before .before .before .before .before .before .before .before .before
 
 -- where the call has been put, from where its mark has been looked at
 abbrev put : tie.After-is-marked → tie.After-add-call
@@ -28,21 +29,17 @@ put c = c .before .before .before .before .before .before .before .before .befor
 -- the call put is that of the step in front
 put-at : (c : tie.After-add-call) {a : ℕ} → a ≡ start c .args .step
     → CallPut (room 2 (length (start c .args .calls .now))) (calls-in 2 (start c .args .calls .now) (start c .args .n)) (a % 256)
-    (start c .args .state .0) (calls-in 2 (c .add-call .last .0) (c .add-call .result .count)) (c .add-call .result .row) (c .add-call .result .full)
+    (start c .args .spot .state .0) (calls-in 2 (c .add-call .last .0) (c .add-call .result .count)) (c .add-call .result .row) (c .add-call .result .full)
 put-at c z = rw (z, ← c .before .before .before .index .ensures) (c .add-call .ensures .0 .put)
 
 row-small : (c : tie.After-add-call) → c .add-call .result .full ≡ false → c .add-call .result .row < 65536
 row-small c f = let s = c .add-call .ensures .0 in omega (arith, s .stored .most, put-row 2 _ _ _ _ _ _ _ _ s f)
 
--- the words of uses are long enough for the call's record
-use-room : (c : tie.After-add-call) → c .add-call .result .full ≡ false → c .add-call .result .row < length (start c .args .uses .now)
-use-room c f = omega (arith, row-small c f, start c .pre .0 .5)
-
 index-requires : tie.Need-index-requires
 index-requires c κs = search needs
 
 add-call-requires : tie.Need-add-call-requires
-add-call-requires c κs = let i = c .before .before .before .before .before .before .before .before .before in (i .pre .0 .0 .calls-stored, i .pre .1 .of-calls)
+add-call-requires c κs = let i = c .before .before .before .before .before .before .before .before .before .before .before in (i .pre .0 .0 .calls-stored, i .pre .1 .of-calls)
 
 same-length : tie.Need-same-length
 same-length c = c .before .before .before .before .before .add-call .ensures .0 .long
@@ -57,11 +54,11 @@ returns c =
     let i = start p in
     let j = i .args .job in (
       (s .0 .long, s .0 .stored, refl, uses-refl _),
-      (s .1, λ bodies roots b body h e z T. turn-calls-full bodies (Among roots) b (j .known) (j .rule) (j .row) (j .walk) body T h e (room 19 (length (i .args .answers .now))) (put-at p z) (c .if1 .taken)),
+      (s .1, λ bodies roots b notes body h e z d T. turn-calls-full bodies (Among roots) b (j .known) (j .rule) (j .row) (j .walk) (past-of j notes) body T h e (room 19 (length (i .args .answers .now))) (put-at p z) (c .if1 .taken)),
     )
 
 note-requires : tie.Need-note-requires
-note-requires c κs = let p = c .before .before .before .before .before .before in (use-room p (c .before .if1 .left), start p .pre .0 .4)
+note-requires c κs = let p = c .before .before .before .before .before .before in (start p .pre .0 .5, row-small p (c .before .if1 .left), start p .pre .0 .4)
 
 is-marked-requires : tie.Need-is-marked-requires
 is-marked-requires c κs =
@@ -79,7 +76,7 @@ same-length-5 : tie.Need-same-length-5
 same-length-5 c = search needs
 
 same-length-6 : tie.Need-same-length-6
-same-length-6 c = rw (c .before .before .before .before .before .note .ensures) (use-grew _ _ _ (use-room (c .before .before .before .before .before .before .before .before .before .before .before .before) (c .before .before .before .before .before .before .before .if1 .left)) (start (c .before .before .before .before .before .before .before .before .before .before .before .before) .pre .0 .4) .long)
+same-length-6 c = c .before .before .before .before .before .note .ensures .grew .long
 
 returns-2 : tie.Need-returns-2
 returns-2 c =
@@ -88,13 +85,13 @@ returns-2 c =
     let s = p .add-call .ensures in
     let i = start p in
     let j = i .args .job in (
-      (s .0 .long, s .0 .stored, refl, rw (m .before .before .before .before .note .ensures) (use-grew _ _ _ (use-room p (m .before .before .before .before .before .before .if1 .left)) (i .pre .0 .4))),
+      (s .0 .long, s .0 .stored, refl, m .before .before .before .before .note .ensures .grew),
       (
         s .1,
-        λ bodies roots b body h e z T.
-            (let (U, l, k) = turn-called bodies (Among roots) b (j .known) (j .rule) (j .row) (j .walk) body T h e (put-at p z) (m .before .before .before .before .before .before .if1 .left) in
-            let N = turn-noted bodies (Among roots) b (j .known) (j .rule) (j .row) (j .walk) body U h e (p .add-call .result .row) (use-room p (m .before .before .before .before .before .before .if1 .left)) (i .pre .0 .4) in
-            rw (m .before .before .before .before .note .ensures) (turn-seen bodies (Among roots) b (j .known) (j .rule) (j .row) (j .walk) body N h e l k (use-new _ _ _ (use-room p (m .before .before .before .before .before .before .if1 .left)) (i .pre .0 .4)) (rw (c .if2 .taken) at (m .is-marked .ensures)), refl)),
+        λ bodies roots b notes body h e z d T.
+            (let (U, l, k) = turn-called bodies (Among roots) b (j .known) (j .rule) (j .row) (j .walk) (past-of j notes) body T h e (put-at p z) (m .before .before .before .before .before .before .if1 .left) in
+            let N = turn-noted bodies (Among roots) b (j .known) (j .rule) (j .row) (j .walk) (past-of j notes) body U h e (m .before .before .before .before .note .ensures) in
+            (turn-seen bodies (Among roots) b (j .known) (j .rule) (j .row) (j .walk) (past-of j notes) body N h e l k (m .before .before .before .before .note .ensures .used) (m .before .before .before .before .note .ensures .after) (rw (c .if2 .taken) at (m .is-marked .ensures)), refl)),
       ),
     )
 
@@ -105,94 +102,106 @@ mark-requires c κs =
     let i = start p in
     (i .pre .0 .1, row-small p (m .before .before .before .before .before .before .if1 .left), i .pre .0 .2, rw (c .before .if2 .left) at (m .is-marked .ensures))
 
-first-answer-requires : tie.Need-first-answer-requires
-first-answer-requires c κs =
-    let m = c .before .before .before .before .before in
+first-of-requires : tie.Need-first-of-requires
+first-of-requires c κs =
+    let m = c .before .before .before .before .before .before .before in
     let i = start (put m) in
-    let k = i .pre .0 .0 .answers-stored in
-    ((row-small (put m) (m .before .before .before .before .before .before .if1 .left), omega (arith, k .most, i .pre .0 .3)), (i .args .m, i .pre .0 .3, k .fits, i .pre .1 .of-answers))
+    let k = i .pre .0 .0 .answers-stored in (
+      (row-small (put m) (m .before .before .before .before .before .before .if1 .left), omega (arith, k .most, i .pre .0 .3), omega (arith, i .pre .0 .2), m .before .before .before .before .note .ensures .grew .long ∙ i .pre .0 .5),
+      (i .args .m, i .pre .0 .3, k .fits, i .pre .1 .of-answers),
+    )
 
 same-length-7 : tie.Need-same-length-7
-same-length-7 c = c .before .before .before .before .before .before .before .before .before .before .before .before .before .before .before .before .before .before .before .add-call .ensures .0 .long
+same-length-7 c = c .before .before .before .before .before .before .before .before .before .before .before .before .before .before .before .before .before .before .before .before .before .add-call .ensures .0 .long
 
 same-length-8 : tie.Need-same-length-8
-same-length-8 c = c .before .before .before .before .before .before .before .before .before .before .before .before .before .before .before .before .before .before .before .add-call .ensures .1 .long ∙ sym (start (c .before .before .before .before .before .before .before .before .before .before .before .before .before .before .before .before .before .before .before) .pre .1 .of-calls .long)
+same-length-8 c = c .before .before .before .before .before .before .before .before .before .before .before .before .before .before .before .before .before .before .before .before .before .add-call .ensures .1 .long ∙ sym (start (c .before .before .before .before .before .before .before .before .before .before .before .before .before .before .before .before .before .before .before .before .before) .pre .1 .of-calls .long)
 
 same-length-9 : tie.Need-same-length-9
 same-length-9 c = search needs
 
 same-length-10 : tie.Need-same-length-10
-same-length-10 c = rw (c .before .before .before .before .before .before .before .before .before .before .before .before .note .ensures) (use-grew _ _ _ (use-room (c .before .before .before .before .before .before .before .before .before .before .before .before .before .before .before .before .before .before .before) (c .before .before .before .before .before .before .before .before .before .before .before .before .before .before .if1 .left)) (start (c .before .before .before .before .before .before .before .before .before .before .before .before .before .before .before .before .before .before .before) .pre .0 .4) .long)
+same-length-10 c = c .before .before .before .before .before .before .before .before .before .before .before .before .before .before .note .ensures .grew .long
 
 returns-3 : tie.Need-returns-3
 returns-3 c =
     let n = c .before .before in
-    let k = c .before .before .before .before .before in
-    let m = c .before .before .before .before .before .before .before .before in
+    let k = c .before .before .before .before .before .before .before in
+    let m = c .before .before .before .before .before .before .before .before .before .before in
     let p = put m in
     let s = p .add-call .ensures in
     let i = start p in
     let j = i .args .job in (
-      (s .0 .long, s .0 .stored, refl, rw (m .before .before .before .before .note .ensures) (use-grew _ _ _ (use-room p (m .before .before .before .before .before .before .if1 .left)) (i .pre .0 .4))),
+      (s .0 .long, s .0 .stored, refl, m .before .before .before .before .note .ensures .grew),
       (
         s .1,
-        λ bodies roots b body h e z T.
-            (let (U, l, r) = turn-called bodies (Among roots) b (j .known) (j .rule) (j .row) (j .walk) body T h e (put-at p z) (m .before .before .before .before .before .before .if1 .left) in
-            let N = turn-noted bodies (Among roots) b (j .known) (j .rule) (j .row) (j .walk) body U h e (p .add-call .result .row) (use-room p (m .before .before .before .before .before .before .if1 .left)) (i .pre .0 .4) in (
-              rw (m .before .before .before .before .note .ensures, k .mark .ensures)
-                  (turn-none bodies (Among roots) b (j .known) (j .rule) (j .row) (j .walk) body N h e l r (use-new _ _ _ (use-room p (m .before .before .before .before .before .before .if1 .left)) (i .pre .0 .4)) (row-small p (m .before .before .before .before .before .before .if1 .left)) (rw (c .before .before .before .before .before .before .before .if2 .left) at (m .is-marked .ensures))
-                  (next-among (i .args .answers .now) (i .args .m) (rw (c .if3 .taken) at (n .first-answer .ensures)))),
+        λ bodies roots b notes body h e z d T.
+            (let (U, l, r) = turn-called bodies (Among roots) b (j .known) (j .rule) (j .row) (j .walk) (past-of j notes) body T h e (put-at p z) (m .before .before .before .before .before .before .if1 .left) in
+            let N = turn-noted bodies (Among roots) b (j .known) (j .rule) (j .row) (j .walk) (past-of j notes) body U h e (m .before .before .before .before .note .ensures) in (
+              rw (k .mark .ensures)
+                  (turn-none bodies (Among roots) b (j .known) (j .rule) (j .row) (j .walk) (past-of j notes) body N h e l r (m .before .before .before .before .note .ensures .used) (m .before .before .before .before .note .ensures .after) (row-small p (m .before .before .before .before .before .before .if1 .left)) (rw (c .before .before .before .before .before .before .before .before .before .if2 .left) at (m .is-marked .ensures))
+                  (picked-among (i .args .answers .now) (i .args .m) (rw (c .if3 .taken) at (n .first-of .ensures .1 notes body d)))),
               refl,
             )),
       ),
     )
 
+-- the answer taken is known
+first-below : (c : tie.Else3) → c .before .before .first-of .result < start (put (c .before .before .before .before .before .before .before .before .before .before)) .args .job .known
+first-below c =
+    let m = c .before .before .before .before .before .before .before .before .before .before in
+    let i = start (put m) in
+    let j = i .args .job in
+    omega (arith, c .before .before .first-of .ensures .0, c .if3 .left)
+
 mul-chosen : tie.Need-mul-chosen
-mul-chosen c = let i = start (put (c .before .before .before .before .before .before .before .before)) in omega (arith, i .pre .0 .2)
+mul-chosen c = let i = start (put (c .before .before .before .before .before .before .before .before .before .before)) in omega (arith, i .pre .0 .2)
 
 element-write-chosen : tie.Need-element-write-chosen
-element-write-chosen c = let i = start (put (c .before .before .before .before .before .before .before .before)) in omega (arith, i .pre .0 .2)
+element-write-chosen c = let i = start (put (c .before .before .before .before .before .before .before .before .before .before)) in omega (arith, i .pre .0 .2)
 
 final-of-requires : tie.Need-final-of-requires
 final-of-requires c κs =
-    let i = start (put (c .before .before .before .before .before .before .before .before)) in
-    let n = c .before .before .first-answer .ensures in
-    omega (arith, i .pre .0 .0 .answers-stored .fits, i .pre .0 .3, n .high, c .if3 .left)
+    let i = start (put (c .before .before .before .before .before .before .before .before .before .before)) in
+    omega (arith, i .pre .0 .0 .answers-stored .fits, i .pre .0 .3, first-below c)
+
+add-t42 : tie.Need-add-t42
+add-t42 c = let i = start (put (c .before .before .before .before .before .before .before .before .before .before .before)) in omega (arith, first-below (c .before), i .pre .0 .0 .answers-stored .most, i .pre .0 .3)
 
 same-length-11 : tie.Need-same-length-11
-same-length-11 c = c .before .before .before .before .before .before .before .before .before .before .before .before .before .before .before .before .before .before .before .before .add-call .ensures .0 .long
+same-length-11 c = c .before .before .before .before .before .before .before .before .before .before .before .before .before .before .before .before .before .before .before .before .before .before .add-call .ensures .0 .long
 
 same-length-12 : tie.Need-same-length-12
-same-length-12 c = c .before .before .before .before .before .before .before .before .before .before .before .before .before .before .before .before .before .before .before .before .add-call .ensures .1 .long ∙ sym (start (c .before .before .before .before .before .before .before .before .before .before .before .before .before .before .before .before .before .before .before .before) .pre .1 .of-calls .long)
+same-length-12 c = c .before .before .before .before .before .before .before .before .before .before .before .before .before .before .before .before .before .before .before .before .before .before .add-call .ensures .1 .long ∙ sym (start (c .before .before .before .before .before .before .before .before .before .before .before .before .before .before .before .before .before .before .before .before .before .before) .pre .1 .of-calls .long)
 
 same-length-13 : tie.Need-same-length-13
 same-length-13 c = search needs
 
 same-length-14 : tie.Need-same-length-14
-same-length-14 c = rw (c .before .before .before .before .before .before .before .before .before .before .before .before .before .note .ensures) (use-grew _ _ _ (use-room (c .before .before .before .before .before .before .before .before .before .before .before .before .before .before .before .before .before .before .before .before) (c .before .before .before .before .before .before .before .before .before .before .before .before .before .before .before .if1 .left)) (start (c .before .before .before .before .before .before .before .before .before .before .before .before .before .before .before .before .before .before .before .before) .pre .0 .4) .long)
+same-length-14 c = c .before .before .before .before .before .before .before .before .before .before .before .before .before .before .before .note .ensures .grew .long
 
 returns-4 : tie.Need-returns-4
 returns-4 c =
     let o = c .before in
     let n = c .before .before .before in
-    let k = c .before .before .before .before .before .before in
-    let m = c .before .before .before .before .before .before .before .before .before in
+    let k = c .before .before .before .before .before .before .before .before in
+    let m = c .before .before .before .before .before .before .before .before .before .before .before in
     let p = put m in
     let s = p .add-call .ensures in
     let i = start p in
     let j = i .args .job in
     let at = i .args .at in
-    let first = n .first-answer .result in
-    let below : first < j .known = omega (arith, n .first-answer .ensures .high, o .if3 .left) in (
-      (s .0 .long, s .0 .stored, refl, rw (m .before .before .before .before .note .ensures) (use-grew _ _ _ (use-room p (m .before .before .before .before .before .before .if1 .left)) (i .pre .0 .4))),
+    let first = n .first-of .result in
+    let below : first < j .known = first-below o in (
+      (s .0 .long, s .0 .stored, refl, m .before .before .before .before .note .ensures .grew),
       (
         s .1,
-        λ bodies roots b body h e z T.
-            (let (U, l, r) = turn-called bodies (Among roots) b (j .known) (j .rule) (j .row) (j .walk) body T h e (put-at p z) (m .before .before .before .before .before .before .if1 .left) in
-            let N = turn-noted bodies (Among roots) b (j .known) (j .rule) (j .row) (j .walk) body U h e (p .add-call .result .row) (use-room p (m .before .before .before .before .before .before .if1 .left)) (i .pre .0 .4) in (
-              rw (c .final-of .ensures, m .before .before .before .before .note .ensures, k .mark .ensures)
-                  (turn-take bodies (Among roots) b (j .known) (j .rule) (j .row) (j .walk) body N h e l r (use-new _ _ _ (use-room p (m .before .before .before .before .before .before .if1 .left)) (i .pre .0 .4)) (row-small p (m .before .before .before .before .before .before .if1 .left)) (rw (c .before .before .before .before .before .before .before .before .if2 .left) at (m .is-marked .ensures)) below
-                  (next-among (i .args .answers .now) (i .args .m) (n .first-answer .ensures))),
+        λ bodies roots b notes body h e z d T.
+            (let (U, l, r) = turn-called bodies (Among roots) b (j .known) (j .rule) (j .row) (j .walk) (past-of j notes) body T h e (put-at p z) (m .before .before .before .before .before .before .if1 .left) in
+            let N = turn-noted bodies (Among roots) b (j .known) (j .rule) (j .row) (j .walk) (past-of j notes) body U h e (m .before .before .before .before .note .ensures) in (
+              rw (c .final-of .ensures, k .mark .ensures)
+                  (turn-take bodies (Among roots) b (j .known) (j .rule) (j .row) (j .walk) (past-of j notes) body N h e l r (m .before .before .before .before .note .ensures .used) (m .before .before .before .before .note .ensures .after) (row-small p (m .before .before .before .before .before .before .if1 .left)) (rw (c .before .before .before .before .before .before .before .before .before .before .if2 .left) at (m .is-marked .ensures)) below
+                  (picked-among (i .args .answers .now) (i .args .m) (n .first-of .ensures .1 notes body d))),
               left-on (j .known) (i .args .chosen .now) (set (i .args .chosen .now) at first) at at (λ q l. getD-set-other (i .args .chosen .now) at q first 0 (omega arith)) (i .pre .0 .2) refl,
             )),
       ),
@@ -215,7 +224,7 @@ enter-spec =
     same-length-6
     returns-2
     mark-requires
-    first-answer-requires
+    first-of-requires
     same-length-7
     same-length-8
     same-length-9
@@ -224,6 +233,7 @@ enter-spec =
     mul-chosen
     element-write-chosen
     final-of-requires
+    add-t42
     same-length-11
     same-length-12
     same-length-13

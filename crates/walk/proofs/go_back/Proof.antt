@@ -30,10 +30,13 @@ answer-below c = let r = c .before .retreat in let e : r .result .at ≡ (r .res
 final-of-requires : tie.Need-final-of-requires
 final-of-requires c κs = let (m, l, f, x) = c .before .before .before .before .before .before .pre .1 in omega (arith, answer-below c)
 
+add-t15 : tie.Need-add-t15
+add-t15 c = omega (arith, answer-below (c .before), c .before .before .before .before .before .before .before .pre .0 .0)
+
 returns-2 : tie.Need-returns-2
 returns-2 c =
     let r = c .before .before .retreat in
-    record { j = r .result .answer; row = r .ensures; taken = λ p e. (let z : r .result .at - 1 ≡ p = omega arith in (rw z refl, c .final-of .ensures)) }
+    record { j = r .result .answer; row = r .ensures; taken = λ p e. (let z : r .result .at - 1 ≡ p = omega arith in (rw z refl, λ i. (c .final-of .ensures i, r .result .answer + 1))) }
 
 pub go-back-spec : {M : Type 1} → statement M
 go-back-spec =
@@ -45,4 +48,5 @@ go-back-spec =
     mul-chosen
     element-write-chosen
     final-of-requires
+    add-t15
     returns-2)

@@ -15,20 +15,20 @@ use Rattle.tabling.proofs.Going.{Going, going-fits, in-words, went-over, went-o
 use Rattle.walk.specs.declared.Job.{Job}
 use Rattle.walk.specs.declared.Front.{Front}
 use Rattle.walk.specs.declared.Front.the-variants as front
-use Rattle.walk.specs.Outcome.{Stepped}
+use Rattle.walk.specs.Outcome.{spot-of, past-of, Stepped}
 use Rattle.walk.proofs.turn.Statement.{statement}
 use Rattle.walk.proofs.turn.Tie as tie
 
 -- the walk as it stands at entry
-going : (c : tie.Start) → Going (c .pre .1 .0) (Among (c .pre .1 .1)) (c .pre .1 .2) (c .args .job .known) (c .args .job .rule) (c .args .job .row) (c .args .job .walk) (c .args .body .now)
-    (in-words (c .args .calls .now) (c .args .n) (c .args .answers .now) (c .args .m)) (c .args .marks .now) (c .args .uses .now) (c .args .chosen .now) (c .args .rest .now) (c .args .state .0)
-going c = c .pre .1 .3
+going : (c : tie.Start) → Going (c .pre .1 .0) (Among (c .pre .1 .1)) (c .pre .1 .2) (c .args .job .known) (c .args .job .rule) (c .args .job .row) (c .args .job .walk) (past-of (c .args .job) (c .pre .1 .3)) (c .args .body .now)
+    (in-words (c .args .calls .now) (c .args .n) (c .args .answers .now) (c .args .m)) (c .args .marks .now) (c .args .uses .now) (c .args .chosen .now) (c .args .rest .now) (spot-of (c .args .spot))
+going c = c .pre .1 .4
 
 fits : (c : tie.Start) → length (c .args .rest .now) ≤ length (c .args .body .now)
-fits c = going-fits _ _ _ _ _ _ _ _ (going c)
+fits c = going-fits _ _ _ _ _ _ _ _ _ (going c)
 
 short : (c : tie.Start) → length (c .args .body .now) ≤ 16
-short c = body-short _ _ _ _ _ _ (c .args .job .walk) _ (going c .turning .given)
+short c = body-short _ _ _ _ _ _ (c .args .job .walk) _ _ (going c .turning .given)
 
 sub-at : tie.Need-sub-at
 sub-at c = omega (arith, fits (c .before .before .before .before .before .before .before .before))
@@ -51,7 +51,7 @@ enum-told-2 : tie.Need-enum-told-2
 enum-told-2 c = search needs
 
 -- where nothing is left from here on
-module _ (v : tie.After-advance) (e : v .advance .result .front ≡ front.Spent) (bodies : Bodies) (roots : List (ℕ × ℕ)) (b : Tables) where
+module _ (v : tie.After-advance) (e : v .advance .result .front ≡ front.Spent) (bodies : Bodies) (roots : List (ℕ × ℕ)) (b : Tables) (notes : List ℕ) where
   abbrev i : tie.Start
   i = v .before .before .before .before .before .before .before .before .before .before .before .before .before .before .before .before
 
@@ -61,20 +61,20 @@ module _ (v : tie.After-advance) (e : v .advance .result .front ≡ front.Spent)
   abbrev at : ℕ
   at = length (i .args .body .now) - length (i .args .rest .now)
 
-  spent : Going bodies (Among roots) b (j .known) (j .rule) (j .row) (j .walk) (i .args .body .now) (in-words (i .args .calls .now) (i .args .n) (i .args .answers .now) (i .args .m)) (i .args .marks .now) (i .args .uses .now) (i .args .chosen .now) (i .args .rest .now) (i .args .state .0)
-      → Turned bodies (Among roots) b (j .known) (j .rule) (j .row) (j .walk) (i .args .body .now) (in-words (v .advance .last .1 .1 .1 .0) (v .advance .result .calls) (v .advance .last .1 .1 .1 .1 .1 .1 .0) (v .advance .result .answers))
-      (v .advance .last .1 .1 .1 .1 .1 .1 .1 .1 .1 .0) (v .advance .last .1 .1 .1 .1 .1 .1 .1 .1 .1 .1 .0) (v .advance .last .1 .1 .1 .1 .1 .1 .1 .1 .1 .1 .1 .0) at (i .args .state .0)
+  spent : Going bodies (Among roots) b (j .known) (j .rule) (j .row) (j .walk) (past-of j notes) (i .args .body .now) (in-words (i .args .calls .now) (i .args .n) (i .args .answers .now) (i .args .m)) (i .args .marks .now) (i .args .uses .now) (i .args .chosen .now) (i .args .rest .now) (spot-of (i .args .spot))
+      → Turned bodies (Among roots) b (j .known) (j .rule) (j .row) (j .walk) (past-of j notes) (i .args .body .now) (in-words (v .advance .last .1 .1 .1 .0) (v .advance .result .calls) (v .advance .last .1 .1 .1 .1 .1 .1 .0) (v .advance .result .answers))
+      (v .advance .last .1 .1 .1 .1 .1 .1 .1 .1 .1 .0) (v .advance .last .1 .1 .1 .1 .1 .1 .1 .1 .1 .1 .0) (v .advance .last .1 .1 .1 .1 .1 .1 .1 .1 .1 .1 .1 .0) at (spot-of (i .args .spot))
       × (v .advance .last .1 .1 .1 .1 .1 .1 .1 .1 .1 .1 .1 .0 ≡ i .args .chosen .now)
   spent G = subst
-      (λ (f : Front). Stepped f bodies (Among roots) b j (i .args .body .now) (length (i .args .calls .now)) (length (i .args .answers .now)) (i .args .chosen .now) at (i .args .state .0)
+      (λ (f : Front). Stepped f bodies (Among roots) b notes j (i .args .body .now) (length (i .args .calls .now)) (length (i .args .answers .now)) (i .args .chosen .now) at (spot-of (i .args .spot))
       (in-words (v .advance .last .1 .1 .1 .0) (v .advance .result .calls) (v .advance .last .1 .1 .1 .1 .1 .1 .0) (v .advance .result .answers)) (v .advance .last .1 .1 .1 .1 .1 .1 .1 .1 .1 .0) (v .advance .last .1 .1 .1 .1 .1 .1 .1 .1 .1 .1 .0) (v .advance .last .1 .1 .1 .1 .1 .1 .1 .1 .1 .1 .1 .0))
-      e (v .advance .ensures .1 bodies roots b (i .args .body .now) (G .tail) (G .turning))
+      e (v .advance .ensures .1 bodies roots b notes (i .args .body .now) (G .tail) (G .turning))
 
 go-back-requires : tie.Need-go-back-requires
 go-back-requires c κs =
     let v = c .before .before .before .before .before .before .before .before .before .before .before .before .before .before .before .before .before in
     let i = v .before .before .before .before .before .before .before .before .before .before .before .before .before .before .before .before in
-    let T = spent v (c .before .before .before .enum-told2 .given .1) (i .pre .1 .0) (i .pre .1 .1) (i .pre .1 .2) (going i) .0 .turning in
+    let T = spent v (c .before .before .before .enum-told2 .given .1) (i .pre .1 .0) (i .pre .1 .1) (i .pre .1 .2) (i .pre .1 .3) (going i) .0 .turning in
     let s = v .advance .ensures .0 in
     let k = s .kept .answers-stored in
     let low : i .args .job .known ≤ v .advance .result .answers = omega (arith, T .given .enough, T .grew .answers-more) in (
@@ -106,9 +106,9 @@ returns c =
     let v = c .before .before .before .before .before .before .before .before .before .before .before .before .before .before .before .before .before .before .before .before in
     let j = v .before .before .before .before .before .before .before .before .before .before .before .before .before .before .before .before .args .job in (
       v .advance .ensures .0,
-      λ bodies roots b G.
-          went-over bodies (Among roots) b (j .known) (j .rule) (j .row) (j .walk) _ (v .advance .last .1 .1 .1 .0) (v .advance .result .calls) (v .advance .last .1 .1 .1 .1 .1 .1 .0) (v .advance .result .answers)
-          (spent v (c .before .before .before .before .before .before .enum-told2 .given .1) bodies roots b G .0) (g .go-back .ensures) (c .if1 .taken),
+      λ bodies roots b notes G.
+          went-over bodies (Among roots) b (j .known) (j .rule) (j .row) (j .walk) (past-of j notes) _ (v .advance .last .1 .1 .1 .0) (v .advance .result .calls) (v .advance .last .1 .1 .1 .1 .1 .1 .0) (v .advance .result .answers)
+          (spent v (c .before .before .before .before .before .before .enum-told2 .given .1) bodies roots b notes G .0) (g .go-back .ensures) (c .if1 .taken),
     )
 
 same-length-7 : tie.Need-same-length-7
@@ -132,7 +132,7 @@ same-length-12 c = search needs
 returns-2 : tie.Need-returns-2
 returns-2 c =
     let v = c .before .before .before .before .before .before .before .before .before .before .before .before .before .before .before in
-    (v .advance .ensures .0, λ bodies roots b G. rw (c .before .front .given .1) at (v .advance .ensures .1 bodies roots b _ (G .tail) (G .turning)))
+    (v .advance .ensures .0, λ bodies roots b notes G. rw (c .before .front .given .1) at (v .advance .ensures .1 bodies roots b notes _ (G .tail) (G .turning)))
 
 same-length-13 : tie.Need-same-length-13
 same-length-13 c = search needs
@@ -155,7 +155,7 @@ same-length-18 c = search needs
 returns-3 : tie.Need-returns-3
 returns-3 c =
     let v = c .before .before .before .before .before .before .before .before .before .before .before .before .before .before in
-    (v .advance .ensures .0, λ bodies roots b G. rw (c .enum-told .given .1) at (v .advance .ensures .1 bodies roots b _ (G .tail) (G .turning)))
+    (v .advance .ensures .0, λ bodies roots b notes G. rw (c .enum-told .given .1) at (v .advance .ensures .1 bodies roots b notes _ (G .tail) (G .turning)))
 
 same-length-19 : tie.Need-same-length-19
 same-length-19 c = search needs
@@ -184,9 +184,9 @@ returns-4 c =
     let r = g .go-back .result .at in
     let e : r ≡ (r - 1) + 1 = omega (arith, c .if1 .left) in (
       v .advance .ensures .0,
-      λ bodies roots b G.
-          (let S = spent v (c .before .before .before .before .before .before .enum-told2 .given .1) bodies roots b G in
-          let W = went-on bodies (Among roots) b (j .known) (j .rule) (j .row) (j .walk) _ (v .advance .last .1 .1 .1 .0) (v .advance .result .calls) (v .advance .last .1 .1 .1 .1 .1 .1 .0) (v .advance .result .answers) (S .0) (g .go-back .ensures) (r - 1) e in
+      λ bodies roots b notes G.
+          (let S = spent v (c .before .before .before .before .before .before .enum-told2 .given .1) bodies roots b notes G in
+          let W = went-on bodies (Among roots) b (j .known) (j .rule) (j .row) (j .walk) (past-of j notes) _ (v .advance .last .1 .1 .1 .0) (v .advance .result .calls) (v .advance .last .1 .1 .1 .1 .1 .1 .0) (v .advance .result .answers) (S .0) (g .go-back .ensures) (r - 1) e in
           (W .0, omega (arith, W .1, ap (λ (l : List ℕ). left (j .known) l (length (a .body .now) - length (a .rest .now))) (S .1)))),
     )
 

@@ -1,18 +1,19 @@
 -- `bucket` meets its contract. Assumes nothing.
-use borrow.Author.Needs.{needs}
+use mathlib.Core.Path.{refl}
 use Rattle.tabling.proofs.Index.{bucket}
+use borrow.Author.Needs.{needs}
 use Rattle.storage.proofs.index.bucket.Statement.{statement}
 use Rattle.storage.proofs.index.bucket.Tie as tie
 
-mul-result : tie.Need-mul-result
-mul-result c = search needs
-
-add-result : tie.Need-add-result
-add-result c = search needs
-
 returns : tie.Need-returns
 unfolding bucket
-returns c = search needs
+returns c = refl
 
 pub bucket-spec : {M : Type 1} → statement M
-bucket-spec = tie.close (tie.spec mul-result add-result returns)
+bucket-spec =
+    tie.close
+    (tie.spec
+    (λ c. search needs)
+    (λ c. search needs)
+    (λ c. search needs)
+    returns)

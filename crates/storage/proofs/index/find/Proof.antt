@@ -74,12 +74,12 @@ shared-slice-read-before : tie.Need-shared-slice-read-before Inv-loop μ-loop
 shared-slice-read-before c = omega arith
 
 cast-before : tie.Need-cast-before Inv-loop μ-loop
-cast-before c = omega (arith, c .shared-slice-known6 .given (65536 + c .before .before .before .before .loop .i))
+cast-before c = omega (arith, c .shared-slice-known6 .given (57344 + c .before .before .before .before .loop .i))
 
 -- where the record at i is another, its link leads to the one sought
 linked : (c : tie.Joined1 Inv-loop μ-loop) → let a = c .before .before .before .before .before .before .before .before .args in
     let i = c .before .before .before .loop .i in
-    let before = getD (a .index .now) (65536 + i) 0 in
+    let before = getD (a .index .now) (57344 + i) 0 in
     let calls = calls-in (a .width) (a .words .now) (a .n) in
     (j : ℕ) → j < a .n → CallAt calls j (a .first) (a .second) → (before < i) × Reaches calls (a .first) (a .second) j before
 linked c =

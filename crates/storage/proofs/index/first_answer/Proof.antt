@@ -17,7 +17,7 @@ shared-slice-read-x : tie.Need-shared-slice-read-x
 shared-slice-read-x c = search needs
 
 cast-x : tie.Need-cast-x
-cast-x c = omega (arith, c .shared-slice-known3 .given (131072 + c .before .before .before .args .row))
+cast-x c = omega (arith, c .shared-slice-known3 .given (122880 + c .before .before .before .args .row))
 
 is-answer-requires : tie.Need-is-answer-requires
 is-answer-requires c κs = search needs

@@ -21,7 +21,7 @@ shared-slice-read-later : tie.Need-shared-slice-read-later
 shared-slice-read-later c = search needs
 
 cast-later : tie.Need-cast-later
-cast-later c = omega (arith, c .shared-slice-known3 .given (262144 + c .before .before .before .before .args .x))
+cast-later c = omega (arith, c .shared-slice-known3 .given (253952 + c .before .before .before .before .args .x))
 
 returns : tie.Need-returns
 returns c =

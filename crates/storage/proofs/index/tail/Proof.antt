@@ -17,7 +17,7 @@ shared-slice-read-last : tie.Need-shared-slice-read-last
 shared-slice-read-last c = search needs
 
 cast-last : tie.Need-cast-last
-cast-last c = omega (arith, c .shared-slice-known3 .given (196608 + c .before .before .before .args .row))
+cast-last c = omega (arith, c .shared-slice-known3 .given (188416 + c .before .before .before .args .row))
 
 is-answer-requires : tie.Need-is-answer-requires
 is-answer-requires c κs = search needs

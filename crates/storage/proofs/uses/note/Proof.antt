@@ -1,57 +1,37 @@
 -- `note` meets its contract. Assumes nothing.
 use native.Mathlib.Omega.{arith}
-use mathlib.Core.Path.{refl}
+use mathlib.Core.Path.{_∙_}
+use Rattle.tabling.proofs.Uses.{uses-refl, use-long, noted-none, noted-both}
 use borrow.Author.Needs.{needs}
-use Rattle.tabling.proofs.Uses.{with-use}
 use Rattle.storage.proofs.uses.note.Statement.{statement}
 use Rattle.storage.proofs.uses.note.Tie as tie
 
-callers-of-requires : tie.Need-callers-of-requires
-callers-of-requires c κs = search needs
-
-lesser-requires : tie.Need-lesser-requires
-lesser-requires c κs = search needs
-
-greater-requires : tie.Need-greater-requires
-greater-requires c κs = search needs
-
-sub-uses : tie.Need-sub-uses
-sub-uses c = omega (arith, c .greater .ensures, c .before .lesser .ensures, c .before .before .callers-of .ensures .0, c .before .before .callers-of .ensures .1, c .before .before .before .before .before .pre .1)
-
-mul-uses : tie.Need-mul-uses
-mul-uses c = omega (arith, c .greater .ensures, c .before .lesser .ensures, c .before .before .callers-of .ensures .0, c .before .before .callers-of .ensures .1, c .before .before .before .before .before .pre .1)
-
-add-uses : tie.Need-add-uses
-add-uses c = omega (arith, c .greater .ensures, c .before .lesser .ensures, c .before .before .callers-of .ensures .0, c .before .before .callers-of .ensures .1, c .before .before .before .before .before .pre .1)
-
-cast-uses : tie.Need-cast-uses
-cast-uses c = omega (arith, c .greater .ensures, c .before .lesser .ensures, c .before .before .callers-of .ensures .0, c .before .before .callers-of .ensures .1, c .before .before .before .before .before .pre .1)
-
-mul-uses-2 : tie.Need-mul-uses-2
-mul-uses-2 c = search needs
-
-slice-write-uses : tie.Need-slice-write-uses
-slice-write-uses c = search needs
-
-same-length : tie.Need-same-length
-same-length c = search needs
-
 returns : tie.Need-returns
-unfolding with-use
-returns c = rw (c .greater .ensures, c .before .lesser .ensures, c .before .before .callers-of .ensures .0, c .before .before .callers-of .ensures .1) refl
+returns c = let (u, a) = c .before .is-noted .ensures (c .if1 .taken) in record { grew = uses-refl (c .before .before .before .before .args .uses .now); used = u; after = a }
+
+returns-2 : tie.Need-returns-2
+returns-2 c =
+    let i = c .before .before .before .before .before .before .before .before .before in
+    rw (c .if2 .taken, c .before .before .before .note-caller .ensures) (noted-none (i .args .uses .now) (i .args .row) (i .args .callee) (omega (arith, i .pre .0)) (i .pre .1) (i .pre .2))
+
+note-via-requires : tie.Need-note-via-requires
+note-via-requires c κs = let i = c .before .before .before .before .before .before .before .before .before .before in (rw (c .before .before .before .before .note-caller .ensures) (use-long (i .args .uses .now) (i .args .row) (i .args .callee) ∙ i .pre .0), i .pre .1)
+
+returns-3 : tie.Need-returns-3
+returns-3 c =
+    let i = c .before .before .before .before .before .before .before .before .before .before .before .before .before in
+    rw (c .before .before .note-via .ensures, c .before .before .before .before .before .before .before .note-caller .ensures) (noted-both (i .args .uses .now) (i .args .row) (i .args .last) (i .args .callee) (omega (arith, i .pre .0)) (i .pre .1) (i .pre .2))
 
 pub note-spec : {M : Type 1} → statement M
 note-spec =
     tie.close
     (tie.spec
-    callers-of-requires
-    lesser-requires
-    greater-requires
-    sub-uses
-    mul-uses
-    add-uses
-    cast-uses
-    mul-uses-2
-    slice-write-uses
-    same-length
-    returns)
+    (λ c κs. search needs)
+    (λ c. search needs)
+    returns
+    (λ c κs. search needs)
+    (λ c. search needs)
+    returns-2
+    note-via-requires
+    (λ c. search needs)
+    returns-3)
