@@ -1,6 +1,6 @@
 /* Rehearsal sheets in ground Transaction Logic: read a sheet, write it as its one
- * fixed text, evaluate its goal, list the path of an answer; store states by fluent,
- * and restore them.
+ * fixed text, evaluate its goal, from one start or from a whole class of them, list the
+ * path of an answer; store states by fluent, and restore them.
  *
  * The host lends all memory; nothing is allocated, kept between calls, printed or
  * locked, so calls may run in any number of threads. Every call returns, whatever
@@ -10,10 +10,10 @@
  * aligned to its element type; it may be NULL where the count is 0. A buffer that is
  * written may not overlap another one of the same call.
  *
- * Stack: lawhemuri_evaluate needs LAWHEMURI_STACK_EVALUATE bytes of it, lawhemuri_path
- * LAWHEMURI_STACK_PATH, lawhemuri_store and lawhemuri_restore LAWHEMURI_STACK_ARCHIVE, the
- * others LAWHEMURI_STACK_READ. A main thread has 8 MiB on most systems, a thread of Rust's
- * 2 MiB, one of musl's only 128 KiB.
+ * Stack: lawhemuri_evaluate and lawhemuri_class need LAWHEMURI_STACK_EVALUATE bytes of it,
+ * lawhemuri_path LAWHEMURI_STACK_PATH, lawhemuri_store and lawhemuri_restore
+ * LAWHEMURI_STACK_ARCHIVE, the others LAWHEMURI_STACK_READ. A main thread has 8 MiB on most
+ * systems, a thread of Rust's 2 MiB, one of musl's only 128 KiB.
  */
 #ifndef LAWHEMURI_H
 #define LAWHEMURI_H
@@ -63,6 +63,8 @@ extern "C" {
  * List:
  *  31  fewer places than ends                                both tables finished,
  *                                                            list unchanged
+ * Many starts (lawhemuri_class, before all; its starts meet 20 to 31 one by one):
+ *  25  over 1,024 starts, or under 4 result words for each   unchanged
  * Tables that are shown (lawhemuri_path, after 20 to 23):
  *  40  a record count over its room                          list unchanged
  *  41  record number not below the answer count              list unchanged
@@ -97,6 +99,7 @@ extern "C" {
 #define LAWHEMURI_BAD_RULE 22u
 #define LAWHEMURI_BAD_GOAL 23u
 #define LAWHEMURI_BAD_START 24u
+#define LAWHEMURI_BAD_CLASS 25u
 #define LAWHEMURI_TABLES_FULL 30u
 #define LAWHEMURI_LIST_SHORT 31u
 #define LAWHEMURI_BAD_RECORD_COUNT 40u
@@ -118,6 +121,7 @@ extern "C" {
  * Answer record: 19 words: call record number; final state; rule number (256 for the
  *   goal); 16 evidence words. At a call step of the rule the evidence is the number of
  *   the answer record used, always a smaller one; elsewhere it is 0.
+ * Result words of a start in a class: 4 words: refusal number or 0, ends, calls, answers.
  * Room of a table: its length divided by 2 or 19, rounded down, at most 65,536.
  * States by fluent: for each block of 64 states, of which the last may be shorter, one
  *   word per fluent, in fluent order. Bit i of the word of fluent k in block b, which is
@@ -130,6 +134,8 @@ extern "C" {
 #define LAWHEMURI_MOST_RULES 256u
 #define LAWHEMURI_MOST_STEPS 16u
 #define LAWHEMURI_MOST_RECORDS 65536u
+#define LAWHEMURI_MOST_STARTS 1024u
+#define LAWHEMURI_START_WORDS 4u
 #define LAWHEMURI_MOST_SHEET_BYTES 65536u
 #define LAWHEMURI_GOAL_ACTION 64u
 #define LAWHEMURI_GOAL_RULE 256u
@@ -232,6 +238,30 @@ lawhemuri_run lawhemuri_evaluate(uint64_t fluents, uint64_t actions,
                                  uint64_t *calls, size_t calls_len,
                                  uint64_t *answers, size_t answers_len,
                                  uint64_t *ends, size_t ends_len);
+
+/* Runs a goal from many starts in turn (25, or 0). Everything equals calls of
+ * lawhemuri_evaluate made in turn with the same tables, each lent what is left of the list
+ * of ends.
+ *
+ * 25: all buffers unchanged. Else:
+ *   results: four words for each start, in the starts' order: its refusal number (20 to 31)
+ *     or 0, its ends, calls and answers, as lawhemuri_evaluate gives them; unchanged past
+ *     them.
+ *   ends: the ends of the unrefused starts, one start after another, each start's in rising
+ *     order; unchanged past them. A refused start takes no places, and later ones still run:
+ *     one that has fewer places left than ends is 31.
+ *   calls, answers: as the last start that was refused with none of 20 to 24 left them;
+ *     unchanged if there is none.
+ * With no starts nothing is changed and nothing is looked at, so a bad book is not refused.
+ */
+uint64_t lawhemuri_class(uint64_t fluents, uint64_t actions,
+                         const uint16_t *rules, size_t rules_len,
+                         const uint16_t *goal, size_t goal_len,
+                         const uint64_t *starts, size_t starts_len,
+                         uint64_t *results, size_t results_len,
+                         uint64_t *calls, size_t calls_len,
+                         uint64_t *answers, size_t answers_len,
+                         uint64_t *ends, size_t ends_len);
 
 /* Lists the path of an answer record (refusals 20 to 23, then 40 to 43): the call's
  * state, then one state for each update of the execution that the record's evidence

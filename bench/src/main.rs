@@ -2,6 +2,7 @@
 //! exit status is 1, after all is printed, if a result differs.
 
 mod book;
+mod classes;
 mod families;
 mod hash;
 mod lists;
@@ -17,7 +18,7 @@ fn main() -> ExitCode {
     let limit = args().nth(1).map_or(5.0, |seconds| seconds.parse().expect("SECONDS is a number"));
     let same = match args().nth(2) {
         Some(family) => vec![runs::print_family(&family, limit)],
-        None => vec![runs::print(limit), paths::print()],
+        None => vec![runs::print(limit), paths::print(), classes::print()],
     };
     ExitCode::from(u8::from(same.contains(&false)))
 }

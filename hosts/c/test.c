@@ -281,6 +281,47 @@ static void test_refused_stores(void) {
     EXPECT(a.refusal == LAWHEMURI_OK && a.count == 3 && all(out, WORDS(out), 0));
 }
 
+/* Drill D2's goal from four starts: each as a single call would have it, with what is left of the list. */
+static void test_class(void) {
+    static const uint64_t starts[4] = {0, 2, 4, 1};
+    static const uint64_t told[16] = {0, 2, 2, 4, 0, 1, 2, 2, 24, 0, 0, 0, 31, 2, 2, 4};
+    uint64_t results[17], kept_calls[2 * 8], kept_answers[19 * 8];
+    fill(results, WORDS(results));
+    fill(calls, WORDS(calls));
+    fill(answers, WORDS(answers));
+    fill(ends, WORDS(ends));
+    EXPECT(lawhemuri_class(2, 1, RULES, 36, GOAL, 1, starts, 4, results, WORDS(results), calls, WORDS(calls), answers, WORDS(answers),
+                           ends, 4) == LAWHEMURI_OK);
+    EXPECT(memcmp(results, told, sizeof told) == 0 && results[16] == MARK);
+    EXPECT(ends[0] == 1 && ends[1] == 3 && ends[2] == 3 && all(ends + 3, WORDS(ends) - 3, MARK));
+    memcpy(kept_calls, calls, sizeof calls);
+    memcpy(kept_answers, answers, sizeof answers);
+    lawhemuri_run r = lawhemuri_evaluate(2, 1, RULES, 36, GOAL, 1, 1, calls, WORDS(calls), answers, WORDS(answers), NULL, 0);
+    EXPECT(r.refusal == LAWHEMURI_LIST_SHORT && r.ends == 2);
+    EXPECT(memcmp(kept_calls, calls, sizeof calls) == 0 && memcmp(kept_answers, answers, sizeof answers) == 0);
+}
+
+/* 25 comes before all and changes nothing; no starts are refused nothing, whatever the book. */
+static void test_refused_class(void) {
+    static const uint64_t starts[LAWHEMURI_MOST_STARTS + 1] = {4};
+    static uint64_t results[4 * (LAWHEMURI_MOST_STARTS + 1)];
+    fill(results, WORDS(results));
+    fill(calls, WORDS(calls));
+    fill(answers, WORDS(answers));
+    fill(ends, WORDS(ends));
+#define CLASS(fluents, count, words) \
+    lawhemuri_class(fluents, 1, RULES, 36, GOAL, 1, starts, count, results, words, calls, 4, answers, 76, ends, 2)
+    EXPECT(CLASS(2, LAWHEMURI_MOST_STARTS + 1, WORDS(results)) == LAWHEMURI_BAD_CLASS);
+    EXPECT(CLASS(2, 1, 3) == LAWHEMURI_BAD_CLASS);
+    EXPECT(CLASS(65, 0, 0) == LAWHEMURI_OK);
+    EXPECT(all(results, WORDS(results), MARK) && all(calls, WORDS(calls), MARK) && all(answers, WORDS(answers), MARK));
+    EXPECT(all(ends, WORDS(ends), MARK));
+    EXPECT(CLASS(2, LAWHEMURI_MOST_STARTS, WORDS(results)) == LAWHEMURI_OK);
+    EXPECT(results[0] == LAWHEMURI_BAD_START && all(results + 1, 3, 0) && results[4] == 0 && results[5] == 2);
+    EXPECT(results[8] == LAWHEMURI_LIST_SHORT && results[9] == 2 && ends[0] == 1 && ends[1] == 3);
+    EXPECT(all(results + 4 * LAWHEMURI_MOST_STARTS, 4, MARK));
+}
+
 int main(void) {
     test_example();
     test_names();
@@ -294,6 +335,8 @@ int main(void) {
     test_store();
     test_blocks();
     test_refused_stores();
+    test_class();
+    test_refused_class();
     printf("hosts/c: %s\n", failures == 0 ? "ok" : "failed");
     return failures != 0;
 }

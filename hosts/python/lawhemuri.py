@@ -69,6 +69,8 @@ class Library:
         self._write.argtypes = [ctypes.c_char_p, SIZE, ctypes.POINTER(U8), SIZE]
         self._evaluate.argtypes = [U64, U64, words, SIZE, words, SIZE, U64] + [longs, SIZE] * 3
         self._evaluate.restype = Run
+        self._class, self._class.restype = lib.lawhemuri_class, U64
+        self._class.argtypes = [U64, U64, words, SIZE, words, SIZE] + [longs, SIZE] * 5
         self._path, self._path.restype = lib.lawhemuri_path, States
         self._path.argtypes = [U64, U64, words, SIZE, words, SIZE] + [longs, SIZE, U64] * 2 + [U64, longs, SIZE]
         self._store, self._store.restype = lib.lawhemuri_store, Archived
@@ -107,6 +109,23 @@ class Library:
         if run.refusal:
             raise Refused(run.refusal, finished=(run, calls, answers) if run.refusal == 31 else None)
         return run, ends[: run.ends], calls, answers
+
+    def class_run(self, sheet, rules, starts, rooms=(512, 256, 256), words=None):
+        """For each start its run, whose refusal is 0 for none, and its ends in rising order; `words` is the room for the result words."""
+        calls, answers, ends = (U64 * (2 * rooms[0]))(), (U64 * (19 * rooms[1]))(), (U64 * rooms[2])()
+        results = (U64 * (4 * len(starts) if words is None else words))()
+        refusal = self._class(
+            sheet.fluents, sheet.actions, rules, 18 * sheet.rules, sheet.goal, sheet.goal_len, (U64 * len(starts))(*starts), len(starts),
+            results, len(results), calls, len(calls), answers, len(answers), ends, len(ends),
+        )
+        if refusal:
+            raise Refused(refusal)
+        given, used = [], 0
+        for run in (Run(*results[4 * i : 4 * i + 4]) for i in range(len(starts))):
+            taken = 0 if run.refusal else run.ends
+            given.append((run, ends[used : used + taken]))
+            used += taken
+        return given
 
     def path(self, sheet, rules, run, calls, answers, record, room=65536):
         """The states of the execution that an answer record's evidence unfolds to."""

@@ -123,6 +123,32 @@ class ShortList(unittest.TestCase):
         self.assertEqual((list(same_calls), list(same_answers)), (list(calls), list(answers)))
 
 
+class WholeClass(unittest.TestCase):
+    """Drill D2's goal from several starts in one go."""
+
+    def setUp(self):
+        self.sheet, self.rules = LIBRARY.read(content(os.path.join(SHEETS, "left_recursion.sheet")))
+
+    def told(self, starts, **rooms):
+        given = LIBRARY.class_run(self.sheet, self.rules, starts, **rooms)
+        return [((run.refusal, run.ends, run.calls, run.answers), ends) for run, ends in given]
+
+    def test_in_turn(self):
+        self.assertEqual(
+            self.told([0, 2, 4, 1], rooms=(8, 8, 4)),
+            [((0, 2, 2, 4), [1, 3]), ((0, 1, 2, 2), [3]), ((24, 0, 0, 0), []), ((31, 2, 2, 4), [])],
+        )
+        self.assertEqual(self.told([0, 2], rooms=(2, 3, 2)), [((30, 0, 0, 0), []), ((0, 1, 2, 2), [3])])
+        self.assertEqual(self.told([]), [])
+
+    def test_most_starts(self):
+        self.assertEqual(self.told([0] * 1024, rooms=(2, 4, 2048)), [((0, 2, 2, 4), [1, 3])] * 1024)
+        for starts, words in ([0] * 1025, 4100), ([0], 3):
+            with self.assertRaises(lawhemuri.Refused) as refused:
+                self.told(starts, words=words)
+            self.assertEqual(refused.exception.number, 25)
+
+
 class ByFluent(unittest.TestCase):
     """Paths kept by fluent."""
 

@@ -23,7 +23,7 @@ struct Usage {
 const WITH: Flag = Flag { name: "--with", takes: Some("NAME"), says: "only ends in which NAME holds (may be given again)" };
 const WITHOUT: Flag = Flag { name: "--without", takes: Some("NAME"), says: "only ends in which it does not" };
 
-const COMMANDS: [Usage; 6] = [
+const COMMANDS: [Usage; 7] = [
     Usage {
         name: "ends",
         operands: "SHEET",
@@ -84,6 +84,16 @@ const COMMANDS: [Usage; 6] = [
         most_operands: 2,
         says: "the states on the way to an end, kept by valve: for each 64 states one word per fluent",
         flags: &[],
+    },
+    Usage {
+        name: "class",
+        operands: "SHEET STARTS",
+        most_operands: 2,
+        says: "the goal from many starts in one go: a table with a row for each",
+        flags: &[
+            Flag { name: "--ends", takes: None, says: "with the ends of each start" },
+            Flag { name: "--json", takes: None, says: "as JSON, with the ends" },
+        ],
     },
 ];
 
@@ -147,6 +157,8 @@ pub fn help() -> String {
     out + "\nSHEET is a file, - for standard input, or the name of a sheet in the folder that LAWHEMURI_SHEETS names;\n\
            where it is not set, of a sheet that is installed with the program.\n\
            END is the number of an end, or names that hold in it: 3, or pilot_valve, or pilot_valve,locked_out.\n\
+           STARTS is a file, - for standard input, with a line for each start: `start` and the names that hold, or\n\
+           somebody's name and a colon, and the names that hold.\n\
            Results go to standard output; refusals, errors and progress to standard error.\n\
            Exit status: 0 a result (also where there is no end), 1 refused or failed, 2 wrong use, 3 an internal error.\n"
 }

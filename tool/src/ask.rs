@@ -39,7 +39,8 @@ fn mask(drill: &Drill, names: &[String]) -> Result<u64, Failure> {
     names.iter().try_fold(0, |mask, name| Ok(mask | 1 << fluent(drill, name)?))
 }
 
-fn fluent(drill: &Drill, name: &str) -> Result<usize, Failure> {
+/// The number of a fluent.
+pub fn fluent(drill: &Drill, name: &str) -> Result<usize, Failure> {
     let known = drill.fluents();
     known.iter().position(|known| known == name).ok_or_else(|| {
         let meant =

@@ -4,6 +4,7 @@
 mod args;
 mod ask;
 mod choices;
+mod class;
 mod drill;
 mod failure;
 mod layout;
@@ -55,6 +56,9 @@ fn main() -> ExitCode {
 }
 
 fn run(given: &Given) -> Result<(), Failure> {
+    if given.command == "class" && given.operands.iter().filter(|operand| *operand == "-").count() == 2 {
+        return Err(Failure::Use("the sheet and the starts cannot both be standard input".into()));
+    }
     let source = load::source(&given.operands[0])?;
     match given.command {
         "ends" => ends(given, &drilled(&source)?),
@@ -63,6 +67,7 @@ fn run(given: &Given) -> Result<(), Failure> {
         "page" => page(given, &source),
         "write" => written(given, &source),
         "archive" => archive(given, &drilled(&source)?),
+        "class" => class(given, &drilled(&source)?),
         command => Err(Failure::Internal(format!("no command `{command}`"))),
     }
 }
@@ -234,6 +239,22 @@ fn archive(given: &Given, drill: &Drill) -> Result<(), Failure> {
         return Err(Failure::Internal(format!("the states of end {number} do not come back")));
     }
     print(&terminal::archive(drill, &by_valve, states.len()))
+}
+
+/// Runs the sheet's goal from the starts of a class, and prints what each comes to.
+fn class(given: &Given, drill: &Drill) -> Result<(), Failure> {
+    let file =
+        given.operands.get(1).ok_or_else(|| Failure::Use("class needs a file of starts: lawhemuri class SHEET STARTS".into()))?;
+    let called = if file == "-" { "standard input" } else { file };
+    let starts = class::starts(&class::read(file)?, called, drill)?;
+    let progress = Progress::begin("running the class");
+    let told = class::run(drill, &starts)?;
+    drop(progress);
+    print(&if given.has("--json") {
+        class::json(drill, &starts, &told)
+    } else {
+        class::table(drill, &starts, &told, given.has("--ends"))
+    })
 }
 
 /// Refuses to write over the sheet that was read, by whatever path it is named.

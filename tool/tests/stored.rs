@@ -130,7 +130,7 @@ fn a_part_has_no_end() {
 fn every_command_refuses() {
     let sheet = here().join("tests/refused/16_typo.sheet");
     let page = scratch("refused").join("refused.html");
-    for command in ["ends", "path", "check", "write", "archive"] {
+    for command in ["ends", "path", "check", "write", "archive", "class"] {
         let (status, out, err) = told(&[command.as_ref(), sheet.as_os_str()]);
         assert_eq!((status, out.as_str()), (1, ""));
         assert!(err.contains("did you mean `?open`?"), "{err}");
@@ -261,7 +261,7 @@ fn help_and_version_on_each_command() {
     assert_eq!(version, format!("lawhemuri {number} (library {number})\n"));
     let header = std::fs::read_to_string(folder("include/lawhemuri.h")).unwrap();
     assert!(header.contains(&format!("#define LAWHEMURI_VERSION \"{number}\"\n")));
-    for command in ["ends", "check", "path", "page", "write", "archive"] {
+    for command in ["ends", "check", "path", "page", "write", "archive", "class"] {
         assert_eq!(told(&[command, "--version"]), (0, version.clone(), String::new()));
         assert!(told(&["--help"]).1.contains(&format!("lawhemuri {command} SHEET")));
     }
@@ -301,6 +301,79 @@ fn states_kept_by_valve() {
     stored(&here().join("tests/stored/keystrokes.archive"), &out);
     let (status, out, err) = told(&["archive".as_ref(), folder("sheets/low_water.sheet").as_os_str()]);
     assert_eq!((status, out.as_str(), err.as_str()), (2, "", "lawhemuri: which end? low_water has 3 ends\n"));
+}
+
+/// A whole class: a row for each start, as the library gives it; each as `ends` has it for a sheet with that start.
+#[test]
+fn a_whole_class() {
+    let (sheet, starts) = (folder("sheets/light_up.sheet"), folder("sheets/light_up.starts"));
+    let class = |option: &str| told(&["class".as_ref(), sheet.as_os_str(), starts.as_os_str(), option.as_ref()]);
+    for (option, what) in [("--ends", "class"), ("--json", "class.json")] {
+        let (status, out, err) = class(option);
+        assert_eq!((status, err.as_str()), (0, ""));
+        stored(&here().join("tests/stored").join(format!("light_up.{what}")), &out);
+    }
+    let with_ends = class("--ends").1;
+    let (_, table, _) = told(&["class", sheet.to_str().unwrap(), starts.to_str().unwrap()]);
+    let rows: String = with_ends.split_inclusive('\n').filter(|line| !line.trim_start().starts_with("end ")).collect();
+    assert_eq!(table, rows);
+    let (_, from_input, _) =
+        told_from(&["class".as_ref(), sheet.as_os_str(), "-".as_ref()], std::fs::File::open(&starts).unwrap());
+    assert_eq!(from_input, table);
+    let text = std::fs::read_to_string(&sheet).unwrap();
+    let other = scratch("class").join("other.sheet");
+    let mut listed = 0;
+    for line in std::fs::read_to_string(&starts).unwrap().lines().filter(|line| !line.starts_with('#')) {
+        let (who, names) = line.split_once(":\t").unwrap();
+        let start = format!("start\t{}", names.replace(' ', "\t"));
+        let lines: Vec<&str> = text.lines().map(|line| if line.starts_with("start") { &start } else { line }).collect();
+        std::fs::write(&other, lines.join("\n") + "\n").unwrap();
+        let (_, single, _) = told(&["ends".as_ref(), other.as_os_str()]);
+        let counts: Vec<&str> = single.lines().next().unwrap().split('\t').skip(1).collect();
+        let row = table.lines().find(|line| line.starts_with(who)).unwrap();
+        assert_eq!(row.split_whitespace().skip(1).take(3).collect::<Vec<_>>(), counts, "{who}");
+        for end in single.lines().skip(1) {
+            assert!(with_ends.contains(&format!(" end {}:", end.split('\t').nth(1).unwrap())), "{who}: {end}");
+            listed += 1;
+        }
+    }
+    assert!(table.contains(&format!("5 starts, {listed} ends\n")) && listed > 5, "{table}");
+}
+
+/// A start that no room serves is refused by itself; too many starts, bad lines and bad files are told.
+#[test]
+fn refused_starts_and_classes() {
+    let sheet = here().join("tests/classes/gated.sheet");
+    let (status, out, err) = told(&["class".as_ref(), sheet.as_os_str(), here().join("tests/classes/gated.starts").as_os_str()]);
+    assert_eq!((status, err.as_str()), (0, ""));
+    stored(&here().join("tests/stored/gated.class"), &out);
+    let file = scratch("classes").join("class.starts");
+    let class = |text: &str| {
+        std::fs::write(&file, text).unwrap();
+        told(&["class".as_ref(), sheet.as_os_str(), file.as_os_str()])
+    };
+    assert_eq!(class("").1, "gated: no start, no end\n");
+    let most = class(&"start\tswitch_2\n".repeat(1024));
+    assert!(most.0 == 0 && most.1.starts_with("gated: 1,024 starts, 1,024 ends\n"));
+    let over = "lawhemuri: refused 25: 1,025 starts, of which 1,024 run in one go\n";
+    assert_eq!(class(&"start\n".repeat(1025)), (1, String::new(), over.into()));
+    for (text, said) in
+        [("start\nben: kye\n", "line 2: gated.sheet has no fluent `kye`; did you mean `key`?"), ("ben\n", "line 1: a line is")]
+    {
+        let (status, out, err) = class(text);
+        assert_eq!((status, out.as_str()), (2, ""));
+        assert!(err.contains(said), "{err}");
+    }
+    let sheet = sheet.to_str().unwrap();
+    for (words, status, said) in [
+        (&["class", sheet][..], 2, "class needs a file of starts"),
+        (&["class", "-", "-"], 2, "cannot both be standard input"),
+        (&["class", sheet, "/no/such/file"], 1, "/no/such/file cannot be read"),
+    ] {
+        let (code, out, err) = told(words);
+        assert_eq!((code, out.as_str()), (status, ""), "{words:?}");
+        assert!(err.contains(said), "{words:?}: {err}");
+    }
 }
 
 /// The page is a function of the sheet and the library: the same from another folder and at another time.

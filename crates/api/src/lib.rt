@@ -6,6 +6,7 @@ ghost use Rattle.sheet.specs.Result.{resultOf, rulesAfter};
 ghost use Rattle.sheet.specs.FluentName.{nameSpan};
 ghost use Rattle.writer.specs.Writer.{writtenIn, outAfter};
 ghost use Rattle.evaluator.specs.Evaluated.{Evaluated, asked, lent, told};
+ghost use Rattle.class.specs.Class.{Ran};
 ghost use Rattle.path.specs.Outcome.{Answered};
 ghost use Rattle.archive.specs.Outcome.{Stored, Restored};
 
@@ -60,6 +61,36 @@ pub extern "C" fn lawhemuri_evaluate<'a>(
         (told (r .refusal) (r .ends) (r .calls) (r .answers)) ⌝ }
 {
     evaluator::evaluate(fluents, actions, rules, goal, start, calls, answers, ends)
+}
+
+// Runs the goal from each start in turn, with the same tables and one list of ends: four words for each start go to `results`.
+#[no_mangle]
+pub extern "C" fn lawhemuri_class<'a>(
+    fluents: u64,
+    actions: u64,
+    rules: &'a [u16],
+    goal: &'a [u16],
+    starts: &[u64],
+    results: &mut [u64],
+    calls: &mut [u64],
+    answers: &mut [u64],
+    ends: &mut [u64],
+) -> u64
+    ensures { λ r. ⌜ Ran (asked fluents actions (now (rules .entry)) (now (goal .entry))) (now (starts .entry))
+        (now (results .entry)) (lent (now (calls .entry)) (now (answers .entry)) (now (ends .entry)))
+        (now (results .exit)) (lent (now (calls .exit)) (now (answers .exit)) (now (ends .exit))) r ⌝ }
+{
+    class::class(
+        fluents,
+        actions,
+        rules,
+        goal,
+        starts,
+        results,
+        calls,
+        answers,
+        ends,
+    )
 }
 
 // Lists the path of an answer record, which may come from anybody: the states come first in the list, which is unchanged past them and by a

@@ -1,5 +1,6 @@
 // Drills D11 to D13, a goal cut in two, denials, the path of D9, updates that change nothing, sheets in every dress, states stored and
-// restored, and each refusal from 10 to 50 and 80 to 82, with what every buffer holds afterwards.
+// restored, classes of many starts, and each refusal from 10 to 50 and 80 to 82, with what every buffer holds afterwards.
+mod classes;
 mod cuts;
 mod denials;
 mod dresses;
@@ -17,4 +18,5 @@ fn main() {
     paths::all();
     dresses::all();
     stores::all();
+    classes::all();
 }

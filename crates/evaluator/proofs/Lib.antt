@@ -2,3 +2,4 @@
 pub mod Listing
 pub mod Finishing
 pub mod Outcomes
+pub mod Determined

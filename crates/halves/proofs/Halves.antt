@@ -1,7 +1,6 @@
 -- The ends of a goal cut at any place: those of the logic, and those that unrefused evaluations list. Assumes nothing.
 use Prim.Native.Nat.{ℕ}
-use native.Mathlib.Omega.{arith}
-use mathlib.Core.Path.{_≡_, refl, sym, ap, subst, _∙_}
+use mathlib.Core.Path.{_≡_, sym, ap, subst, _∙_}
 use mathlib.Core.List.{List, _++_, map-append, List·Memᴰ}
 use mathlib.Core.Logic.{_↔_}
 use lib.ListN.{length, take, drop, take-append-drop}
@@ -11,10 +10,9 @@ use Rattle.steps.specs.Step.{Body}
 use Rattle.steps.specs.Deduction.{Final}
 use Rattle.steps.specs.Run.{End}
 use Rattle.steps.specs.Words.{step-of, body-of, book-of}
-use Rattle.steps.specs.Counting.{Distinct, none, more, Counts, Rising, rising-nil, rising-cons}
-use Rattle.steps.proofs.Counting.{counts-unique}
 use Rattle.steps.proofs.Deductions.{final-append}
-use Rattle.evaluator.specs.Evaluated.{Asked, Lent, Told, told, run-asked, Evaluated, not-accepted, no-room, short-list, ends-listed, EndsListed}
+use Rattle.evaluator.specs.Evaluated.{Asked, Lent, Told, run-asked}
+use Rattle.evaluator.proofs.Determined.{Listing, as-it-was, with-ends, listing}
 use Rattle.halves.specs.Cut.{first-half, second-half, Unrefused, Listed, CutAnywhere, EndsCut}
 
 -- ---- the ends of the logic
@@ -35,33 +33,17 @@ ends-cut q k D′ =
 
 -- ---- the ends listed
 
-rising-distinct : {xs : List ℕ} → Rising xs → Distinct xs
-rising-distinct rising-nil = none
-rising-distinct (rising-cons {x = x} {xs = xs} low r) = more (λ y (m : List·Memᴰ y xs) (e : y ≡ x). omega (arith, low y m)) (rising-distinct r)
-
-module _ (q : Asked) (before after : Lent) where
-  -- a result without refusal counts places that hold just the ends
-  abbrev Lists : Told → Type 0
-  Lists r = r .refusal ≡ 0 → (D : State) → List·Memᴰ D (take (r .ends) (after .ends)) ↔ End (run-asked q) D
-
-  listed : (e n m : ℕ) → Counts (End (run-asked q)) e → EndsListed q before after → Lists (told 0 e n m)
-  listed e n m c L z D = subst (λ (xs : List ℕ). List·Memᴰ D xs ↔ End (run-asked q) D) (sym first) (L .exactly D)
-    where
-      long : length (L .ends) ≡ e
-      long = counts-unique (End (run-asked q)) (length (L .ends)) e (L .ends, rising-distinct (L .rising), L .exactly, refl) c
-
-      first : take e (after .ends) ≡ L .ends
-      first = ap (take e) (L .list) ∙ take-at (L .ends) (drop (length (L .ends)) (before .ends)) e long
-
-  lists : {r : Told} → Evaluated q before after r → Lists r
-  lists (not-accepted n z s) e = absurd (n (sym (ap (λ r. r .refusal) z) ∙ e))
-  lists (no-room a f z s) e = absurd (omega (arith, ap (λ (r : Told). r .refusal) z))
-  lists (short-list a f c l z t s) e = absurd (omega (arith, ap (λ (r : Told). r .refusal) z))
-  lists (ends-listed {e = k} {n = n} {m = m} a f c l z t L) e = subst Lists (sym z) (listed k n m c L) e
+-- a result without refusal counts places that hold just the ends
+lists : {q : Asked} {before after : Lent} {r : Told} → Listing q before after r → r .refusal ≡ 0 → (D : State) → List·Memᴰ D (take (r .ends) (after .ends)) ↔ End (run-asked q) D
+lists (as-it-was n s) z D = absurd (n z)
+lists {q} {before} {after} {r} (with-ends z L c l) _ D =
+    subst (λ (xs : List ℕ). List·Memᴰ D xs ↔ End (run-asked q) D)
+    (sym (ap (take (r .ends)) (L .list) ∙ take-at (L .ends) (drop (length (L .ends)) (before .ends)) (r .ends) c))
+    (L .exactly D)
 
 -- An unrefused evaluation lists just the ends.
 pub lists-ends : {q : Asked} (u : Unrefused q) (D : State) → Listed u D ↔ End (run-asked q) D
-lists-ends {q} u = lists q (u .before) (u .after) (u .evaluated) (u .unrefused)
+lists-ends u = lists (listing (u .evaluated)) (u .unrefused)
 
 pub cut-anywhere : CutAnywhere
 cut-anywhere q k whole first second D′ = (

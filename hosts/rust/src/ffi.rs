@@ -70,6 +70,24 @@ extern "C" {
         ends: *mut u64,
         ends_len: usize,
     ) -> Run;
+    pub fn lawhemuri_class(
+        fluents: u64,
+        actions: u64,
+        rules: *const u16,
+        rules_len: usize,
+        goal: *const u16,
+        goal_len: usize,
+        starts: *const u64,
+        starts_len: usize,
+        results: *mut u64,
+        results_len: usize,
+        calls: *mut u64,
+        calls_len: usize,
+        answers: *mut u64,
+        answers_len: usize,
+        ends: *mut u64,
+        ends_len: usize,
+    ) -> u64;
     pub fn lawhemuri_path(
         fluents: u64,
         actions: u64,

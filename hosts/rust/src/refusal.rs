@@ -35,6 +35,8 @@ pub enum Refusal {
     BadGoal = 23,
     /// 24: a start, or a state to be stored, with a bit at or above the fluent count.
     BadStart = 24,
+    /// 25: over 1,024 starts of a class, or under 4 result words for each.
+    BadClass = 25,
     /// 30: the run's calls outnumber the call room, or its answers the answer room.
     TablesFull = 30,
     /// 31: the list has fewer places than there are ends.
@@ -59,7 +61,7 @@ pub enum Refusal {
 
 impl Refusal {
     /// All refusals, in rising order of their numbers.
-    pub const ALL: [Refusal; 25] = [
+    pub const ALL: [Refusal; 26] = [
         Refusal::TooLong,
         Refusal::BadByte,
         Refusal::NotEnded,
@@ -75,6 +77,7 @@ impl Refusal {
         Refusal::BadRule,
         Refusal::BadGoal,
         Refusal::BadStart,
+        Refusal::BadClass,
         Refusal::TablesFull,
         Refusal::ListShort,
         Refusal::BadRecordCount,
@@ -115,6 +118,7 @@ impl Refusal {
             Refusal::BadRule => "a bad rule word",
             Refusal::BadGoal => "a bad goal",
             Refusal::BadStart => "a bit of a state at or above the fluent count",
+            Refusal::BadClass => "over 1,024 starts, or under 4 result words for each",
             Refusal::TablesFull => "the tables have too little room for the run",
             Refusal::ListShort => "the list has fewer places than there are ends",
             Refusal::BadRecordCount => "a record count over its room",
@@ -160,8 +164,8 @@ mod tests {
     }
 
     #[test]
-    #[should_panic(expected = "the library gave 25")]
+    #[should_panic(expected = "the library gave 99")]
     fn unknown_number_is_not_accepted() {
-        let _ = accepted(25);
+        let _ = accepted(99);
     }
 }

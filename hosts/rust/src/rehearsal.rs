@@ -4,8 +4,8 @@ use std::collections::HashMap;
 use std::{fmt, io, panic, thread};
 
 use crate::unfolding::{hold, hold_structure, replay, unfold, Answer, Difference, Event, Kind, Step, Tables};
-use crate::{evaluate, fluent_name, path, read, Buffers, Question, Records, Refusal, Run, Sheet, Unread};
-use crate::{ANSWER_WORDS, CALL_WORDS, GOAL_ACTION, MOST_RULE_WORDS};
+use crate::{class, evaluate, fluent_name, outcomes, path, read, Buffers, Question, Records, Refusal, Run, Sheet, Unread, Unrun};
+use crate::{ANSWER_WORDS, CALL_WORDS, GOAL_ACTION, MOST_RULE_WORDS, START_WORDS};
 
 /// Records that a table has at most, whatever is lent.
 pub const MOST_RECORDS: usize = 65_536;
@@ -70,6 +70,9 @@ pub struct Way {
     /// As the library lists them: the call's state, then one for each update.
     pub states: Vec<u64>,
 }
+
+/// What a start of a class was told, and its ends in rising order; none where it was refused.
+pub type OfStart = (Result<Run, Unrun>, Vec<u64>);
 
 /// A sheet that is read and evaluated.
 #[derive(Debug)]
@@ -140,6 +143,13 @@ impl Rehearsal {
     /// The ends, in rising order.
     pub fn ends(&self) -> &[u64] {
         &self.ends
+    }
+
+    /// The sheet's goal from many starts, in one go (refusal 25). Rooms grow until they serve every start or are as large as may be, so a
+    /// start is refused only where no room helps (30) or it has a bit too high (24).
+    pub fn class(&self, starts: &[u64]) -> Result<Vec<OfStart>, Trouble> {
+        let question = self.sheet.question(&self.rules);
+        with_stack(STACK_EVALUATE, || grow_class(&question, starts))?.map_err(Trouble::Refused)
     }
 
     /// The finished tables.
@@ -238,6 +248,26 @@ fn grow(question: &Question<'_>) -> Result<Finished, Trouble> {
             Err(unrun) if unrun.refusal != Refusal::TablesFull => return Err(Trouble::Refused(unrun.refusal)),
             Err(_) if room == MOST_RECORDS => return Err(Trouble::TooLarge),
             Err(_) => room *= 2,
+        }
+    }
+}
+
+/// Runs a class in rooms that grow.
+fn grow_class(question: &Question<'_>, starts: &[u64]) -> Result<Vec<OfStart>, Refusal> {
+    let (mut room, mut places) = (FIRST_ROOM, FIRST_ROOM);
+    loop {
+        let (mut calls, mut answers, mut ends) = (vec![0; CALL_WORDS * room], vec![0; ANSWER_WORDS * room], vec![0; places]);
+        let mut results = vec![0; START_WORDS * starts.len()];
+        class(question, starts, &mut results, &mut Buffers { calls: &mut calls, answers: &mut answers, ends: &mut ends })?;
+        let told: Vec<OfStart> = outcomes(&results, &ends).map(|start| (start.told, start.ends.to_vec())).collect();
+        let refused_with = |number| told.iter().any(|(told, _)| told.is_err_and(|unrun| unrun.refusal == number));
+        if refused_with(Refusal::TablesFull) && room < MOST_RECORDS {
+            room *= 2;
+        } else if refused_with(Refusal::ListShort) {
+            // With 31 the ends are counted too.
+            places = told.iter().map(|(told, _)| told.map_or_else(|unrun| unrun.run.ends, |run| run.ends)).sum();
+        } else {
+            return Ok(told);
         }
     }
 }

@@ -1,7 +1,8 @@
 //! The operations as a host meets them: results, refusals, and what each buffer holds afterwards.
 
 use lawhemuri::{
-    evaluate, fluent_name, path, read, restore, store, write, Buffers, Question, Records, Refusal, Run, Unread, Unrun,
+    class, evaluate, fluent_name, outcomes, path, read, restore, store, write, Buffers, Question, Records, Refusal, Run, Unread,
+    Unrun,
 };
 
 const EXAMPLE: &[u8] = b"fluent\topen\nfluent\tlit\naction\tpurge\naction\tlight\nrule\tpurge\t+open\n\
@@ -171,10 +172,10 @@ fn denial() {
 #[test]
 fn numbers_of_refusals() {
     let numbers =
-        [10, 11, 12, 13, 14, 15, 16, 17, 18, 19, 20, 21, 22, 23, 24, 30, 31, 40, 41, 42, 43, 50, 80, 81, 82];
+        [10, 11, 12, 13, 14, 15, 16, 17, 18, 19, 20, 21, 22, 23, 24, 25, 30, 31, 40, 41, 42, 43, 50, 80, 81, 82];
     assert_eq!(Refusal::ALL.map(Refusal::number), numbers);
     assert_eq!(numbers.map(Refusal::of), Refusal::ALL.map(Some));
-    assert!([0, 9, 25, 29, 32, 39, 44, 79, 83].map(Refusal::of).iter().all(Option::is_none));
+    assert!([0, 9, 26, 29, 32, 39, 44, 79, 83].map(Refusal::of).iter().all(Option::is_none));
 }
 
 #[test]
@@ -282,4 +283,65 @@ fn refused_stores_leave_the_output() {
     assert_eq!(out, [MARK; 3]);
     assert_eq!((store(0, &[0; 3], &mut []), restore(0, 3, &[], &mut out)), (Ok(0), Ok(3)));
     assert_eq!(out, [0; 3]);
+}
+
+/// Drill D2's goal from some starts in rooms of 8 and 8, over marked buffers: what each start is told, result words, tables and list.
+#[allow(clippy::type_complexity)]
+fn class_of(starts: &[u64], words: usize, list: usize) -> (Result<(), Refusal>, Vec<u64>, Vec<u64>, Vec<u64>, Vec<u64>) {
+    let rules = left_recursion();
+    let question = Question { fluents: 2, actions: 1, rules: &rules, goal: &[768], start: 0 };
+    let (mut results, mut calls, mut answers, mut ends) = (vec![MARK; words], vec![MARK; 16], vec![MARK; 152], vec![MARK; list]);
+    let mut lent = Buffers { calls: &mut calls, answers: &mut answers, ends: &mut ends };
+    let told = class(&question, starts, &mut results, &mut lent);
+    (told, results, calls, answers, ends)
+}
+
+#[test]
+fn class_in_turn() {
+    let (told, results, calls, answers, ends) = class_of(&[0, 2, 4, 1], 17, 4);
+    assert_eq!(told, Ok(()));
+    assert_eq!(results, [0, 2, 2, 4, 0, 1, 2, 2, 24, 0, 0, 0, 31, 2, 2, 4, MARK]);
+    assert_eq!(ends, [1, 3, 3, MARK]);
+    let outcomes: Vec<_> = outcomes(&results[..16], &ends).collect();
+    assert_eq!(outcomes[0].told, Ok(Run { ends: 2, calls: 2, answers: 4 }));
+    assert_eq!((outcomes[0].ends, outcomes[1].ends, outcomes[3].ends), (&[1, 3][..], &[3][..], &[][..]));
+    assert_eq!(outcomes[2].told, Err(Unrun { refusal: Refusal::BadStart, run: Run::default() }));
+    assert_eq!(outcomes[3].told, Err(Unrun { refusal: Refusal::ListShort, run: Run { ends: 2, calls: 2, answers: 4 } }));
+    // The tables are those of start 1, as a single call leaves them.
+    let rules = left_recursion();
+    let last = Question { fluents: 2, actions: 1, rules: &rules, goal: &[768], start: 1 };
+    let (_, same_calls, same_answers, _) = with_rooms(&last, 8, 8, 1);
+    assert_eq!((calls, answers), (same_calls, same_answers));
+}
+
+/// Each start is told what a single call tells, and the tables go on from start to start.
+#[test]
+fn class_as_single_calls() {
+    let rules = left_recursion();
+    let starts: Vec<u64> = (0..1024).map(|i| i % 5).collect();
+    let (told, results, calls, answers, ends) = class_of(&starts, 4096, 700);
+    assert_eq!(told, Ok(()));
+    let (mut c, mut a, mut e) = (vec![MARK; 16], vec![MARK; 152], vec![MARK; 700]);
+    let mut used = 0;
+    for (start, outcome) in starts.iter().zip(outcomes(&results, &ends)) {
+        let question = Question { fluents: 2, actions: 1, rules: &rules, goal: &[768], start: *start };
+        let told = evaluate(&question, &mut Buffers { calls: &mut c, answers: &mut a, ends: &mut e[used..] });
+        assert_eq!(outcome.told, told);
+        let places = told.map_or(0, |run| run.ends);
+        assert_eq!(outcome.ends, &e[used..used + places]);
+        used += places;
+    }
+    assert_eq!((c, a, e), (calls, answers, ends));
+}
+
+#[test]
+fn refused_class_leaves_the_buffers() {
+    for (starts, words) in [(&vec![0; 1025], 4100), (&vec![0], 3), (&vec![4, 4], 7)] {
+        let (told, results, calls, answers, ends) = class_of(starts, words, 4);
+        assert_eq!(told, Err(Refusal::BadClass));
+        assert!([results, calls, answers, ends].concat().iter().all(|&word| word == MARK));
+    }
+    let (told, results, calls, answers, ends) = class_of(&[], 1, 1);
+    assert_eq!(told, Ok(()));
+    assert!([results, calls, answers, ends].concat().iter().all(|&word| word == MARK));
 }

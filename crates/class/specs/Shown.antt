@@ -1,0 +1,61 @@
+-- What is shown of a class run beyond its contract: single evaluations, the ends in one list, the tables left. Assumes nothing.
+use Prim.Native.Nat.{ℕ, _*_, _<_, _≤_}
+use mathlib.Core.Path.{_≡_}
+use mathlib.Core.List.{List, [], _∷_, _++_, List·Memᴰ}
+use mathlib.Core.Logic.{_↔_, _≢_}
+use lib.ListN.{length, getD, take, drop}
+use Rattle.steps.specs.State.{State}
+use Rattle.steps.specs.Run.{End}
+use Rattle.steps.specs.Counting.{Rising}
+use Rattle.evaluator.specs.Evaluated.{Asked, Lent, Told, refused-with, run-asked, Evaluated}
+use Rattle.class.specs.Class.{four, written, result-words, handed-on}
+
+-- Tables, and lists, of the same lengths.
+pub record SameRoom (one other : Lent) : Type 0 where
+  pub calls : length (one .calls) ≡ length (other .calls)
+  pub answers : length (one .answers) ≡ length (other .answers)
+  pub ends : length (one .ends) ≡ length (other .ends)
+
+module _ (ask : State → Asked) where
+  -- The ends of the unrefused starts, one start after another, each start's in rising order.
+  pub data InTurn : List State → List Told → List State → Type 0 where
+    none : InTurn [] [] []
+    without : {start : State} {later : List State} {r : Told} {rs : List Told} {ends : List State}
+        → r .refusal ≢ 0 → InTurn later rs ends → InTurn (start ∷ later) (r ∷ rs) ends
+    with-ends : {start : State} {later : List State} {r : Told} {rs : List Told} {own ends : List State}
+        → r .refusal ≡ 0 → Rising own → ((D : State) → List·Memᴰ D own ↔ End (run-asked (ask start)) D) → length own ≡ r .ends
+        → InTurn later rs ends → InTurn (start ∷ later) (r ∷ rs) (own ++ ends)
+
+  -- Every start is refused with one of 20 to 24.
+  abbrev pub NoneAccepted : List State → Type 0
+  NoneAccepted starts = (start : State) → List·Memᴰ start starts → refused-with (ask start) ≢ 0
+
+  -- The tables left are those of the last start that is refused with none of 20 to 24, as a single evaluation in tables of these lengths
+  -- leaves them; if there is none they are unchanged.
+  pub data TablesLeft (starts : List State) (before last : Lent) : Type 0 where
+    untouched : NoneAccepted starts → last .calls ≡ before .calls → last .answers ≡ before .answers → TablesLeft starts before last
+    of-last : (earlier : List State) {later : List State} {start : State} {lent left : Lent} {r : Told}
+        → starts ≡ earlier ++ start ∷ later → refused-with (ask start) ≡ 0 → NoneAccepted later
+        → length (lent .calls) ≡ length (before .calls) → length (lent .answers) ≡ length (before .answers) → Evaluated (ask start) lent left r
+        → last .calls ≡ left .calls → last .answers ≡ left .answers → TablesLeft starts before last
+
+  -- What an unrefused class run shows.
+  pub record Shown (starts : List State) (results : List ℕ) (before : Lent) (results′ : List ℕ) (after : Lent) : Type 0 where
+    -- What each start was told, and its four words.
+    pub given : List Told
+    pub words : results′ ≡ result-words given ++ drop (4 * length starts) results
+    -- The words of start i are those of any single evaluation of it, in tables of these lengths and a list of the places left.
+    pub single : {lent left : Lent} {r : Told} (i : ℕ) → i < length starts → SameRoom lent (handed-on (written (take i given)) before)
+        → Evaluated (ask (getD starts i 0)) lent left r → take 4 (drop (4 * i) results′) ≡ four r
+    -- The list begins with the ends of the unrefused starts one after another, and goes on with what it held.
+    pub ends : List State
+    pub in-turn : InTurn starts given ends
+    pub list : after .ends ≡ ends ++ drop (length ends) (before .ends)
+    pub ends-many : length ends ≡ written given
+    -- No unrefused start has over 65,536 of them, and each is one of an accepted start.
+    pub most : (r : Told) → List·Memᴰ r given → r .refusal ≡ 0 → r .ends ≤ 65536
+    pub of-starts : (D : State) → List·Memᴰ D ends → (start : State) × (refused-with (ask start) ≡ 0) × End (run-asked (ask start)) D
+    -- Which tables are left.
+    pub tables : TablesLeft starts before after
+    -- Every buffer keeps its length.
+    pub room : SameRoom after before

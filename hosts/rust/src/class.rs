@@ -1,0 +1,73 @@
+//! A whole class in one go: one book and goal from many starts.
+
+use crate::refusal::accepted;
+use crate::{ffi, Buffers, Question, Refusal, Run, Unrun};
+
+/// Starts of a class at most.
+pub const MOST_STARTS: usize = 1_024;
+/// Result words of a start: refusal number or 0, ends, calls, answers.
+pub const START_WORDS: usize = 4;
+
+/// What one start of a class was told, and its ends in rising order; none where it was refused.
+#[derive(Clone, Copy, Debug, PartialEq, Eq)]
+pub struct Outcome<'a> {
+    pub told: Result<Run, Unrun>,
+    pub ends: &'a [u64],
+}
+
+/// Runs a goal from many starts in turn (refusal 25); the question's own start is not used.
+///
+/// Everything equals calls of [`evaluate`](crate::evaluate) made in turn with the same tables, each lent what is left of the list: a refused
+/// start takes no places of it, and later ones still run. Four words for each start go to `results`, which is unchanged past them, and
+/// the ends of unrefused starts follow one another in the list; [`outcomes`] takes both apart. The tables are those of the last start
+/// that was refused with none of 20 to 24. With 25 nothing is changed.
+///
+/// ```
+/// let text = b"fluent\ta\nfluent\tb\naction\tg\nrule\tg\t!g\t?a\t+b\nrule\tg\t+a\nstart\ngoal\t!g\n";
+/// let mut rules = [0; 4608];
+/// let sheet = lawhemuri::read(text, &mut rules).unwrap();
+/// let (mut calls, mut answers, mut ends, mut results) = ([0; 2 * 8], [0; 19 * 8], [0; 8], [0; 4 * 2]);
+/// let mut buffers = lawhemuri::Buffers { calls: &mut calls, answers: &mut answers, ends: &mut ends };
+/// lawhemuri::class(&sheet.question(&rules), &[0, 2], &mut results, &mut buffers).unwrap();
+/// let listed: Vec<&[u64]> = lawhemuri::outcomes(&results, &ends).map(|outcome| outcome.ends).collect();
+/// assert_eq!(listed, [&[1, 3][..], &[3]]);
+/// ```
+pub fn class(question: &Question<'_>, starts: &[u64], results: &mut [u64], lent: &mut Buffers<'_>) -> Result<(), Refusal> {
+    // SAFETY: the library reads rules, goal and starts and writes the result words and the buffers, within the lengths given, and
+    // keeps none; the borrows make them disjoint.
+    let refusal = unsafe {
+        ffi::lawhemuri_class(
+            question.fluents,
+            question.actions,
+            question.rules.as_ptr(),
+            question.rules.len(),
+            question.goal.as_ptr(),
+            question.goal.len(),
+            starts.as_ptr(),
+            starts.len(),
+            results.as_mut_ptr(),
+            results.len(),
+            lent.calls.as_mut_ptr(),
+            lent.calls.len(),
+            lent.answers.as_mut_ptr(),
+            lent.answers.len(),
+            lent.ends.as_mut_ptr(),
+            lent.ends.len(),
+        )
+    };
+    accepted(refusal)
+}
+
+/// What each start was told and its ends, from the result words of a class (those past the last start left out) and its list.
+///
+/// Panics on words and a list that no class leaves.
+pub fn outcomes<'a>(results: &'a [u64], ends: &'a [u64]) -> impl Iterator<Item = Outcome<'a>> + 'a {
+    let mut left = ends;
+    results.chunks_exact(START_WORDS).map(move |words| {
+        let run = Run { ends: words[1] as usize, calls: words[2] as usize, answers: words[3] as usize };
+        let told = accepted(words[0]).map(|()| run).map_err(|refusal| Unrun { refusal, run });
+        let (ends, later) = left.split_at(told.map_or(0, |run| run.ends));
+        left = later;
+        Outcome { told, ends }
+    })
+}

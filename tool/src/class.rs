@@ -1,0 +1,198 @@
+//! A whole class: the starts of its trainees, as an instructor writes them, and what the sheet's goal comes to from each.
+
+use std::collections::BTreeSet;
+use std::fs::File;
+use std::io::{self, Read};
+
+use lawhemuri::{OfStart, Refusal, Trouble};
+
+use crate::ask::fluent;
+use crate::drill::Drill;
+use crate::failure::Failure;
+use crate::words::{count, count_or_no, grouped};
+
+/// Bytes of a file of starts that are read at most.
+const MOST_BYTES: u64 = 1 << 20;
+/// The columns of numbers: their heads, right-aligned.
+const HEADS: [&str; 3] = ["ends", "calls", "answers"];
+
+/// One start: whose it is, and the state.
+#[derive(Debug, PartialEq, Eq)]
+pub struct Start {
+    pub who: String,
+    pub state: u64,
+}
+
+/// The bytes of the file of starts that an operand names.
+pub fn read(operand: &str) -> Result<String, Failure> {
+    let mut bytes = Vec::new();
+    let from = |source: &mut dyn Read, bytes: &mut Vec<u8>| source.take(MOST_BYTES + 1).read_to_end(bytes).map(drop);
+    let read = match operand {
+        "-" => from(&mut io::stdin(), &mut bytes),
+        _ => File::open(operand).and_then(|mut file| from(&mut file, &mut bytes)),
+    };
+    let called = if operand == "-" { "standard input" } else { operand };
+    read.map_err(|error| Failure::Failed(format!("{called} cannot be read: {error}")))?;
+    if bytes.len() as u64 > MOST_BYTES {
+        return Err(Failure::Failed(format!("{called} has more than {} bytes", grouped(MOST_BYTES))));
+    }
+    Ok(String::from_utf8_lossy(&bytes).into_owned())
+}
+
+/// The starts that the lines of a text say. A line is `start` and the names that hold, as in a sheet, or somebody's name with a colon
+/// and then the names that hold; names are parted by TABs or spaces. Blank lines and lines that begin with `#` are left out. A start
+/// of nobody's is called by its number.
+pub fn starts(text: &str, file: &str, drill: &Drill) -> Result<Vec<Start>, Failure> {
+    let mut starts = Vec::new();
+    for (line, number) in text.lines().zip(1..) {
+        let line = line.trim();
+        if line.is_empty() || line.starts_with('#') {
+            continue;
+        }
+        let at = |what: &str| Failure::Use(format!("{file}, line {number}: {what}"));
+        let (who, names) = match line.split_once(':') {
+            Some((who, names)) if !who.trim().is_empty() => (who.trim().to_string(), names),
+            _ => {
+                let names = line.strip_prefix("start").filter(|names| names.is_empty() || names.starts_with(char::is_whitespace));
+                let names =
+                    names.ok_or_else(|| at("a line is `start`, or somebody's name and a colon, and then the names that hold"))?;
+                ((starts.len() + 1).to_string(), names)
+            }
+        };
+        let mut state = 0;
+        for name in names.split_whitespace() {
+            let bit = 1
+                << fluent(drill, name).map_err(|failure| match failure {
+                    Failure::Use(words) => at(&words),
+                    other => other,
+                })?;
+            if state & bit != 0 {
+                return Err(at(&format!("`{name}` stands twice")));
+            }
+            state |= bit;
+        }
+        starts.push(Start { who, state });
+    }
+    Ok(starts)
+}
+
+/// What the library gives for the starts; over 1,024 of them are refused.
+pub fn run(drill: &Drill, starts: &[Start]) -> Result<Vec<OfStart>, Failure> {
+    let states: Vec<u64> = starts.iter().map(|start| start.state).collect();
+    drill.rehearsal.class(&states).map_err(|trouble| match trouble {
+        Trouble::Refused(Refusal::BadClass) => Failure::Failed(format!(
+            "refused 25: {}, of which {} run in one go",
+            count(starts.len(), "start"),
+            grouped(lawhemuri::MOST_STARTS)
+        )),
+        other => other.into(),
+    })
+}
+
+/// The table: a row for each start, with its ends under it if they are asked for.
+pub fn table(drill: &Drill, starts: &[Start], given: &[OfStart], with_ends: bool) -> String {
+    let rows: Vec<[String; 3]> = given.iter().map(|(told, _)| counts(told)).collect();
+    let wide = |head: &str, column: &dyn Fn(usize) -> usize| (0..starts.len()).map(column).chain([head.len()]).max().unwrap_or(0);
+    let who = wide("start", &|i| starts[i].who.chars().count());
+    let numbers: Vec<usize> = (0..3).map(|k| wide(HEADS[k], &|i| rows[i][k].len())).collect();
+    let line = |name: &str, cells: [&str; 3], holds: &str| {
+        let cells: String = cells.iter().zip(&numbers).map(|(cell, width)| format!("  {cell:>width$}")).collect();
+        format!("{name:<who$}{cells}  {holds}\n")
+    };
+    let ends: usize = given.iter().map(|(_, ends)| ends.len()).sum();
+    let mut out = format!("{}: {}, {}\n", drill.name, count_or_no(starts.len(), "start"), count_or_no(ends, "end"));
+    if !starts.is_empty() {
+        out += &line("start", HEADS, "holds at the start");
+    }
+    for ((start, (_, ends)), row) in starts.iter().zip(given).zip(&rows) {
+        out += &line(&start.who, [&row[0], &row[1], &row[2]], &drill.holding_words(start.state));
+        for end in ends.iter().filter(|_| with_ends) {
+            out += &format!("{:who$}  end {end}: {}\n", "", drill.holding_words(*end));
+        }
+    }
+    let refused: BTreeSet<u64> = given.iter().filter_map(|(told, _)| Some(told.err()?.refusal.number())).collect();
+    let meaning = |refusal| match refusal {
+        Refusal::TablesFull => Trouble::TooLarge.to_string(),
+        other => other.to_string(),
+    };
+    let meanings = refused.iter().filter_map(|&number| Refusal::of(number)).map(|refusal| meaning(refusal) + "\n");
+    out + &meanings.collect::<String>()
+}
+
+/// The counts of a start; of one that is refused its number, which is 30 wherever a room does not help.
+fn counts(told: &Result<lawhemuri::Run, lawhemuri::Unrun>) -> [String; 3] {
+    match told {
+        Ok(run) => [run.ends, run.calls, run.answers].map(grouped),
+        Err(unrun) => [format!("refused {}", unrun.refusal.number()), "-".into(), "-".into()],
+    }
+}
+
+/// The same as JSON, with the ends. States are strings: they may have more digits than a number of JavaScript keeps.
+pub fn json(drill: &Drill, starts: &[Start], given: &[OfStart]) -> String {
+    let names = |state: u64| drill.holding(state).iter().map(|name| format!("\"{name}\"")).collect::<Vec<_>>().join(",");
+    let end = |end: &u64| format!("{{\"state\":\"{end}\",\"holds\":[{}]}}", names(*end));
+    let row = |(start, (told, ends)): (&Start, &OfStart)| {
+        let (refusal, run) = told.map_or_else(|unrun| (unrun.refusal.number(), unrun.run), |run| (0, run));
+        format!(
+            "    {{\"start\":{},\"state\":\"{}\",\"holds\":[{}],\"refusal\":{refusal},\"ends\":{},\"calls\":{},\"answers\":{},\"list\":[{}]}}",
+            quoted(&start.who),
+            start.state,
+            names(start.state),
+            run.ends,
+            run.calls,
+            run.answers,
+            ends.iter().map(end).collect::<Vec<_>>().join(",")
+        )
+    };
+    let rows: Vec<String> = starts.iter().zip(given).map(row).collect();
+    let fluents: Vec<String> = drill.fluents().iter().map(|name| format!("\"{name}\"")).collect();
+    let rows = if rows.is_empty() { String::new() } else { format!("\n{}\n  ", rows.join(",\n")) };
+    format!("{{\n  \"fluents\":[{}],\n  \"starts\":[{rows}]\n}}\n", fluents.join(","))
+}
+
+/// A text as JSON has it.
+fn quoted(text: &str) -> String {
+    let escaped = |c: char| match c {
+        '"' | '\\' => format!("\\{c}"),
+        '\0'..='\u{1f}' => format!("\\u{:04x}", c as u32),
+        c => c.to_string(),
+    };
+    format!("\"{}\"", text.chars().map(escaped).collect::<String>())
+}
+
+#[cfg(test)]
+mod tests {
+    use super::*;
+
+    fn drill() -> Drill {
+        let text = b"fluent\ta\nfluent\tb\naction\tg\nrule\tg\t!g\t?a\t+b\nrule\tg\t+a\nstart\ngoal\t!g\n";
+        Drill::new("g.sheet".into(), "g".into(), lawhemuri::Rehearsal::new(text.to_vec()).unwrap()).unwrap()
+    }
+
+    #[test]
+    fn starts_of_a_class() {
+        let start = |who: &str, state| Start { who: who.into(), state };
+        let said = starts("# late shift\n\nstart\tb\r\nAnn Bee:\ta b\nstart\nben:\n", "class.txt", &drill()).unwrap();
+        assert_eq!(said, [start("1", 2), start("Ann Bee", 3), start("3", 0), start("ben", 0)]);
+    }
+
+    #[test]
+    fn wrong_lines_are_told() {
+        let cases = [
+            ("start a\nb\n", "class.txt, line 2: a line is `start`, or"),
+            ("starts a\n", "line 1: a line is `start`, or"),
+            ("ann: a b a\n", "line 1: `a` stands twice"),
+            ("ann: c\n", "line 1: g.sheet has no fluent `c`"),
+            (": a\n", "line 1: a line is `start`, or"),
+        ];
+        for (text, said) in cases {
+            let Err(Failure::Use(words)) = starts(text, "class.txt", &drill()) else { panic!("{text}") };
+            assert!(words.contains(said), "{text}: {words}");
+        }
+    }
+
+    #[test]
+    fn texts_in_json() {
+        assert_eq!(quoted("a \"b\" \\ \t"), "\"a \\\"b\\\" \\\\ \\u0009\"");
+    }
+}
