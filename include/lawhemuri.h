@@ -1,6 +1,7 @@
 /* Rehearsal sheets in ground Transaction Logic: read a sheet, write it as its one
  * fixed text, evaluate its goal, from one start or from a whole class of them, list the
- * path of an answer; store states by fluent, and restore them.
+ * path of an answer; store states by fluent, and restore them; the figures
+ * of a class run.
  *
  * The host lends all memory; nothing is allocated, kept between calls, printed or
  * locked, so calls may run in any number of threads. Every call returns, whatever
@@ -12,8 +13,9 @@
  *
  * Stack: lawhemuri_evaluate and lawhemuri_class need LAWHEMURI_STACK_EVALUATE bytes of it,
  * lawhemuri_path LAWHEMURI_STACK_PATH, lawhemuri_store and lawhemuri_restore
- * LAWHEMURI_STACK_ARCHIVE, the others LAWHEMURI_STACK_READ. A main thread has 8 MiB on most
- * systems, a thread of Rust's 2 MiB, one of musl's only 128 KiB.
+ * LAWHEMURI_STACK_ARCHIVE, lawhemuri_report LAWHEMURI_STACK_REPORT, the others
+ * LAWHEMURI_STACK_READ. A main thread has 8 MiB on most systems, a thread of Rust's 2 MiB,
+ * one of musl's only 128 KiB.
  */
 #ifndef LAWHEMURI_H
 #define LAWHEMURI_H
@@ -79,6 +81,12 @@ extern "C" {
  *  81  words not one per fluent for each block of 64 states  output unchanged
  *  82  a set bit past the last state                         output unchanged
  *  80  fewer places than words, or than states               output unchanged
+ * Figures of a class run (lawhemuri_report, after 20, which is of the fluents alone):
+ *  26  result words not 4 for each of at most 1,024 starts,
+ *      an unrefused start with over 65,536 ends, unrefused
+ *      starts whose ends do not add up to the ends lent, or
+ *      an end with a bit at or above the fluent count        output unchanged
+ *  27  fewer than 2 words for each fluent and 4 more         output unchanged
  *
  * A result with a refusal has 0 in every other field, but for two: the line of 13
  * to 17, and the three counts of 31.
@@ -100,6 +108,8 @@ extern "C" {
 #define LAWHEMURI_BAD_GOAL 23u
 #define LAWHEMURI_BAD_START 24u
 #define LAWHEMURI_BAD_CLASS 25u
+#define LAWHEMURI_BAD_RESULTS 26u
+#define LAWHEMURI_REPORT_SHORT 27u
 #define LAWHEMURI_TABLES_FULL 30u
 #define LAWHEMURI_LIST_SHORT 31u
 #define LAWHEMURI_BAD_RECORD_COUNT 40u
@@ -127,6 +137,11 @@ extern "C" {
  *   word per fluent, in fluent order. Bit i of the word of fluent k in block b, which is
  *   word k + b * fluents, is set exactly if fluent k holds in state i of the block, which
  *   is state i + 64 * b; for a state that is missing it is 0.
+ * Fraction: 2 words, numerator before denominator, in lowest terms. 0 is 0 over 1; a share
+ *   or mean over nothing is 0 over 0.
+ * Figures of a class run: a fraction for each fluent in order, the share of the ends in
+ *   which it holds; then the mean number of fluents holding in an end, and the mean ends
+ *   per unrefused start.
  */
 #define LAWHEMURI_RULE_WORDS 18u
 #define LAWHEMURI_CALL_WORDS 2u
@@ -139,12 +154,14 @@ extern "C" {
 #define LAWHEMURI_MOST_SHEET_BYTES 65536u
 #define LAWHEMURI_GOAL_ACTION 64u
 #define LAWHEMURI_GOAL_RULE 256u
+#define LAWHEMURI_REPORT_WORDS(fluents) (2u * (fluents) + 4u)
 
 /* Bytes of stack that a call needs, with some to spare. */
 #define LAWHEMURI_STACK_EVALUATE 1835008u
 #define LAWHEMURI_STACK_PATH 1179648u
 #define LAWHEMURI_STACK_READ 65536u
 #define LAWHEMURI_STACK_ARCHIVE 1024u
+#define LAWHEMURI_STACK_REPORT 8192u
 
 /* What a sheet says beside its rule words. */
 typedef struct lawhemuri_sheet {
@@ -302,6 +319,20 @@ lawhemuri_archived lawhemuri_store(uint64_t fluents,
 lawhemuri_archived lawhemuri_restore(uint64_t fluents, uint64_t count,
                                      const uint64_t *words, size_t words_len,
                                      uint64_t *states, size_t states_len);
+
+/* Writes the figures of a class run (20, 26, 27, or 0).
+ *
+ * results: 4 words for each start: refusal number or 0, ends, calls, answers. Only an
+ *   unrefused start's ends are counted; all other words may hold anything.
+ * ends: the ends of the unrefused starts, one start after another, as many as the results
+ *   say and no more, in any order; an end from two starts counts twice.
+ * out: no refusal, the first LAWHEMURI_REPORT_WORDS(fluents) words are the figures and the
+ *   list past them is unchanged; refused, it is unchanged.
+ */
+uint64_t lawhemuri_report(uint64_t fluents,
+                          const uint64_t *results, size_t results_len,
+                          const uint64_t *ends, size_t ends_len,
+                          uint64_t *out, size_t out_len);
 
 #ifdef __cplusplus
 }

@@ -322,6 +322,74 @@ static void test_refused_class(void) {
     EXPECT(all(results + 4 * LAWHEMURI_MOST_STARTS, 4, MARK));
 }
 
+/* Two unrefused starts and one refused, an end twice, and no starts, ends or fluents at all. */
+static void test_report(void) {
+    static const uint64_t results[12] = {0, 2, 2, 4, 31, 5, 5, 5, 0, 1, 1, 1}, listed[3] = {1, 3, 1};
+    static const uint64_t figures[8] = {1, 1, 1, 3, 4, 3, 3, 2}, no_ends[4] = {0, 0, 2, 0};
+    uint64_t out[133];
+    fill(out, WORDS(out));
+    EXPECT(lawhemuri_report(2, results, 12, listed, 3, out, 9) == LAWHEMURI_OK);
+    EXPECT(memcmp(out, figures, sizeof figures) == 0 && all(out + 8, WORDS(out) - 8, MARK));
+    EXPECT(LAWHEMURI_REPORT_WORDS(2) == 8 && lawhemuri_report(2, NULL, 0, NULL, 0, out, 8) == LAWHEMURI_OK);
+    EXPECT(all(out, 8, 0) && out[8] == MARK);
+    EXPECT(lawhemuri_report(1, no_ends, 4, NULL, 0, out, 6) == LAWHEMURI_OK);
+    EXPECT(all(out, 5, 0) && out[5] == 1);
+    static const uint64_t one[4] = {0, 1, 1, 1}, full[1] = {UINT64_MAX};
+    EXPECT(lawhemuri_report(64, one, 4, full, 1, out, WORDS(out)) == LAWHEMURI_OK);
+    EXPECT(all(out, 128, 1) && out[128] == 64 && all(out + 129, 3, 1) && out[132] == MARK);
+}
+
+/* 1,024 starts of 65,536 ends at most, and of one more: no sum wraps. */
+static void test_report_bounds(void) {
+    static uint64_t results[4 * (LAWHEMURI_MOST_STARTS + 1)], many[65537];
+    uint64_t out[7];
+    fill(out, WORDS(out));
+    EXPECT(lawhemuri_report(1, results, 4 * LAWHEMURI_MOST_STARTS, NULL, 0, out, 7) == LAWHEMURI_OK);
+    EXPECT(all(out, 5, 0) && out[5] == 1 && out[6] == MARK);
+    results[1] = 65536;
+    for (size_t i = 0; i < WORDS(many); i++)
+        many[i] = i % 3 == 0;
+    EXPECT(lawhemuri_report(1, results, 4, many, 65536, out, 6) == LAWHEMURI_OK);
+    EXPECT(out[0] == 10923 && out[1] == 32768 && out[2] == 10923 && out[3] == 32768 && out[4] == 65536 && out[5] == 1);
+    fill(out, WORDS(out));
+    results[1] = 65537;
+    EXPECT(lawhemuri_report(1, results, 4, many, 65537, out, 6) == LAWHEMURI_BAD_RESULTS);
+    results[1] = 0;
+    EXPECT(lawhemuri_report(1, results, WORDS(results), NULL, 0, out, 6) == LAWHEMURI_BAD_RESULTS);
+    EXPECT(all(out, WORDS(out), MARK));
+}
+
+/* Drill D2's goal from four starts, of which one is refused with 24 and one with 31: its results and ends as they come. */
+static void test_report_of_class(void) {
+    static const uint64_t starts[4] = {0, 2, 4, 1}, figures[8] = {1, 1, 2, 3, 5, 3, 3, 2};
+    uint64_t results[17], out[9], listed = 0;
+    fill(results, WORDS(results));
+    fill(out, WORDS(out));
+    EXPECT(lawhemuri_class(2, 1, RULES, 36, GOAL, 1, starts, 4, results, WORDS(results), calls, WORDS(calls), answers, WORDS(answers),
+                           ends, 4) == LAWHEMURI_OK);
+    for (size_t i = 0; i < 4; i++)
+        listed += results[4 * i] == 0 ? results[4 * i + 1] : 0;
+    EXPECT(listed == 3 && lawhemuri_report(2, results, 16, ends, listed, out, WORDS(out)) == LAWHEMURI_OK);
+    EXPECT(memcmp(out, figures, sizeof figures) == 0 && out[8] == MARK);
+    EXPECT(lawhemuri_report(2, results, 17, ends, listed, out, WORDS(out)) == LAWHEMURI_BAD_RESULTS);
+    EXPECT(lawhemuri_report(2, results, 16, ends, 4, out, WORDS(out)) == LAWHEMURI_BAD_RESULTS);
+}
+
+static void test_refused_reports(void) {
+    static const uint64_t one[5] = {0, 1, 1, 1}, wraps[8] = {0, UINT64_MAX, 0, 0, 0, 1}, low[1] = {1}, high[1] = {2};
+    uint64_t out[6];
+    fill(out, WORDS(out));
+#define REPORT(fluents, results, len, ends, count, room) lawhemuri_report(fluents, results, len, ends, count, out, room)
+    EXPECT(REPORT(65, one, 5, high, 1, 0) == LAWHEMURI_BAD_COUNTS);
+    EXPECT(REPORT(1, one, 5, low, 1, 6) == LAWHEMURI_BAD_RESULTS);
+    EXPECT(REPORT(1, one, 4, NULL, 0, 6) == LAWHEMURI_BAD_RESULTS);
+    EXPECT(REPORT(1, wraps, 8, NULL, 0, 6) == LAWHEMURI_BAD_RESULTS);
+    EXPECT(REPORT(1, one, 4, high, 1, 0) == LAWHEMURI_BAD_RESULTS);
+    EXPECT(REPORT(1, one, 4, low, 1, 5) == LAWHEMURI_REPORT_SHORT);
+    EXPECT(REPORT(0, NULL, 0, NULL, 0, 3) == LAWHEMURI_REPORT_SHORT);
+    EXPECT(all(out, WORDS(out), MARK));
+}
+
 int main(void) {
     test_example();
     test_names();
@@ -337,6 +405,10 @@ int main(void) {
     test_refused_stores();
     test_class();
     test_refused_class();
+    test_report();
+    test_report_bounds();
+    test_report_of_class();
+    test_refused_reports();
     printf("hosts/c: %s\n", failures == 0 ? "ok" : "failed");
     return failures != 0;
 }

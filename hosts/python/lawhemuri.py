@@ -7,6 +7,7 @@ after each end a line with a path to it: `path` and the states, or `path`, `refu
 import ctypes
 import os
 import sys
+from fractions import Fraction
 
 U8, U16, U64, SIZE = ctypes.c_uint8, ctypes.c_uint16, ctypes.c_uint64, ctypes.c_size_t
 
@@ -77,6 +78,8 @@ class Library:
         self._store.argtypes = [U64] + [longs, SIZE] * 2
         self._restore, self._restore.restype = lib.lawhemuri_restore, Archived
         self._restore.argtypes = [U64, U64] + [longs, SIZE] * 2
+        self._report, self._report.restype = lib.lawhemuri_report, U64
+        self._report.argtypes = [U64] + [longs, SIZE] * 3
 
     def read(self, text):
         """The sheet and its rule words."""
@@ -153,6 +156,18 @@ class Library:
         if restored.refusal:
             raise Refused(restored.refusal)
         return out[: restored.count]
+
+    def report(self, fluents, results, ends, out=None):
+        """The share of ends in which each fluent holds, the mean number of fluents holding in an end, and the mean ends per unrefused
+        start, as fractions; None stands for one over nothing. `out` is the output lent, else one that is long enough."""
+        out = (U64 * (2 * fluents + 4))() if out is None else out
+        lent = [(U64 * len(words))(*words) for words in (results, ends)]
+        refusal = self._report(fluents, lent[0], len(results), lent[1], len(ends), out, len(out))
+        if refusal:
+            raise Refused(refusal)
+        pairs = zip(out[: 2 * fluents + 4 : 2], out[1 : 2 * fluents + 4 : 2])
+        *shares, held, mean = [Fraction(n, d) if d else None for n, d in pairs]
+        return shares, held, mean
 
 
 def goal_records(run, calls, answers):

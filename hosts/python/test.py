@@ -5,6 +5,8 @@ import glob
 import io
 import os
 import unittest
+from fractions import Fraction
+from random import Random
 
 import lawhemuri
 
@@ -188,6 +190,57 @@ class ByFluent(unittest.TestCase):
             with self.assertRaises(lawhemuri.Refused) as refusal:
                 refused()
             self.assertEqual((refusal.exception.number, list(out)), (number, [7, 7, 7]))
+
+
+class OfAClass(unittest.TestCase):
+    """The figures of a class run, as it comes and from result words and ends written here."""
+
+    def test_figures(self):
+        out = (lawhemuri.U64 * 9)(*[7] * 9)
+        figures = LIBRARY.report(2, [0, 2, 2, 4, 31, 5, 5, 5, 0, 1, 1, 1], [1, 3, 1], out)
+        self.assertEqual(figures, ([Fraction(1), Fraction(1, 3)], Fraction(4, 3), Fraction(3, 2)))
+        self.assertEqual(list(out), [1, 1, 1, 3, 4, 3, 3, 2, 7])
+        self.assertEqual(LIBRARY.report(2, [], []), ([None, None], None, None))
+        self.assertEqual(LIBRARY.report(1, [0, 0, 2, 0], []), ([None], None, Fraction(0)))
+        self.assertEqual(LIBRARY.report(1, [0, 1, 1, 1] * 2, [1, 1]), ([Fraction(1)], Fraction(1), Fraction(1)))
+        self.assertEqual(LIBRARY.report(64, [0, 1, 1, 1], [2**64 - 1]), ([Fraction(1)] * 64, Fraction(64), Fraction(1)))
+
+    def test_class_as_it_comes(self):
+        sheet, rules = LIBRARY.read(b"fluent\ta\nfluent\tb\naction\tg\nrule\tg\t!g\t?a\t+b\nrule\tg\t+a\nstart\ngoal\t!g\n")
+        given = LIBRARY.class_run(sheet, rules, [0, 2, 4, 1], rooms=(8, 8, 4))
+        results = [word for run, _ in given for word in (run.refusal, run.ends, run.calls, run.answers)]
+        ends = [end for _, listed in given for end in listed]
+        self.assertEqual((results[8], results[12], ends), (24, 31, [1, 3, 3]))
+        self.assertEqual(LIBRARY.report(2, results, ends), ([Fraction(1), Fraction(2, 3)], Fraction(5, 3), Fraction(3, 2)))
+
+    def test_random_classes(self):
+        random = Random(8)
+        for _ in range(300):
+            fluents = random.choice([0, 1, 2, 3, 7, 64])
+            starts = [random.choice([0, 0, 0, 24, 30, 31]) for _ in range(random.randrange(6))]
+            counts = [random.randrange(5) for _ in starts]
+            ends = [random.randrange(2**fluents) for _ in range(sum(n for start, n in zip(starts, counts) if start == 0))]
+            results = [word for start, n in zip(starts, counts) for word in (start, n, random.randrange(2**64), 0)]
+            self.assertEqual(LIBRARY.report(fluents, results, ends), self.figures(fluents, starts, ends))
+
+    def figures(self, fluents, starts, ends):
+        over = lambda n, d: Fraction(n, d) if d else None
+        shares = [over(sum(end >> k & 1 for end in ends), len(ends)) for k in range(fluents)]
+        return shares, over(sum(bin(end).count("1") for end in ends), len(ends)), over(len(ends), starts.count(0))
+
+    def test_refused_outputs_are_unchanged(self):
+        out = (lawhemuri.U64 * 5)(*[7] * 5)
+        for number, refused in (
+            (20, lambda: LIBRARY.report(65, [0], [1], out)),
+            (26, lambda: LIBRARY.report(1, [0] * 5, [], out)),
+            (26, lambda: LIBRARY.report(1, [0, 1, 1, 1], [], out)),
+            (26, lambda: LIBRARY.report(1, [0, 2**64 - 1, 0, 0, 0, 1, 0, 0], [], out)),
+            (26, lambda: LIBRARY.report(1, [0, 1, 1, 1], [2], out)),
+            (27, lambda: LIBRARY.report(1, [0, 1, 1, 1], [1], out)),
+        ):
+            with self.assertRaises(lawhemuri.Refused) as refusal:
+                refused()
+            self.assertEqual((refusal.exception.number, list(out)), (number, [7] * 5))
 
 
 if __name__ == "__main__":

@@ -23,7 +23,7 @@ struct Usage {
 const WITH: Flag = Flag { name: "--with", takes: Some("NAME"), says: "only ends in which NAME holds (may be given again)" };
 const WITHOUT: Flag = Flag { name: "--without", takes: Some("NAME"), says: "only ends in which it does not" };
 
-const COMMANDS: [Usage; 7] = [
+const COMMANDS: [Usage; 8] = [
     Usage {
         name: "ends",
         operands: "SHEET",
@@ -94,6 +94,13 @@ const COMMANDS: [Usage; 7] = [
             Flag { name: "--ends", takes: None, says: "with the ends of each start" },
             Flag { name: "--json", takes: None, says: "as JSON, with the ends" },
         ],
+    },
+    Usage {
+        name: "report",
+        operands: "SHEET STARTS",
+        most_operands: 2,
+        says: "figures over a class: the share of ends in which each fluent holds, and two means, as exact fractions",
+        flags: &[Flag { name: "--json", takes: None, says: "as JSON: each a numerator and a denominator" }],
     },
 ];
 

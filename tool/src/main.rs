@@ -15,6 +15,7 @@ mod notes;
 mod page;
 mod progress;
 mod refusal;
+mod report;
 mod sha256;
 mod terminal;
 mod valve;
@@ -56,7 +57,7 @@ fn main() -> ExitCode {
 }
 
 fn run(given: &Given) -> Result<(), Failure> {
-    if given.command == "class" && given.operands.iter().filter(|operand| *operand == "-").count() == 2 {
+    if ["class", "report"].contains(&given.command) && given.operands.iter().filter(|operand| *operand == "-").count() == 2 {
         return Err(Failure::Use("the sheet and the starts cannot both be standard input".into()));
     }
     let source = load::source(&given.operands[0])?;
@@ -68,6 +69,7 @@ fn run(given: &Given) -> Result<(), Failure> {
         "write" => written(given, &source),
         "archive" => archive(given, &drilled(&source)?),
         "class" => class(given, &drilled(&source)?),
+        "report" => report(given, &drilled(&source)?),
         command => Err(Failure::Internal(format!("no command `{command}`"))),
     }
 }
@@ -243,18 +245,32 @@ fn archive(given: &Given, drill: &Drill) -> Result<(), Failure> {
 
 /// Runs the sheet's goal from the starts of a class, and prints what each comes to.
 fn class(given: &Given, drill: &Drill) -> Result<(), Failure> {
-    let file =
-        given.operands.get(1).ok_or_else(|| Failure::Use("class needs a file of starts: lawhemuri class SHEET STARTS".into()))?;
-    let called = if file == "-" { "standard input" } else { file };
-    let starts = class::starts(&class::read(file)?, called, drill)?;
-    let progress = Progress::begin("running the class");
-    let told = class::run(drill, &starts)?;
-    drop(progress);
+    let (starts, told) = class_run(given, drill)?;
     print(&if given.has("--json") {
         class::json(drill, &starts, &told)
     } else {
         class::table(drill, &starts, &told, given.has("--ends"))
     })
+}
+
+/// Runs the sheet's goal from the starts of a class, and prints the figures over it.
+fn report(given: &Given, drill: &Drill) -> Result<(), Failure> {
+    let (_, told) = class_run(given, drill)?;
+    let figures = report::figures(drill, &told)?;
+    print(&if given.has("--json") { report::json(drill, &told, &figures) } else { report::table(drill, &told, &figures) })
+}
+
+/// The starts of the file given, and what the sheet's goal comes to from each.
+fn class_run(given: &Given, drill: &Drill) -> Result<(Vec<class::Start>, Vec<lawhemuri::OfStart>), Failure> {
+    let command = given.command;
+    let none = || Failure::Use(format!("{command} needs a file of starts: lawhemuri {command} SHEET STARTS"));
+    let file = given.operands.get(1).ok_or_else(none)?;
+    let called = if file == "-" { "standard input" } else { file };
+    let starts = class::starts(&class::read(file)?, called, drill)?;
+    let progress = Progress::begin("running the class");
+    let told = class::run(drill, &starts)?;
+    drop(progress);
+    Ok((starts, told))
 }
 
 /// Refuses to write over the sheet that was read, by whatever path it is named.

@@ -130,7 +130,7 @@ fn a_part_has_no_end() {
 fn every_command_refuses() {
     let sheet = here().join("tests/refused/16_typo.sheet");
     let page = scratch("refused").join("refused.html");
-    for command in ["ends", "path", "check", "write", "archive", "class"] {
+    for command in ["ends", "path", "check", "write", "archive", "class", "report"] {
         let (status, out, err) = told(&[command.as_ref(), sheet.as_os_str()]);
         assert_eq!((status, out.as_str()), (1, ""));
         assert!(err.contains("did you mean `?open`?"), "{err}");
@@ -261,7 +261,7 @@ fn help_and_version_on_each_command() {
     assert_eq!(version, format!("lawhemuri {number} (library {number})\n"));
     let header = std::fs::read_to_string(folder("include/lawhemuri.h")).unwrap();
     assert!(header.contains(&format!("#define LAWHEMURI_VERSION \"{number}\"\n")));
-    for command in ["ends", "check", "path", "page", "write", "archive", "class"] {
+    for command in ["ends", "check", "path", "page", "write", "archive", "class", "report"] {
         assert_eq!(told(&[command, "--version"]), (0, version.clone(), String::new()));
         assert!(told(&["--help"]).1.contains(&format!("lawhemuri {command} SHEET")));
     }

@@ -1,2 +1,3 @@
--- A law across operations: what the evaluator leaves, the path shows.
+-- Laws across operations: what the evaluator leaves, the path shows; what a class run leaves, the report takes.
 pub mod PathLaws
+pub mod ReportLaws

@@ -9,6 +9,7 @@ ghost use Rattle.evaluator.specs.Evaluated.{Evaluated, asked, lent, told};
 ghost use Rattle.class.specs.Class.{Ran};
 ghost use Rattle.path.specs.Outcome.{Answered};
 ghost use Rattle.archive.specs.Outcome.{Stored, Restored};
+ghost use Rattle.report.specs.Outcome.{refusal, output-after};
 
 // The version, as a host compares it with its header's: 10,000 times the first number, 100 times the second and the third.
 #[no_mangle]
@@ -147,4 +148,18 @@ pub extern "C" fn lawhemuri_restore(
     ensures { λ r. ⌜ Restored fluents count (now (words .entry)) (now (states .entry)) (r .refusal) (r .count) (now (states .exit)) ⌝ }
 {
     archive::restore(fluents, count, words, states)
+}
+
+// Gives the refusal, or 0. The figures of a class run, two words each, come first in `out`, which is unchanged past them and by a refusal.
+#[no_mangle]
+pub extern "C" fn lawhemuri_report(
+    fluents: u64,
+    results: &[u64],
+    ends: &[u64],
+    out: &mut [u64],
+) -> u64
+    ensures { λ r. ⌜ r ≡ refusal fluents (now (results .entry)) (now (ends .entry)) (length (now (out .entry))) ⌝ }
+    ensures { λ _. ⌜ now (out .exit) ≡ output-after fluents (now (results .entry)) (now (ends .entry)) (now (out .entry)) ⌝ }
+{
+    report::report(fluents, results, ends, out)
 }

@@ -1,11 +1,13 @@
 // Drills D11 to D13, a goal cut in two, denials, the path of D9, updates that change nothing, sheets in every dress, states stored and
-// restored, classes of many starts, and each refusal from 10 to 50 and 80 to 82, with what every buffer holds afterwards.
+// restored, classes of many starts and figures over them, and each refusal from 10 to 50 and 80 to 82, with what every buffer holds
+// afterwards.
 mod classes;
 mod cuts;
 mod denials;
 mod dresses;
 mod paths;
 mod print;
+mod reports;
 mod runs;
 mod sheets;
 mod stores;
@@ -19,4 +21,5 @@ fn main() {
     dresses::all();
     stores::all();
     classes::all();
+    reports::all();
 }

@@ -114,4 +114,13 @@ extern "C" {
         states: *mut u64,
         states_len: usize,
     ) -> Archived;
+    pub fn lawhemuri_report(
+        fluents: u64,
+        results: *const u64,
+        results_len: usize,
+        ends: *const u64,
+        ends_len: usize,
+        out: *mut u64,
+        out_len: usize,
+    ) -> u64;
 }

@@ -1,5 +1,5 @@
 //! Safe functions over the proved library: read a rehearsal sheet, write it as its one fixed text, evaluate its goal, from one start
-//! or from a whole class of them, list the path of an answer; store states by fluent, and restore them.
+//! or from a whole class of them, list the path of an answer; store states by fluent, and restore them; the figures of a class run.
 //!
 //! [`Rehearsal`] does all of it in memory of its own, and gives the steps of each way, held against the library's path:
 //!
@@ -13,8 +13,8 @@
 //!
 //! In the functions below the caller lends all memory as slices. What each slice holds afterwards, for every
 //! refusal, is said at each function. As the header's constants say, [`evaluate`] and [`class`] need 1.75 MiB of stack, [`path`]
-//! 1.125 MiB, [`read`], [`fluent_name`] and [`write`] 64 KiB, [`store`] and [`restore`] 1 KiB: a thread of the standard library has
-//! 2 MiB.
+//! 1.125 MiB, [`read`], [`fluent_name`] and [`write`] 64 KiB, [`store`] and [`restore`] 1 KiB, [`report`] 8 KiB: a thread of the
+//! standard library has 2 MiB.
 //!
 //! ```
 //! let text = b"fluent\ta\nfluent\tb\naction\tg\nrule\tg\t!g\t?a\t+b\nrule\tg\t+a\nstart\ngoal\t!g\n";
@@ -31,12 +31,14 @@ mod class;
 mod ffi;
 mod refusal;
 mod rehearsal;
+mod report;
 pub mod unfolding;
 
 pub use class::{class, outcomes, Outcome, MOST_STARTS, START_WORDS};
 use refusal::accepted;
 pub use refusal::Refusal;
 pub use rehearsal::{OfStart, Rehearsal, Trouble, Way, MOST_EVENTS, MOST_RECORDS, STACK_EVALUATE, STACK_PATH};
+pub use report::{report, report_of, report_words, Figures, Fraction, Report};
 
 /// Words of one rule: head, step count, 16 step words.
 pub const RULE_WORDS: usize = 18;

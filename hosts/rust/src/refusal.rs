@@ -37,6 +37,11 @@ pub enum Refusal {
     BadStart = 24,
     /// 25: over 1,024 starts of a class, or under 4 result words for each.
     BadClass = 25,
+    /// 26: result words not 4 for each of at most 1,024 starts, an unrefused start with over 65,536 ends, unrefused starts whose ends do
+    /// not add up to the ends lent, or an end with a bit at or above the fluent count.
+    BadResults = 26,
+    /// 27: the output has fewer than 2 words for each fluent and 4 more.
+    ReportShort = 27,
     /// 30: the run's calls outnumber the call room, or its answers the answer room.
     TablesFull = 30,
     /// 31: the list has fewer places than there are ends.
@@ -61,7 +66,7 @@ pub enum Refusal {
 
 impl Refusal {
     /// All refusals, in rising order of their numbers.
-    pub const ALL: [Refusal; 26] = [
+    pub const ALL: [Refusal; 28] = [
         Refusal::TooLong,
         Refusal::BadByte,
         Refusal::NotEnded,
@@ -78,6 +83,8 @@ impl Refusal {
         Refusal::BadGoal,
         Refusal::BadStart,
         Refusal::BadClass,
+        Refusal::BadResults,
+        Refusal::ReportShort,
         Refusal::TablesFull,
         Refusal::ListShort,
         Refusal::BadRecordCount,
@@ -119,6 +126,8 @@ impl Refusal {
             Refusal::BadGoal => "a bad goal",
             Refusal::BadStart => "a bit of a state at or above the fluent count",
             Refusal::BadClass => "over 1,024 starts, or under 4 result words for each",
+            Refusal::BadResults => "results of a class that are bad, or do not fit its ends",
+            Refusal::ReportShort => "the output has fewer than 2 words for each fluent and 4 more",
             Refusal::TablesFull => "the tables have too little room for the run",
             Refusal::ListShort => "the list has fewer places than there are ends",
             Refusal::BadRecordCount => "a record count over its room",

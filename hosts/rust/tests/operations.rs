@@ -1,8 +1,8 @@
 //! The operations as a host meets them: results, refusals, and what each buffer holds afterwards.
 
 use lawhemuri::{
-    class, evaluate, fluent_name, outcomes, path, read, restore, store, write, Buffers, Question, Records, Refusal, Run, Unread,
-    Unrun,
+    class, evaluate, fluent_name, outcomes, path, read, report, report_of, report_words, restore, store, write, Buffers,
+    Fraction, OfStart, Question, Records, Refusal, Report, Run, Unread, Unrun,
 };
 
 const EXAMPLE: &[u8] = b"fluent\topen\nfluent\tlit\naction\tpurge\naction\tlight\nrule\tpurge\t+open\n\
@@ -172,10 +172,10 @@ fn denial() {
 #[test]
 fn numbers_of_refusals() {
     let numbers =
-        [10, 11, 12, 13, 14, 15, 16, 17, 18, 19, 20, 21, 22, 23, 24, 25, 30, 31, 40, 41, 42, 43, 50, 80, 81, 82];
+        [10, 11, 12, 13, 14, 15, 16, 17, 18, 19, 20, 21, 22, 23, 24, 25, 26, 27, 30, 31, 40, 41, 42, 43, 50, 80, 81, 82];
     assert_eq!(Refusal::ALL.map(Refusal::number), numbers);
     assert_eq!(numbers.map(Refusal::of), Refusal::ALL.map(Some));
-    assert!([0, 9, 26, 29, 32, 39, 44, 79, 83].map(Refusal::of).iter().all(Option::is_none));
+    assert!([0, 9, 28, 29, 32, 39, 44, 79, 83].map(Refusal::of).iter().all(Option::is_none));
 }
 
 #[test]
@@ -344,4 +344,56 @@ fn refused_class_leaves_the_buffers() {
     let (told, results, calls, answers, ends) = class_of(&[], 1, 1);
     assert_eq!(told, Ok(()));
     assert!([results, calls, answers, ends].concat().iter().all(|&word| word == MARK));
+}
+
+fn over(numerator: u64, denominator: u64) -> Fraction {
+    Fraction { numerator, denominator }
+}
+
+#[test]
+fn figures_of_a_class() {
+    let mut out = [MARK; 9];
+    let figures = report(2, &[0, 2, 2, 4, 31, 5, 5, 5, 0, 1, 1, 1], &[1, 3, 1], &mut out).unwrap();
+    assert_eq!(figures.shares().collect::<Vec<_>>(), [over(1, 1), over(1, 3)]);
+    assert_eq!((figures.mean_held(), figures.mean_ends()), (over(4, 3), over(3, 2)));
+    assert_eq!(out, [1, 1, 1, 3, 4, 3, 3, 2, MARK]);
+    let figures = report(2, &[], &[], &mut out).unwrap();
+    let all: Vec<Fraction> = figures.shares().chain([figures.mean_held(), figures.mean_ends()]).collect();
+    assert!(all == [Fraction::NOTHING; 4] && Fraction::NOTHING.value().is_none());
+    assert_eq!(out, [0, 0, 0, 0, 0, 0, 0, 0, MARK]);
+    let figures = report(1, &[0, 0, 2, 0], &[], &mut out).unwrap();
+    assert_eq!((figures.mean_held(), figures.mean_ends()), (Fraction::NOTHING, over(0, 1)));
+    let mut wide = [MARK; report_words(64)];
+    let figures = report(64, &[0, 1, 1, 1], &[u64::MAX], &mut wide).unwrap();
+    assert!(figures.shares().all(|share| share == over(1, 1)) && figures.shares().count() == 64);
+    assert_eq!((figures.mean_held(), figures.mean_ends().value()), (over(64, 1), Some(1.0)));
+}
+
+/// The results and the ends of a class as they come, and what `report_of` makes of them.
+#[test]
+fn figures_of_a_class_as_it_comes() {
+    let (told, results, _, _, ends) = class_of(&[0, 2, 4, 1], 17, 4);
+    assert_eq!(told, Ok(()));
+    let mut out = [MARK; 8];
+    let figures = report(2, &results[..16], &ends[..3], &mut out).unwrap();
+    let made = Report { shares: figures.shares().collect(), mean_held: figures.mean_held(), mean_ends: figures.mean_ends() };
+    assert_eq!(out, [1, 1, 2, 3, 5, 3, 3, 2]);
+    let given: Vec<OfStart> = outcomes(&results[..16], &ends).map(|start| (start.told, start.ends.to_vec())).collect();
+    assert_eq!(report_of(2, &given), Ok(made));
+}
+
+#[test]
+fn refused_reports_leave_the_output() {
+    let mut out = [MARK; 6];
+    assert_eq!(report(65, &[0], &[1], &mut out), Err(Refusal::BadCounts));
+    assert_eq!(report(1, &[0; 5], &[], &mut out), Err(Refusal::BadResults));
+    assert_eq!(report(1, &[0, 1, 1, 1], &[], &mut out), Err(Refusal::BadResults));
+    assert_eq!(report(1, &[0, u64::MAX, 0, 0, 0, 1, 0, 0], &[], &mut out), Err(Refusal::BadResults));
+    assert_eq!(report(1, &[0; 4100], &[], &mut out), Err(Refusal::BadResults));
+    assert_eq!(report(1, &[0, 65537, 0, 0], &[0; 65537], &mut out), Err(Refusal::BadResults));
+    assert_eq!(report(1, &[0, 1, 1, 1], &[2], &mut out[..0]), Err(Refusal::BadResults));
+    assert_eq!(report(1, &[0, 1, 1, 1], &[1], &mut out[..5]), Err(Refusal::ReportShort));
+    assert_eq!(out, [MARK; 6]);
+    assert!(report(1, &[0, 65536, 0, 0], &[0; 65536], &mut out).is_ok());
+    assert_eq!(out, [0, 1, 0, 1, 65536, 1]);
 }
