@@ -1,7 +1,7 @@
 /* Rehearsal sheets in ground Transaction Logic: read a sheet, write it as its one
  * fixed text, evaluate its goal, from one start or from a whole class of them, list the
  * path of an answer; store states by fluent, and restore them; the figures
- * of a class run.
+ * of a class run; mark what a trainee did.
  *
  * The host lends all memory; nothing is allocated, kept between calls, printed or
  * locked, so calls may run in any number of threads. Every call returns, whatever
@@ -13,9 +13,9 @@
  *
  * Stack: lawhemuri_evaluate and lawhemuri_class need LAWHEMURI_STACK_EVALUATE bytes of it,
  * lawhemuri_path LAWHEMURI_STACK_PATH, lawhemuri_store and lawhemuri_restore
- * LAWHEMURI_STACK_ARCHIVE, lawhemuri_report LAWHEMURI_STACK_REPORT, the others
- * LAWHEMURI_STACK_READ. A main thread has 8 MiB on most systems, a thread of Rust's 2 MiB,
- * one of musl's only 128 KiB.
+ * LAWHEMURI_STACK_ARCHIVE, lawhemuri_report LAWHEMURI_STACK_REPORT, lawhemuri_mark
+ * LAWHEMURI_STACK_MARK, the others LAWHEMURI_STACK_READ. A main thread has 8 MiB on most
+ * systems, a thread of Rust's 2 MiB, one of musl's only 128 KiB.
  */
 #ifndef LAWHEMURI_H
 #define LAWHEMURI_H
@@ -76,6 +76,10 @@ extern "C" {
  *  43  fewer places than states in the path                  list unchanged
  * Text (lawhemuri_write, after 10 to 18):
  *  50  fewer bytes lent than the text has                    text unchanged
+ * Recorded steps (lawhemuri_mark, after 20 to 24):
+ *  60  over 63 steps                                         table unchanged
+ *  61  a table under 4,096 words                             table unchanged
+ *  62  a step that is a call or bad                          table unchanged
  * States by fluent (lawhemuri_store: 20, 24, 80; lawhemuri_restore: 20, 81, 82, 80;
  * 20 is of the fluents alone, 24 of every state):
  *  81  words not one per fluent for each block of 64 states  output unchanged
@@ -117,6 +121,9 @@ extern "C" {
 #define LAWHEMURI_BAD_RECORD 42u
 #define LAWHEMURI_STATES_SHORT 43u
 #define LAWHEMURI_TEXT_SHORT 50u
+#define LAWHEMURI_LONG_RECORD 60u
+#define LAWHEMURI_MARKS_SHORT 61u
+#define LAWHEMURI_BAD_RECORDED_STEP 62u
 #define LAWHEMURI_OUTPUT_SHORT 80u
 #define LAWHEMURI_BAD_WORD_COUNT 81u
 #define LAWHEMURI_BIT_PAST_END 82u
@@ -142,6 +149,11 @@ extern "C" {
  * Figures of a class run: a fraction for each fluent in order, the share of the ends in
  *   which it holds; then the mean number of fluents holding in an end, and the mean ends
  *   per unrefused start.
+ * Marks: place i of a record stands before its step i, and the last place behind its last
+ *   step. Bit j of word 64 * a + i is set exactly if some complete deduction of action a,
+ *   from the state that the steps before place i leave, carries out just the steps from
+ *   place i up to but not including place j. A word is 0 for an action at or above the
+ *   count, for a place past the record's end, and after a step that cannot run.
  */
 #define LAWHEMURI_RULE_WORDS 18u
 #define LAWHEMURI_CALL_WORDS 2u
@@ -152,6 +164,8 @@ extern "C" {
 #define LAWHEMURI_MOST_STARTS 1024u
 #define LAWHEMURI_START_WORDS 4u
 #define LAWHEMURI_MOST_SHEET_BYTES 65536u
+#define LAWHEMURI_MOST_RECORDED 63u
+#define LAWHEMURI_MARK_WORDS 4096u
 #define LAWHEMURI_GOAL_ACTION 64u
 #define LAWHEMURI_GOAL_RULE 256u
 #define LAWHEMURI_REPORT_WORDS(fluents) (2u * (fluents) + 4u)
@@ -162,6 +176,7 @@ extern "C" {
 #define LAWHEMURI_STACK_READ 65536u
 #define LAWHEMURI_STACK_ARCHIVE 1024u
 #define LAWHEMURI_STACK_REPORT 8192u
+#define LAWHEMURI_STACK_MARK 1024u
 
 /* What a sheet says beside its rule words. */
 typedef struct lawhemuri_sheet {
@@ -207,6 +222,12 @@ typedef struct lawhemuri_archived {
     uint64_t refusal; /* 0: the words or states are written */
     uint64_t count;   /* how many; 0 where refused */
 } lawhemuri_archived;
+
+/* What marking gives. */
+typedef struct lawhemuri_marked {
+    uint64_t refusal; /* 0: the record is marked */
+    uint64_t yes;     /* 1 for a yes, else 0 */
+} lawhemuri_marked;
 
 /* The version of the library that is linked: LAWHEMURI_VERSION_NUMBER of its own header. */
 uint64_t lawhemuri_version(void);
@@ -333,6 +354,22 @@ uint64_t lawhemuri_report(uint64_t fluents,
                           const uint64_t *results, size_t results_len,
                           const uint64_t *ends, size_t ends_len,
                           uint64_t *out, size_t out_len);
+
+/* Marks what a trainee did (refusals 20 to 24, then 60 to 62): a yes exactly if some
+ * complete deduction of the goal from the start carries out the recorded steps, in that
+ * order and no others. Queries and denials are steps of the record too; calls are not. A
+ * step that cannot run where it stands makes it no. Rules may call themselves first.
+ *
+ * table: no refusal, the first 4,096 words are the marks and the words past them are
+ *   unchanged; refused, it is unchanged. Where the goal is one call, of action a, the
+ *   answer is bit recorded_len of word 64 * a.
+ */
+lawhemuri_marked lawhemuri_mark(uint64_t fluents, uint64_t actions,
+                                const uint16_t *rules, size_t rules_len,
+                                const uint16_t *goal, size_t goal_len,
+                                uint64_t start,
+                                const uint16_t *recorded, size_t recorded_len,
+                                uint64_t *table, size_t table_len);
 
 #ifdef __cplusplus
 }

@@ -6,6 +6,7 @@ mod classes;
 mod families;
 mod hash;
 mod lists;
+mod marks;
 mod paths;
 mod plain;
 mod runs;
@@ -18,7 +19,7 @@ fn main() -> ExitCode {
     let limit = args().nth(1).map_or(5.0, |seconds| seconds.parse().expect("SECONDS is a number"));
     let same = match args().nth(2) {
         Some(family) => vec![runs::print_family(&family, limit)],
-        None => vec![runs::print(limit), paths::print(), classes::print()],
+        None => vec![runs::print(limit), paths::print(), classes::print(), marks::print()],
     };
     ExitCode::from(u8::from(same.contains(&false)))
 }

@@ -390,6 +390,43 @@ static void test_refused_reports(void) {
     EXPECT(all(out, WORDS(out), MARK));
 }
 
+/* Drill D2's book: records that are its goal's and records that are not, in a table with one word more. */
+static void test_mark(void) {
+    static const uint16_t record[5] = {256, 0, 257, 0, 257}, stuck[2] = {256, 1};
+    static uint64_t table[LAWHEMURI_MARK_WORDS + 1];
+#define MARKED(steps, len) (fill(table, WORDS(table)), lawhemuri_mark(2, 1, RULES, 36, GOAL, 1, 0, steps, len, table, WORDS(table)))
+    lawhemuri_marked m = MARKED(record, 5);
+    EXPECT(m.refusal == LAWHEMURI_OK && m.yes == 1 && table[0] == 42 && all(table + 1, 4095, 0) && table[4096] == MARK);
+    m = MARKED(record, 3);
+    EXPECT(m.refusal == LAWHEMURI_OK && m.yes == 1 && table[0] == 10);
+    m = MARKED(record, 2);
+    EXPECT(m.refusal == LAWHEMURI_OK && m.yes == 0 && table[0] == 2);
+    m = MARKED(stuck, 2);
+    EXPECT(m.refusal == LAWHEMURI_OK && m.yes == 0 && table[0] == 2);
+    m = MARKED(NULL, 0);
+    EXPECT(m.refusal == LAWHEMURI_OK && m.yes == 0 && all(table, 4096, 0) && table[4096] == MARK);
+}
+
+/* A rule that does its step and calls itself, or does nothing: 63 steps; and what is refused, with the table unchanged. */
+static void test_refused_marks(void) {
+    static const uint16_t rules[36] = {0, 2, 256, 768};
+    static uint64_t table[LAWHEMURI_MARK_WORDS];
+    uint16_t record[64];
+    for (size_t i = 0; i < WORDS(record); i++)
+        record[i] = 256;
+    lawhemuri_marked m = lawhemuri_mark(2, 1, rules, 36, GOAL, 1, 0, record, LAWHEMURI_MOST_RECORDED, table, WORDS(table));
+    EXPECT(m.refusal == LAWHEMURI_OK && m.yes == 1 && table[0] == UINT64_MAX && table[63] == (uint64_t)1 << 63);
+    fill(table, WORDS(table));
+#define REFUSED(actions, len, room) lawhemuri_mark(2, actions, rules, 36, GOAL, 1, 0, record, len, table, room).refusal
+    EXPECT(REFUSED(65, 64, 0) == LAWHEMURI_BAD_COUNTS && REFUSED(0, 64, 0) == LAWHEMURI_BAD_RULE);
+    EXPECT(REFUSED(1, 64, 4095) == LAWHEMURI_LONG_RECORD);
+    record[62] = 768;
+    EXPECT(REFUSED(1, 63, 4095) == LAWHEMURI_MARKS_SHORT && REFUSED(1, 63, 4096) == LAWHEMURI_BAD_RECORDED_STEP);
+    record[62] = 258;
+    m = lawhemuri_mark(2, 1, rules, 36, GOAL, 1, 0, record, 63, table, WORDS(table));
+    EXPECT(m.refusal == LAWHEMURI_BAD_RECORDED_STEP && m.yes == 0 && all(table, WORDS(table), MARK));
+}
+
 int main(void) {
     test_example();
     test_names();
@@ -409,6 +446,8 @@ int main(void) {
     test_report_bounds();
     test_report_of_class();
     test_refused_reports();
+    test_mark();
+    test_refused_marks();
     printf("hosts/c: %s\n", failures == 0 ? "ok" : "failed");
     return failures != 0;
 }

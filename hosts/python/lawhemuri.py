@@ -49,6 +49,12 @@ class Archived(ctypes.Structure):
     _fields_ = [(name, U64) for name in ("refusal", "count")]
 
 
+class Marked(ctypes.Structure):
+    """The refusal, 0 for none, and 1 for a yes."""
+
+    _fields_ = [(name, U64) for name in ("refusal", "yes")]
+
+
 class Refused(Exception):
     """A numbered refusal, with its line for 13 to 17. With 31 `finished` has the run's counts, its calls and its answers."""
 
@@ -80,6 +86,8 @@ class Library:
         self._restore.argtypes = [U64, U64] + [longs, SIZE] * 2
         self._report, self._report.restype = lib.lawhemuri_report, U64
         self._report.argtypes = [U64] + [longs, SIZE] * 3
+        self._mark, self._mark.restype = lib.lawhemuri_mark, Marked
+        self._mark.argtypes = [U64, U64, words, SIZE, words, SIZE, U64, words, SIZE, longs, SIZE]
 
     def read(self, text):
         """The sheet and its rule words."""
@@ -168,6 +176,17 @@ class Library:
         pairs = zip(out[: 2 * fluents + 4 : 2], out[1 : 2 * fluents + 4 : 2])
         *shares, held, mean = [Fraction(n, d) if d else None for n, d in pairs]
         return shares, held, mean
+
+    def mark(self, sheet, rules, record, table=None):
+        """Whether the goal's deductions carry out just the recorded steps, and the table of marks; `table` is the one lent."""
+        table = (U64 * 4096)() if table is None else table
+        marked = self._mark(
+            sheet.fluents, sheet.actions, rules, 18 * sheet.rules, sheet.goal, sheet.goal_len, sheet.start,
+            (U16 * len(record))(*record), len(record), table, len(table),
+        )
+        if marked.refusal:
+            raise Refused(marked.refusal)
+        return bool(marked.yes), table
 
 
 def goal_records(run, calls, answers):

@@ -243,5 +243,29 @@ class OfAClass(unittest.TestCase):
             self.assertEqual((refusal.exception.number, list(out)), (number, [7] * 5))
 
 
+class Marks(unittest.TestCase):
+    """Records of drill D2's book."""
+
+    TEXT = b"fluent\ta\nfluent\tb\naction\tg\nrule\tg\t!g\t?a\t+b\nrule\tg\t+a\nstart\ngoal\t!g\n"
+
+    def test_records(self):
+        sheet, rules = LIBRARY.read(self.TEXT)
+        for record, yes, word in (
+            ([256], True, 0b10), ([256, 0, 257], True, 0b1010), ([256, 0, 257, 0, 257], True, 0b101010),
+            ([256, 0], False, 0b10), ([256, 1], False, 0b10), ([], False, 0),
+        ):
+            table = (lawhemuri.U64 * 4097)(*[7] * 4097)
+            self.assertEqual(LIBRARY.mark(sheet, rules, record, table)[0], yes)
+            self.assertEqual(list(table), [word] + [0] * 4095 + [7])
+
+    def test_refused_tables_are_unchanged(self):
+        sheet, rules = LIBRARY.read(self.TEXT)
+        for number, record, room in ((60, [768] * 64, 4095), (61, [768], 4095), (62, [768], 4096), (62, [258], 4096), (62, [1280], 4096)):
+            table = (lawhemuri.U64 * room)(*[7] * room)
+            with self.assertRaises(lawhemuri.Refused) as refusal:
+                LIBRARY.mark(sheet, rules, record, table)
+            self.assertEqual((refusal.exception.number, list(table)), (number, [7] * room))
+
+
 if __name__ == "__main__":
     unittest.main(verbosity=0)

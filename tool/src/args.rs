@@ -23,7 +23,7 @@ struct Usage {
 const WITH: Flag = Flag { name: "--with", takes: Some("NAME"), says: "only ends in which NAME holds (may be given again)" };
 const WITHOUT: Flag = Flag { name: "--without", takes: Some("NAME"), says: "only ends in which it does not" };
 
-const COMMANDS: [Usage; 8] = [
+const COMMANDS: [Usage; 9] = [
     Usage {
         name: "ends",
         operands: "SHEET",
@@ -102,6 +102,13 @@ const COMMANDS: [Usage; 8] = [
         says: "figures over a class: the share of ends in which each fluent holds, and two means, as exact fractions",
         flags: &[Flag { name: "--json", takes: None, says: "as JSON: each a numerator and a denominator" }],
     },
+    Usage {
+        name: "mark",
+        operands: "SHEET RECORD",
+        most_operands: 2,
+        says: "are the recorded steps a way through the goal; where not, how far they can be followed",
+        flags: &[],
+    },
 ];
 
 const GENERAL: [Flag; 2] = [
@@ -163,6 +170,7 @@ pub fn help() -> String {
     GENERAL.iter().for_each(|flag| out += &flag.line());
     out + "\nSHEET is a file, - for standard input, or the name of a sheet in the folder that LAWHEMURI_SHEETS names;\n\
            where it is not set, of a sheet that is installed with the program.\n\
+           RECORD is a file of steps that were done, or - for standard input: +open ?open ~lit -open, on one line or several.\n\
            END is the number of an end, or names that hold in it: 3, or pilot_valve, or pilot_valve,locked_out.\n\
            STARTS is a file, - for standard input, with a line for each start: `start` and the names that hold, or\n\
            somebody's name and a colon, and the names that hold.\n\

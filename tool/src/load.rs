@@ -50,6 +50,26 @@ pub fn source(operand: &str) -> Result<Source, Failure> {
     Ok(Source { file, name, path: Some(path), text, length })
 }
 
+/// What a record is called, and its text. One that is longer than any sheet may be is none.
+pub fn record(operand: &str) -> Result<(String, Vec<u8>), Failure> {
+    let (file, text) = if operand == "-" {
+        (
+            "standard input".to_string(),
+            beginning(io::stdin()).map_err(|e| Failure::Failed(format!("standard input cannot be read: {e}")))?,
+        )
+    } else {
+        let unread = |error: io::Error| match error.kind() {
+            io::ErrorKind::NotFound => Failure::Failed(format!("no file {operand}")),
+            _ => Failure::Failed(format!("{operand} cannot be read: {error}")),
+        };
+        (operand.to_string(), read(Path::new(operand)).map_err(unread)?.0)
+    };
+    if text.len() > MOST_BYTES {
+        return Err(Failure::Failed(format!("{file} is too long for a record")));
+    }
+    Ok((file, text))
+}
+
 /// The bytes of a file as far as they are read, and how many it has; that is not known of what is no plain file.
 fn read(path: &Path) -> io::Result<(Vec<u8>, Option<usize>)> {
     let file = File::open(path)?;

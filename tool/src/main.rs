@@ -10,6 +10,7 @@ mod failure;
 mod layout;
 mod lines;
 mod load;
+mod marking;
 mod near;
 mod notes;
 mod page;
@@ -70,6 +71,7 @@ fn run(given: &Given) -> Result<(), Failure> {
         "archive" => archive(given, &drilled(&source)?),
         "class" => class(given, &drilled(&source)?),
         "report" => report(given, &drilled(&source)?),
+        "mark" => mark(given, &source),
         command => Err(Failure::Internal(format!("no command `{command}`"))),
     }
 }
@@ -271,6 +273,30 @@ fn class_run(given: &Given, drill: &Drill) -> Result<(Vec<class::Start>, Vec<law
     let told = class::run(drill, &starts)?;
     drop(progress);
     Ok((starts, told))
+}
+
+/// Marks a record. The sheet is read alone: its goal need not be one whose run fits the tables.
+fn mark(given: &Given, source: &Source) -> Result<(), Failure> {
+    let Some(record) = given.operands.get(1) else {
+        return Err(Failure::Use("mark needs a record: lawhemuri mark SHEET RECORD".into()));
+    };
+    if record == "-" && given.operands[0] == "-" {
+        return Err(Failure::Use("standard input is the sheet or the record, and not both".into()));
+    }
+    let mut rules = vec![0; lawhemuri::MOST_RULE_WORDS];
+    let sheet = match lawhemuri::read(&source.text, &mut rules) {
+        Ok(sheet) => sheet,
+        Err(unread) => {
+            say(&terminal::refusal(&refusal::told(&source.text, source.length, unread), &source.file, &source.text));
+            return Err(Failure::Failed(String::new()));
+        }
+    };
+    let name = |k| String::from_utf8_lossy(lawhemuri::fluent_name(&source.text, k)).into_owned();
+    let fluents: Vec<String> = (0..sheet.fluents).map(name).collect();
+    let (file, text) = load::record(record)?;
+    let steps = marking::steps(&file, &text, &fluents)?;
+    let marked = marking::marked(&sheet.question(&rules), &steps)?;
+    print(&marking::said(&marked, &steps, &fluents))
 }
 
 /// Refuses to write over the sheet that was read, by whatever path it is named.

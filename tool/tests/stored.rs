@@ -261,7 +261,7 @@ fn help_and_version_on_each_command() {
     assert_eq!(version, format!("lawhemuri {number} (library {number})\n"));
     let header = std::fs::read_to_string(folder("include/lawhemuri.h")).unwrap();
     assert!(header.contains(&format!("#define LAWHEMURI_VERSION \"{number}\"\n")));
-    for command in ["ends", "check", "path", "page", "write", "archive", "class", "report"] {
+    for command in ["ends", "check", "path", "page", "write", "archive", "class", "report", "mark"] {
         assert_eq!(told(&[command, "--version"]), (0, version.clone(), String::new()));
         assert!(told(&["--help"]).1.contains(&format!("lawhemuri {command} SHEET")));
     }
@@ -373,6 +373,55 @@ fn refused_starts_and_classes() {
         let (code, out, err) = told(words);
         assert_eq!((code, out.as_str()), (status, ""), "{words:?}");
         assert!(err.contains(said), "{words:?}: {err}");
+    }
+}
+
+/// Records, each with what is said of it: the steps of a way, and the same cut short, gone on with, out of order, and of a step that
+/// cannot run.
+#[test]
+fn records_marked() {
+    let place = scratch("records");
+    let sheet = folder("sheets/low_water.sheet");
+    let file = place.join("record");
+    let mark = |record: &str| {
+        std::fs::write(&file, record).unwrap();
+        told(&["mark".as_ref(), sheet.as_os_str(), file.as_os_str()])
+    };
+    let hand_stop = "# the hand stop, as it was done\n?level_ok -level_ok +level_low\n?level_low +low_alarm +bell_rung\n\
+        ?feed_pump -feed_pump +feed_lost\r\n?level_low\t-level_low\t+level_cut\n?level_cut ?low_alarm +acknowledged +by_hand\n\
+        ?main_valve -main_valve -main_flame -firing -steam_valve ?pilot_valve -pilot_valve -pilot_flame -fan_on\n";
+    let records = [
+        ("the hand stop", hand_stop.to_string()),
+        ("its last step forgotten", hand_stop.replace(" -fan_on", "")),
+        ("a step more", format!("{hand_stop}+vent_open")),
+        ("the alarm not looked at", hand_stop.replace(" ?low_alarm", "")),
+        ("the alarm before the level", hand_stop.replace("?level_ok", "?low_alarm")),
+        ("nothing done", "# nothing\n\n".to_string()),
+    ];
+    let mut out = String::new();
+    for (what, record) in records {
+        let (status, said, err) = mark(&record);
+        assert_eq!((status, err.as_str()), (0, ""), "{what}");
+        let piped = told_from(&["mark".as_ref(), sheet.as_os_str(), "-".as_ref()], std::fs::File::open(&file).unwrap());
+        assert_eq!(piped, (0, said.clone(), err));
+        out += &format!("# {what}\n{said}");
+    }
+    stored(&here().join("tests/stored/low_water.marks"), &out);
+    let (status, said, err) = told(&["mark".as_ref(), sheet.as_os_str()]);
+    assert_eq!((status, said.as_str(), err.as_str()), (2, "", "lawhemuri: mark needs a record: lawhemuri mark SHEET RECORD\n"));
+    assert_eq!(told(&["mark", "-", "-"]).0, 2);
+    let typo = here().join("tests/refused/16_typo.sheet");
+    let (status, said, err) = told(&["mark".as_ref(), typo.as_os_str(), file.as_os_str()]);
+    assert!(status == 1 && said.is_empty() && err.contains("did you mean `?open`?"), "{err}");
+    let missing = place.join("no_record");
+    assert_eq!(told(&["mark".as_ref(), sheet.as_os_str(), missing.as_os_str()]).0, 1);
+    for (record, told) in [
+        ("+pilot_vlave", "`+pilot_vlave`: the sheet has no fluent `pilot_vlave`; did you mean `pilot_valve`?"),
+        ("# nothing\n!trip\n", ":2: `!trip`: a call is no step that is done (62)"),
+        (&"+purged ".repeat(64), "refused 60: a record of over 63 steps"),
+    ] {
+        let (status, said, err) = mark(record);
+        assert!(status == 1 && said.is_empty() && err.contains(told), "{err}");
     }
 }
 

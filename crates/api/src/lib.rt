@@ -10,6 +10,7 @@ ghost use Rattle.class.specs.Class.{Ran};
 ghost use Rattle.path.specs.Outcome.{Answered};
 ghost use Rattle.archive.specs.Outcome.{Stored, Restored};
 ghost use Rattle.report.specs.Outcome.{refusal, output-after};
+ghost use Rattle.marking.specs.Marking.{question, Outcome};
 
 // The version, as a host compares it with its header's: 10,000 times the first number, 100 times the second and the third.
 #[no_mangle]
@@ -162,4 +163,22 @@ pub extern "C" fn lawhemuri_report(
     ensures { λ _. ⌜ now (out .exit) ≡ output-after fluents (now (results .entry)) (now (ends .entry)) (now (out .entry)) ⌝ }
 {
     report::report(fluents, results, ends, out)
+}
+
+// Marks a trainee's record: whether some complete deduction of the goal from the start carries out just the recorded steps, in order. The first
+// 4,096 words of `table` say the same of every action and any part of the record; it is unchanged past them and by a refusal.
+#[no_mangle]
+pub extern "C" fn lawhemuri_mark(
+    fluents: u64,
+    actions: u64,
+    rules: &[u16],
+    goal: &[u16],
+    start: u64,
+    recorded: &[u16],
+    table: &mut [u64],
+) -> marking::Marked
+    ensures { λ r. ⌜ Outcome (question fluents actions (now (rules .entry)) (now (goal .entry)) start (now (recorded .entry)))
+        (now (table .entry)) (r .refusal) (r .yes) (now (table .exit)) ⌝ }
+{
+    marking::mark(fluents, actions, rules, goal, start, recorded, table)
 }

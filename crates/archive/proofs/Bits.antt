@@ -1,14 +1,14 @@
--- The bits of a column, and numbers by their bits. Assumes nothing.
-use Prim.Native.Nat.{ℕ, zero, suc, _+_, _-_, _*_, _/_, _%_, _^_, _<_, _≤_}
+-- The bits of a column. Assumes nothing.
+use Prim.Native.Nat.{ℕ, zero, suc, _+_, _-_, _*_, _%_, _^_, _<_, _≤_}
 use native.Mathlib.Nat.{pow-suc, add-comm}
 use native.Mathlib.Omega.{arith}
 use mathlib.Core.Path.{_≡_, refl, sym, ap, _∙_}
 use mathlib.Core.List.{List, [], _∷_}
 use lib.ListN.{length, getD, drop, length-drop, drop-of-length-le}
 use lib.Seq.{drop-cons}
-use lib.Pow.{shr-shr, pow-mono}
+use lib.Pow.{pow-mono}
 use Rattle.steps.specs.State.{bit}
-use Rattle.steps.proofs.StateLaws.{high}
+use Rattle.steps.proofs.StateLaws.{no-bit, bit-zero, bit-suc}
 use Rattle.archive.specs.Archive.{column}
 
 -- a column has no more bits than there are words
@@ -17,32 +17,12 @@ unfolding column
 column-below k [] = omega arith
 column-below k (w ∷ rest) = omega (arith, column-below k rest, pow-suc 2 (length rest))
 
--- the bits above the first
-bit-suc : (n i : ℕ) → bit n (suc i) ≡ bit (n / 2) i
-bit-suc n i = ap (λ (m : ℕ). m % 2) (sym (shr-shr n 1 i ∙ ap (λ (j : ℕ). n / 2 ^ j) (omega arith)))
-
-bit-zero : (n : ℕ) → bit n 0 ≡ n % 2
-bit-zero n = omega arith
-
--- 0 has no bit
-pub no-bit : (i : ℕ) → bit 0 i ≡ 0
-no-bit i = high 0 i 0 (omega arith) (omega arith)
-
 -- bit i of a column is bit k of word i; past the last word it is 0
 pub column-bit : (k i : ℕ) (ws : List ℕ) → bit (column k ws) i ≡ bit (getD ws i 0) k
 unfolding column
 column-bit k i [] = no-bit i ∙ sym (no-bit k)
 column-bit k zero (w ∷ rest) = bit-zero _ ∙ omega arith
 column-bit k (suc i) (w ∷ rest) = bit-suc _ i ∙ ap (λ (n : ℕ). bit n i) (omega arith) ∙ column-bit k i rest
-
--- numbers with the same bits are the same
-pub bits-same : (w s t : ℕ) → s < 2 ^ w → t < 2 ^ w → ((i : ℕ) → i < w → bit s i ≡ bit t i) → s ≡ t
-bits-same zero s t hs ht f = omega arith
-bits-same (suc w) s t hs ht f =
-    let e : s % 2 ≡ t % 2 = sym (bit-zero s) ∙ f 0 (omega arith) ∙ bit-zero t in
-    let above : (i : ℕ) → i < w → bit (s / 2) i ≡ bit (t / 2) i = λ i l. sym (bit-suc s i) ∙ f (suc i) (omega arith) ∙ bit-suc t i in
-    let d : s / 2 ≡ t / 2 = bits-same w (s / 2) (t / 2) (omega (arith, pow-suc 2 w)) (omega (arith, pow-suc 2 w)) above in
-    omega arith
 
 -- ---- a column made from the last word down
 

@@ -9,8 +9,8 @@ use lib.Dec.{eqb}
 use lib.ListN.{length, getD, List·getD-eq-default}
 use lib.Seq.{ext-getD}
 use Rattle.steps.specs.State.{State, bit, holds}
+use Rattle.steps.proofs.StateLaws.{no-bit, bits-same}
 use Rattle.archive.specs.Archive.{blocks, stored, restored}
-use Rattle.archive.proofs.Bits.{bits-same, no-bit}
 use Rattle.archive.proofs.Tabulated.{columns-length, columns-bit, columns-below}
 use Rattle.archive.proofs.Counted.{in-words}
 

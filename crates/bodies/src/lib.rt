@@ -48,7 +48,7 @@ pub fn is_at(rules: &[u16], k: usize, action: u64) -> bool
 }
 
 // The steps of rule r.
-fn rule_steps(rules: &[u16], r: usize) -> &[u16]
+pub fn rule_steps(rules: &[u16], r: usize) -> &[u16]
     requires { ⌜ (r < length (now rules) / 18) × (count-of (now rules) r ≤ 16) ⌝ }
     ensures { λ b. ⌜ now b ≡ words-of (now (rules .entry)) r ⌝ }
 {

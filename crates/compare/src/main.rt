@@ -1,10 +1,12 @@
 // Compares reader, writer and evaluator with a separately written evaluator on sheets at random and in some dress: the words read, the text
-// written and what it reads to, ends, calls, answers, justifications and rooms. The other evaluator works on the words of the book that a
+// written and what it reads to, ends, calls, answers, justifications, rooms, and a record's marks. The other evaluator works on the words of the book that a
 // sheet was written from.
 mod evidence;
+mod marks;
 mod records;
 mod rooms;
 mod sheets;
+mod spans;
 mod text;
 mod words;
 
@@ -13,7 +15,7 @@ use relation::Found;
 use relation::random;
 
 // What was seen: sheets; their comment lines and lines ended by CR LF; rules that call their own action first; sheets in which two actions
-// call each other first; ends, calls and answers. Then the sheets that differ.
+// call each other first; ends, calls and answers; recorded steps that can run, records that are the goal's, marks. Then the sheets that differ.
 struct Tally {
     sheets: u64,
     comments: u64,
@@ -23,6 +25,9 @@ struct Tally {
     ends: u64,
     calls: u64,
     answers: u64,
+    runs: u64,
+    yes: u64,
+    marks: u64,
     bad_words: u64,
     bad_text: u64,
     bad_again: u64,
@@ -31,6 +36,7 @@ struct Tally {
     bad_answers: u64,
     bad_evidence: u64,
     bad_rooms: u64,
+    bad_marks: u64,
 }
 
 fn sum(a: u64, b: u64) -> u64 {
@@ -47,6 +53,9 @@ fn plus(a: Tally, b: Tally) -> Tally {
         ends: sum(a.ends, b.ends),
         calls: sum(a.calls, b.calls),
         answers: sum(a.answers, b.answers),
+        runs: sum(a.runs, b.runs),
+        yes: sum(a.yes, b.yes),
+        marks: sum(a.marks, b.marks),
         bad_words: sum(a.bad_words, b.bad_words),
         bad_text: sum(a.bad_text, b.bad_text),
         bad_again: sum(a.bad_again, b.bad_again),
@@ -55,6 +64,7 @@ fn plus(a: Tally, b: Tally) -> Tally {
         bad_answers: sum(a.bad_answers, b.bad_answers),
         bad_evidence: sum(a.bad_evidence, b.bad_evidence),
         bad_rooms: sum(a.bad_rooms, b.bad_rooms),
+        bad_marks: sum(a.bad_marks, b.bad_marks),
     }
 }
 
@@ -68,6 +78,9 @@ fn none() -> Tally {
         ends: 0,
         calls: 0,
         answers: 0,
+        runs: 0,
+        yes: 0,
+        marks: 0,
         bad_words: 0,
         bad_text: 0,
         bad_again: 0,
@@ -76,6 +89,7 @@ fn none() -> Tally {
         bad_answers: 0,
         bad_evidence: 0,
         bad_rooms: 0,
+        bad_marks: 0,
     }
 }
 
@@ -168,6 +182,13 @@ fn same_answers(
     records::same_answers(calls, run.calls, answers, m, rel, called, found.ends, start)
 }
 
+// Compares the marks of a record over what is read from the sheet.
+fn marked(book: &[u16; 126], start: u64, dress: u64) -> marks::Seen {
+    let mut rules = [0u16; 108];
+    let read = sheets::read(book, start, dress, &mut rules);
+    marks::compare(book, read, &rules, dress)
+}
+
 // Compares the sheet of one book from one state in a dress.
 fn compared(book: &[u16; 126], start: u64, dress: u64) -> Tally {
     let mut rel = [0u64; 32];
@@ -187,6 +208,7 @@ fn compared(book: &[u16; 126], start: u64, dress: u64) -> Tally {
     let good_calls = same_calls(run, found, &calls, &called, start);
     let good_answers = same_answers(run, found, &calls, &answers, &rel, &called, start);
     let good_evidence = evidence::all_justified(book, &calls, run.calls, &answers, run.answers);
+    let seen = marked(book, start, dress);
     Tally {
         sheets: 1,
         comments: sheets::count(book, start, dress, b'#'),
@@ -196,6 +218,9 @@ fn compared(book: &[u16; 126], start: u64, dress: u64) -> Tally {
         ends: run.ends,
         calls: run.calls,
         answers: run.answers,
+        runs: seen.runs,
+        yes: seen.yes,
+        marks: seen.marks,
         bad_words: failed(good_words),
         bad_text: failed(good_text),
         bad_again: failed(good_again),
@@ -204,6 +229,7 @@ fn compared(book: &[u16; 126], start: u64, dress: u64) -> Tally {
         bad_answers: failed(good_answers),
         bad_evidence: failed(good_evidence),
         bad_rooms: failed(good_rooms),
+        bad_marks: failed(seen.same),
     }
 }
 
@@ -245,6 +271,9 @@ fn print_seen(t: Tally) {
     line(b"ends", t.ends);
     line(b"calls", t.calls);
     line(b"answers", t.answers);
+    line(b"recorded steps that can run", t.runs);
+    line(b"records that are the goal's", t.yes);
+    line(b"marks", t.marks);
 }
 
 fn print_differences(t: Tally) {
@@ -256,6 +285,7 @@ fn print_differences(t: Tally) {
     line(b"sheets that differ in answers", t.bad_answers);
     line(b"sheets with an answer not justified", t.bad_evidence);
     line(b"sheets refused in wrong rooms", t.bad_rooms);
+    line(b"records marked otherwise", t.bad_marks);
 }
 
 fn main() {

@@ -1,11 +1,11 @@
 -- Laws of a state's bits. Assumes nothing.
-use Prim.Native.Nat.{ℕ, suc, _+_, _-_, _*_, _/_, _%_, _^_, _<_, _≤_}
+use Prim.Native.Nat.{ℕ, zero, suc, _+_, _-_, _*_, _/_, _%_, _^_, _<_, _≤_}
 use mathlib.Core.Bool.{Bool, true, false, cond, not, _||_, _&&_}
 use mathlib.Core.Path.{_≡_, refl, sym, ap, subst, _∙_}
 use native.Mathlib.Nat.{div-eq-of-lt, div-lt-iff-lt-mul, lt-div-mul-add, mul-le-mul-right, add-mul, add-div-right, add-mul-div-right, le-div-iff-mul-le, mod-lt, pow-suc, one-mul}
 use native.Mathlib.Omega.{arith}
 use native.Mathlib.Decide.{decLt, ℕ-discrete}
-use lib.Pow.{pow-pos, pow-mono, pow-add, split, field, shl-exact}
+use lib.Pow.{pow-pos, pow-mono, pow-add, split, field, shl-exact, shr-shr}
 use lib.Arith.{digits-div, mod-mul, lt-of-le-ne}
 use lib.Dec.{eqb, ltb, lit<}
 use borrow.Author.Tests.{ltb-true, ltb-false, eqb-true, eqb-false, eq-eqb, ne-eqb}
@@ -95,6 +95,28 @@ not-held s k e =
 -- the machine's `1 << k`
 pub one-shl : (k : ℕ) → k < 64 → 1 * 2 ^ k % 2 ^ 64 ≡ 2 ^ k
 one-shl k h = shl-exact {a = 1} 1 k 64 (lit< tt) (omega arith) ∙ one-mul (2 ^ k)
+
+-- ---- numbers by their bits
+
+-- 0 has no bit
+pub no-bit : (i : ℕ) → bit 0 i ≡ 0
+no-bit i = high 0 i 0 (omega arith) (omega arith)
+
+-- the bits above the first
+pub bit-suc : (n i : ℕ) → bit n (suc i) ≡ bit (n / 2) i
+bit-suc n i = ap (λ (m : ℕ). m % 2) (sym (shr-shr n 1 i ∙ ap (λ (j : ℕ). n / 2 ^ j) (omega arith)))
+
+pub bit-zero : (n : ℕ) → bit n 0 ≡ n % 2
+bit-zero n = omega arith
+
+-- numbers with the same bits are the same
+pub bits-same : (w s t : ℕ) → s < 2 ^ w → t < 2 ^ w → ((i : ℕ) → i < w → bit s i ≡ bit t i) → s ≡ t
+bits-same zero s t hs ht f = omega arith
+bits-same (suc w) s t hs ht f =
+    let e : s % 2 ≡ t % 2 = sym (bit-zero s) ∙ f 0 (omega arith) ∙ bit-zero t in
+    let above : (i : ℕ) → i < w → bit (s / 2) i ≡ bit (t / 2) i = λ i l. sym (bit-suc s i) ∙ f (suc i) (omega arith) ∙ bit-suc t i in
+    let d : s / 2 ≡ t / 2 = bits-same w (s / 2) (t / 2) (omega (arith, pow-suc 2 w)) (omega (arith, pow-suc 2 w)) above in
+    omega arith
 
 -- ---- updates as sets: fluent k is added to, or removed from, what holds
 

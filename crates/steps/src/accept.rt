@@ -17,7 +17,7 @@ pub const BAD_GOAL: u64 = 23;
 pub const BAD_START: u64 = 24;
 
 // Whether a step word is a step of these fluents and actions.
-fn good_step(fluents: u64, actions: u64, step: u16) -> bool
+pub fn good_step(fluents: u64, actions: u64, step: u16) -> bool
     ensures { λ r. ⌜ r ≡ good-step fluents actions step ⌝ }
 {
     let kind = word::kind(step);

@@ -2,7 +2,7 @@
 use Prim.Native.Nat.{ℕ, _/_, _<_}
 use native.Mathlib.Omega.{arith}
 use mathlib.Core.Path.{_≡_, refl, sym, subst, ap, _∙_}
-use mathlib.Core.List.{List, [], _∷_, List·Memᴰ, List·Memᴰ·head, List·Memᴰ·eq-of-singleton, Memᴰ·cast}
+use mathlib.Core.List.{List, [], _∷_, List·Memᴰ, List·Memᴰ·head, List·Memᴰ·eq-of-singleton}
 use mathlib.Core.Logic.{_⊎_, inl, _↔_, ⊎-map}
 use lib.ListN.{length}
 use borrow.Author.Tests.{lt-ltb, eq-eqb, ne-eqb}
@@ -11,8 +11,7 @@ use Rattle.steps.specs.Step.{Body, Rule}
 use Rattle.steps.specs.Run.{Run, Goal, Call, Answer}
 use Rattle.steps.specs.Counting.{Outnumbers}
 use Rattle.steps.specs.Words.{body-of, head-of, rule-of, book-of, run-of}
-use Rattle.steps.proofs.Lists.{at-member}
-use Rattle.steps.proofs.WordLaws.{book-length, book-at, book-member}
+use Rattle.steps.proofs.WordLaws.{book-member, rule-member}
 use Rattle.steps.proofs.AcceptanceLaws.{AcceptedWords, separate}
 use Rattle.steps.proofs.Counting.{outnumbers-map}
 use Rattle.steps.proofs.Deductions.{Does}
@@ -41,13 +40,10 @@ module _ {fluents actions : ℕ} (rules goal : List ℕ) (start : State) (acc : 
   in-root a D (e, f) = List·Memᴰ·head (λ i. (e i, f i))
 
   -- the bodies by their numbers are those of the goal and the rules
-  book-has : (i : ℕ) → i < length rules / 18 → List·Memᴰ (rule-of rules i) (book-of rules)
-  book-has i l = Memᴰ·cast (sym (book-at rules 0 (length rules / 18) i (rule-of rules i) l ∙ ap (rule-of rules) (omega arith))) (at-member (book-of rules) i (rule-of rules i) (rw (book-length rules 0 (length rules / 18)) l))
-
   has-body : (a : ℕ) (body : Body) → Has (bodies-of rules goal) a body → BodyOf run a body
   has-body a body (i, f, e) = fits-cases rules goal i a f (BodyOf run a body)
       (λ z g. subst (BodyOf run a) (sym (e ∙ ap body-of (words-goal rules goal i z))) (of-goal g))
-      (λ n l h. subst (BodyOf run a) (sym (e ∙ ap body-of (words-rule rules goal i n))) (of-rule (rule-of rules i) (book-has i l) h))
+      (λ n l h. subst (BodyOf run a) (sym (e ∙ ap body-of (words-rule rules goal i n))) (of-rule (rule-of rules i) (rule-member rules i l) h))
 
   body-has : (a : ℕ) (body : Body) → BodyOf run a body → Has (bodies-of rules goal) a body
   body-has a body (of-goal g) = (256, eq-eqb a Goal g, refl)

@@ -15,8 +15,7 @@ use Rattle.steps.specs.Run.{Goal, body-of-call}
 use Rattle.steps.specs.Words.{body-of, words-of, rule-of, book-of, run-of}
 use Rattle.steps.specs.Elementary.{Onward, on, stuck, elementary}
 use Rattle.steps.proofs.EachBelow.{both, true-not-false}
-use Rattle.steps.proofs.Lists.{at-member}
-use Rattle.steps.proofs.WordLaws.{elementary-does, not-on, on-same, book-length, book-at}
+use Rattle.steps.proofs.WordLaws.{elementary-does, not-on, on-same, rule-member}
 use Rattle.steps.proofs.Deductions.{Does, asks, adds, drops, lacks}
 use Rattle.steps.proofs.Exactness.{Apart, Separate}
 use Rattle.steps.proofs.AcceptanceLaws.{AcceptedWords, separate}
@@ -28,12 +27,6 @@ use Rattle.unfolding.specs.States.{move-states, states, updates, Chain}
 use Rattle.unfolding.proofs.Below.{added-walk}
 use Rattle.unfolding.proofs.Checking.{justified-parts}
 use Rattle.unfolding.proofs.StatesLaws.{states-chain, states-length, joined, before}
-
--- rule number i is in the book
-rule-member : (rules : List ℕ) (i : ℕ) → i < length rules / 18 → List·Memᴰ (rule-of rules i) (book-of rules)
-rule-member rules i l =
-    subst (λ (r : Rule). List·Memᴰ r (book-of rules)) (book-at rules 0 (length rules / 18) i (rule-of rules 0) l ∙ ap (rule-of rules) (omega arith))
-    (at-member (book-of rules) i (rule-of rules 0) (rw (book-length rules 0 (length rules / 18)) l))
 
 -- an elementary step in front of a deduction
 does-step : {book : Book} {x : Step} {s t f : State} {rest : Body} → Does x s t → (d : Final book t rest f) → (d′ : Final book s (x ∷ rest) f) × (shown x t ++ states d ≡ states d′)

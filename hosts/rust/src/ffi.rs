@@ -45,6 +45,12 @@ pub struct Archived {
     pub count: u64,
 }
 
+#[repr(C)]
+pub struct Marked {
+    pub refusal: u64,
+    pub yes: u64,
+}
+
 extern "C" {
     pub fn lawhemuri_version() -> u64;
     pub fn lawhemuri_read(sheet: *const u8, sheet_len: usize, rules: *mut u16, rules_len: usize) -> Sheet;
@@ -123,4 +129,17 @@ extern "C" {
         out: *mut u64,
         out_len: usize,
     ) -> u64;
+    pub fn lawhemuri_mark(
+        fluents: u64,
+        actions: u64,
+        rules: *const u16,
+        rules_len: usize,
+        goal: *const u16,
+        goal_len: usize,
+        start: u64,
+        recorded: *const u16,
+        recorded_len: usize,
+        table: *mut u64,
+        table_len: usize,
+    ) -> Marked;
 }

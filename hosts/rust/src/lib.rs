@@ -1,5 +1,6 @@
 //! Safe functions over the proved library: read a rehearsal sheet, write it as its one fixed text, evaluate its goal, from one start
-//! or from a whole class of them, list the path of an answer; store states by fluent, and restore them; the figures of a class run.
+//! or from a whole class of them, list the path of an answer; store states by fluent, and restore them; the figures of a class run;
+//! mark what a trainee did.
 //!
 //! [`Rehearsal`] does all of it in memory of its own, and gives the steps of each way, held against the library's path:
 //!
@@ -13,8 +14,8 @@
 //!
 //! In the functions below the caller lends all memory as slices. What each slice holds afterwards, for every
 //! refusal, is said at each function. As the header's constants say, [`evaluate`] and [`class`] need 1.75 MiB of stack, [`path`]
-//! 1.125 MiB, [`read`], [`fluent_name`] and [`write`] 64 KiB, [`store`] and [`restore`] 1 KiB, [`report`] 8 KiB: a thread of the
-//! standard library has 2 MiB.
+//! 1.125 MiB, [`read`], [`fluent_name`] and [`write`] 64 KiB, [`store`], [`restore`] and [`mark`] 1 KiB, [`report`] 8 KiB: a thread of
+//! the standard library has 2 MiB.
 //!
 //! ```
 //! let text = b"fluent\ta\nfluent\tb\naction\tg\nrule\tg\t!g\t?a\t+b\nrule\tg\t+a\nstart\ngoal\t!g\n";
@@ -50,6 +51,10 @@ pub const ANSWER_WORDS: usize = 19;
 pub const GOAL_ACTION: u64 = 64;
 /// The goal's number among the rule numbers of answer records.
 pub const GOAL_RULE: u64 = 256;
+/// Steps that a record has at most.
+pub const MOST_RECORDED: usize = 63;
+/// Words of marks: 64 for each of 64 actions.
+pub const MARK_WORDS: usize = 4096;
 /// Rule words that any sheet fits in.
 pub const MOST_RULE_WORDS: usize = 256 * RULE_WORDS;
 
@@ -270,4 +275,40 @@ pub fn restore(fluents: u64, count: u64, words: &[u64], states: &mut [u64]) -> R
     let r = unsafe { ffi::lawhemuri_restore(fluents, count, words.as_ptr(), words.len(), states.as_mut_ptr(), states.len()) };
     accepted(r.refusal)?;
     Ok(r.count as usize)
+}
+
+/// Marks what a trainee did (refusals 20 to 24, then 60 to 62): whether some complete deduction of the goal from the start
+/// carries out the recorded steps, in that order and no others.
+///
+/// The first 4,096 words of `table` are then the marks: bit j of word 64 a + i is set exactly if some complete deduction of
+/// action a, from the state that the steps before i leave, carries out just the steps from i up to but not including j. It is
+/// unchanged past them; refused, it is unchanged.
+///
+/// ```
+/// let text = b"fluent\ta\nfluent\tb\naction\tg\nrule\tg\t!g\t?a\t+b\nrule\tg\t+a\nstart\ngoal\t!g\n";
+/// let mut rules = [0; 36];
+/// let sheet = lawhemuri::read(text, &mut rules).unwrap();
+/// let mut table = [0; lawhemuri::MARK_WORDS];
+/// assert_eq!(lawhemuri::mark(&sheet.question(&rules), &[256, 0, 257], &mut table), Ok(true));
+/// assert_eq!(table[0], 0b1010);
+/// ```
+pub fn mark(question: &Question<'_>, recorded: &[u16], table: &mut [u64]) -> Result<bool, Refusal> {
+    // SAFETY: the library reads the rules, the goal and the record and writes `table`, within the lengths given, and keeps none.
+    let r = unsafe {
+        ffi::lawhemuri_mark(
+            question.fluents,
+            question.actions,
+            question.rules.as_ptr(),
+            question.rules.len(),
+            question.goal.as_ptr(),
+            question.goal.len(),
+            question.start,
+            recorded.as_ptr(),
+            recorded.len(),
+            table.as_mut_ptr(),
+            table.len(),
+        )
+    };
+    accepted(r.refusal)?;
+    Ok(r.yes == 1)
 }

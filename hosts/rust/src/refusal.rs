@@ -56,6 +56,12 @@ pub enum Refusal {
     StatesShort = 43,
     /// 50: the bytes lent for a text are fewer than it has.
     TextShort = 50,
+    /// 60: a record of over 63 steps.
+    LongRecord = 60,
+    /// 61: a table of under 4,096 words.
+    MarksShort = 61,
+    /// 62: a recorded step that is a call or bad.
+    BadRecordedStep = 62,
     /// 80: the output has fewer places than there are words or states to write.
     OutputShort = 80,
     /// 81: the words are not one per fluent for each block of 64 states.
@@ -66,7 +72,7 @@ pub enum Refusal {
 
 impl Refusal {
     /// All refusals, in rising order of their numbers.
-    pub const ALL: [Refusal; 28] = [
+    pub const ALL: [Refusal; 31] = [
         Refusal::TooLong,
         Refusal::BadByte,
         Refusal::NotEnded,
@@ -92,6 +98,9 @@ impl Refusal {
         Refusal::BadRecord,
         Refusal::StatesShort,
         Refusal::TextShort,
+        Refusal::LongRecord,
+        Refusal::MarksShort,
+        Refusal::BadRecordedStep,
         Refusal::OutputShort,
         Refusal::BadWordCount,
         Refusal::BitPastEnd,
@@ -135,6 +144,9 @@ impl Refusal {
             Refusal::BadRecord => "a bad call record, or an answer that is not justified",
             Refusal::StatesShort => "the list has fewer places than the path has states",
             Refusal::TextShort => "fewer bytes lent than the text has",
+            Refusal::LongRecord => "a record of over 63 steps",
+            Refusal::MarksShort => "a table of under 4,096 words",
+            Refusal::BadRecordedStep => "a recorded step that is a call, or of no fluent",
             Refusal::OutputShort => "the output has fewer places than there are words or states",
             Refusal::BadWordCount => "words that are not one per fluent for each block of 64 states",
             Refusal::BitPastEnd => "a bit set past the last state",

@@ -1,8 +1,8 @@
 //! The operations as a host meets them: results, refusals, and what each buffer holds afterwards.
 
 use lawhemuri::{
-    class, evaluate, fluent_name, outcomes, path, read, report, report_of, report_words, restore, store, write, Buffers,
-    Fraction, OfStart, Question, Records, Refusal, Report, Run, Unread, Unrun,
+    class, evaluate, fluent_name, mark, outcomes, path, read, report, report_of, report_words, restore, store, write, Buffers,
+    Fraction, OfStart, Question, Records, Refusal, Report, Run, Unread, Unrun, MARK_WORDS, MOST_RECORDED,
 };
 
 const EXAMPLE: &[u8] = b"fluent\topen\nfluent\tlit\naction\tpurge\naction\tlight\nrule\tpurge\t+open\n\
@@ -172,10 +172,10 @@ fn denial() {
 #[test]
 fn numbers_of_refusals() {
     let numbers =
-        [10, 11, 12, 13, 14, 15, 16, 17, 18, 19, 20, 21, 22, 23, 24, 25, 26, 27, 30, 31, 40, 41, 42, 43, 50, 80, 81, 82];
+        [10, 11, 12, 13, 14, 15, 16, 17, 18, 19, 20, 21, 22, 23, 24, 25, 26, 27, 30, 31, 40, 41, 42, 43, 50, 60, 61, 62, 80, 81, 82];
     assert_eq!(Refusal::ALL.map(Refusal::number), numbers);
     assert_eq!(numbers.map(Refusal::of), Refusal::ALL.map(Some));
-    assert!([0, 9, 28, 29, 32, 39, 44, 79, 83].map(Refusal::of).iter().all(Option::is_none));
+    assert!([0, 9, 28, 29, 32, 39, 44, 59, 63, 79, 83].map(Refusal::of).iter().all(Option::is_none));
 }
 
 #[test]
@@ -396,4 +396,43 @@ fn refused_reports_leave_the_output() {
     assert_eq!(out, [MARK; 6]);
     assert!(report(1, &[0, 65536, 0, 0], &[0; 65536], &mut out).is_ok());
     assert_eq!(out, [0, 1, 0, 1, 65536, 1]);
+}
+
+/// Drill D2's book: records that are its goal's and records that are not, in a table with one word more.
+#[test]
+fn records_marked() {
+    let rules = left_recursion();
+    let question = Question { fluents: 2, actions: 1, rules: &rules, goal: &[768], start: 0 };
+    let cases: [(&[u16], bool, u64); 6] = [
+        (&[256], true, 0b10),
+        (&[256, 0, 257], true, 0b1010),
+        (&[256, 0, 257, 0, 257], true, 0b10_1010),
+        (&[256, 0], false, 0b10),
+        (&[256, 1], false, 0b10),
+        (&[], false, 0),
+    ];
+    for (recorded, yes, word) in cases {
+        let mut table = [MARK; MARK_WORDS + 1];
+        assert_eq!(mark(&question, recorded, &mut table), Ok(yes), "{recorded:?}");
+        assert_eq!((table[0], table[MARK_WORDS]), (word, MARK));
+        assert!(table[1..MARK_WORDS].iter().all(|&word| word == 0));
+    }
+}
+
+#[test]
+fn refused_marks_leave_the_table() {
+    let mut rules = [0; 36];
+    rules[..4].copy_from_slice(&[0, 2, 256, 768]);
+    let question = |actions| Question { fluents: 2, actions, rules: &rules, goal: &[768], start: 0 };
+    let mut table = [MARK; MARK_WORDS];
+    assert_eq!(mark(&question(65), &[256; 64], &mut []), Err(Refusal::BadCounts));
+    assert_eq!(mark(&question(0), &[256; 64], &mut []), Err(Refusal::BadRule));
+    assert_eq!(mark(&question(1), &[768; 64], &mut table[1..]), Err(Refusal::LongRecord));
+    assert_eq!(mark(&question(1), &[768], &mut table[1..]), Err(Refusal::MarksShort));
+    for bad in [768, 258, 1280] {
+        assert_eq!(mark(&question(1), &[256, bad], &mut table), Err(Refusal::BadRecordedStep));
+    }
+    assert_eq!(table, [MARK; MARK_WORDS]);
+    assert_eq!(mark(&question(1), &[256; MOST_RECORDED], &mut table), Ok(true));
+    assert_eq!((table[0], table[63]), (u64::MAX, 1 << 63));
 }
