@@ -1,7 +1,7 @@
 /* Rehearsal sheets in ground Transaction Logic: read a sheet, write it as its one
- * fixed text, evaluate its goal, from one start or from a whole class of them, list the
- * path of an answer; store states by fluent, and restore them; the figures
- * of a class run; mark what a trainee did.
+ * fixed text, merge two sheets into one, evaluate its goal, from one start or from a
+ * whole class of them, list the path of an answer; store states by fluent, and restore
+ * them; the figures of a class run; mark what a trainee did.
  *
  * The host lends all memory; nothing is allocated, kept between calls, printed or
  * locked, so calls may run in any number of threads. Every call returns, whatever
@@ -80,6 +80,10 @@ extern "C" {
  *  60  over 63 steps                                         table unchanged
  *  61  a table under 4,096 words                             table unchanged
  *  62  a step that is a call or bad                          table unchanged
+ * Two sheets (lawhemuri_merge: the first's 10 to 18, the second's, 70, then 17, 10
+ * and 50 of the merged text):
+ *  70  a name that is a fluent in one sheet and an action
+ *      in the other                                          text unchanged
  * States by fluent (lawhemuri_store: 20, 24, 80; lawhemuri_restore: 20, 81, 82, 80;
  * 20 is of the fluents alone, 24 of every state):
  *  81  words not one per fluent for each block of 64 states  output unchanged
@@ -92,8 +96,8 @@ extern "C" {
  *      an end with a bit at or above the fluent count        output unchanged
  *  27  fewer than 2 words for each fluent and 4 more         output unchanged
  *
- * A result with a refusal has 0 in every other field, but for two: the line of 13
- * to 17, and the three counts of 31.
+ * A result with a refusal has 0 in every other field, but for three: the line of 13
+ * to 17, the three counts of 31, and the sheet of a merged sheet's own fault.
  */
 #define LAWHEMURI_OK 0u
 #define LAWHEMURI_TOO_LONG 10u
@@ -124,6 +128,7 @@ extern "C" {
 #define LAWHEMURI_LONG_RECORD 60u
 #define LAWHEMURI_MARKS_SHORT 61u
 #define LAWHEMURI_BAD_RECORDED_STEP 62u
+#define LAWHEMURI_BOTH_KINDS 70u
 #define LAWHEMURI_OUTPUT_SHORT 80u
 #define LAWHEMURI_BAD_WORD_COUNT 81u
 #define LAWHEMURI_BIT_PAST_END 82u
@@ -217,6 +222,21 @@ typedef struct lawhemuri_written {
     uint64_t length;  /* bytes of the text; 0 where refused */
 } lawhemuri_written;
 
+/* What the merge of two sheets gives. */
+typedef struct lawhemuri_merged {
+    uint64_t refusal; /* 0: the text is written */
+    uint64_t sheet;   /* 1 or 2 for a sheet's own fault, 10 to 18; else 0 */
+    uint64_t line;    /* that sheet's line for 13 to 17, from 1; else 0 */
+    uint64_t length;  /* bytes of the text; 0 where refused */
+} lawhemuri_merged;
+
+/* A part of one of two sheets: `len` bytes of it from byte `at` on. */
+typedef struct lawhemuri_part {
+    uint64_t sheet; /* 1 or 2; 0: none */
+    size_t at;
+    size_t len;
+} lawhemuri_part;
+
 /* What lawhemuri_store and lawhemuri_restore give. */
 typedef struct lawhemuri_archived {
     uint64_t refusal; /* 0: the words or states are written */
@@ -256,6 +276,26 @@ lawhemuri_span lawhemuri_fluent_name(const uint8_t *sheet, size_t sheet_len,
  */
 lawhemuri_written lawhemuri_write(const uint8_t *sheet, size_t sheet_len,
                                   uint8_t *text, size_t text_len);
+
+/* Merges two accepted sheets into one fixed text (refusals: the first's 10 to 18, the
+ * second's, then 70, 17, 10 and 50 of the two): the names of the first, then the new names
+ * of the second; the rules of the first, then those of the second not already written;
+ * both starts together; the first's goal. The two sheets may be one buffer.
+ *
+ * text: no refusal, the first result.length bytes are the text and the buffer past
+ *   them is unchanged; refused, it is unchanged. 65,536 bytes always do.
+ */
+lawhemuri_merged lawhemuri_merge(const uint8_t *first, size_t first_len,
+                                 const uint8_t *second, size_t second_len,
+                                 uint8_t *text, size_t text_len);
+
+/* The part of whichever sheet brought a merged fluent's name first, for a number below the
+ * count of fluents of the merged text; for any other number, and where the merge would be
+ * refused other than with 50, `sheet`, `at` and `len` are 0. Each call merges the sheets.
+ */
+lawhemuri_part lawhemuri_merged_fluent(const uint8_t *first, size_t first_len,
+                                       const uint8_t *second, size_t second_len,
+                                       uint64_t fluent);
 
 /* Evaluates a goal from a start (refusals 20 to 31).
  *

@@ -97,6 +97,42 @@ static void test_text(void) {
     EXPECT(b.at == 26 && b.len == 1);
 }
 
+static lawhemuri_merged merged(const char *first, const char *second, uint8_t *text, size_t len) {
+    return lawhemuri_merge((const uint8_t *)first, strlen(first), (const uint8_t *)second, strlen(second), text, len);
+}
+
+static void test_merge(void) {
+    static const char maker[] = "fluent\ta\nfluent\tb\naction\tg\nrule\tg\t+a\nstart\ta\ngoal\t!g\n";
+    static const char site[] = "# site\r\nfluent\tc\r\nfluent\ta\r\naction\th\r\naction\tg\r\nrule\tg\t+a\r\nrule\th\t-c\t!g\r\n"
+                               "rule\th\t-c\t!g\r\nstart\tc\r\ngoal\t!h\r\n";
+    static const char both[] = "fluent\ta\nfluent\tb\nfluent\tc\naction\tg\naction\th\nrule\tg\t+a\nrule\th\t-c\t!g\nstart\ta\tc\ngoal\t!g\n";
+    uint8_t text[88];
+    memset(text, 7, sizeof text);
+    lawhemuri_merged m = merged(maker, site, text, 85);
+    EXPECT(m.refusal == LAWHEMURI_TEXT_SHORT && m.sheet == 0 && m.line == 0 && m.length == 0 && text[0] == 7 && text[84] == 7);
+    m = merged(maker, site, text, sizeof text);
+    EXPECT(m.refusal == LAWHEMURI_OK && m.sheet == 0 && m.line == 0 && m.length == 86);
+    EXPECT(memcmp(text, both, 86) == 0 && text[86] == 7 && text[87] == 7);
+    m = merged(maker, maker, text, sizeof text);
+    EXPECT(m.refusal == LAWHEMURI_OK && m.length == strlen(maker) && memcmp(text, maker, strlen(maker)) == 0);
+    m = merged("fluent\tA\n", site, text, sizeof text);
+    EXPECT(m.refusal == LAWHEMURI_BAD_FIELD && m.sheet == 1 && m.line == 1 && m.length == 0);
+    m = merged(maker, "# x\nfluent\tA\n", text, sizeof text);
+    EXPECT(m.refusal == LAWHEMURI_BAD_FIELD && m.sheet == 2 && m.line == 2 && m.length == 0);
+    m = merged(maker, "action\ta\nstart\ngoal\n", text, sizeof text);
+    EXPECT(m.refusal == LAWHEMURI_BOTH_KINDS && m.sheet == 0 && m.line == 0 && m.length == 0);
+    static const struct {
+        uint64_t fluent, sheet;
+        size_t at, len;
+    } names[] = {{0, 1, 7, 1}, {1, 1, 16, 1}, {2, 2, 15, 1}, {3, 0, 0, 0}};
+    for (size_t i = 0; i < WORDS(names); i++) {
+        lawhemuri_part p = lawhemuri_merged_fluent((const uint8_t *)maker, strlen(maker), (const uint8_t *)site, strlen(site), names[i].fluent);
+        EXPECT(p.sheet == names[i].sheet && p.at == names[i].at && p.len == names[i].len);
+    }
+    lawhemuri_part none = lawhemuri_merged_fluent((const uint8_t *)maker, strlen(maker), NULL, 0, 0);
+    EXPECT(none.sheet == 0 && none.at == 0 && none.len == 0);
+}
+
 static void test_refused_sheets(void) {
     static const struct {
         const char *text;
@@ -431,6 +467,7 @@ int main(void) {
     test_example();
     test_names();
     test_text();
+    test_merge();
     test_refused_sheets();
     test_rooms();
     test_refused_questions();

@@ -31,6 +31,18 @@ class Written(ctypes.Structure):
     _fields_ = [(name, U64) for name in ("refusal", "line", "length")]
 
 
+class Merged(ctypes.Structure):
+    """The refusal, 0 for none, the sheet and the line of a sheet's own fault, and the length of the text written."""
+
+    _fields_ = [(name, U64) for name in ("refusal", "sheet", "line", "length")]
+
+
+class Part(ctypes.Structure):
+    """A part of one of two sheets: 1, 2, or 0 for none."""
+
+    _fields_ = [("sheet", U64), ("at", SIZE), ("len", SIZE)]
+
+
 class Run(ctypes.Structure):
     """The refusal, 0 for none, and the counts."""
 
@@ -56,11 +68,12 @@ class Marked(ctypes.Structure):
 
 
 class Refused(Exception):
-    """A numbered refusal, with its line for 13 to 17. With 31 `finished` has the run's counts, its calls and its answers."""
+    """A numbered refusal, with its line for 13 to 17, and of a merge the sheet at fault. With 31 `finished` has the run's counts, its calls and its answers."""
 
-    def __init__(self, number, line=0, finished=None):
-        super().__init__(f"refused {number}, line {line}" if line else f"refused {number}")
-        self.number, self.line, self.finished = number, line, finished
+    def __init__(self, number, line=0, finished=None, sheet=0):
+        place = [f"sheet {sheet}"] * (sheet > 0) + [f"line {line}"] * (line > 0)
+        super().__init__(", ".join([f"refused {number}"] + place))
+        self.number, self.line, self.finished, self.sheet = number, line, finished, sheet
 
 
 class Library:
@@ -74,6 +87,10 @@ class Library:
         self._name.argtypes, self._name.restype = [ctypes.c_char_p, SIZE, U64], Span
         self._write, self._write.restype = lib.lawhemuri_write, Written
         self._write.argtypes = [ctypes.c_char_p, SIZE, ctypes.POINTER(U8), SIZE]
+        self._merge, self._merge.restype = lib.lawhemuri_merge, Merged
+        self._merge.argtypes = [ctypes.c_char_p, SIZE] * 2 + [ctypes.POINTER(U8), SIZE]
+        self._merged, self._merged.restype = lib.lawhemuri_merged_fluent, Part
+        self._merged.argtypes = [ctypes.c_char_p, SIZE] * 2 + [U64]
         self._evaluate.argtypes = [U64, U64, words, SIZE, words, SIZE, U64] + [longs, SIZE] * 3
         self._evaluate.restype = Run
         self._class, self._class.restype = lib.lawhemuri_class, U64
@@ -109,6 +126,19 @@ class Library:
         if written.refusal:
             raise Refused(written.refusal, written.line)
         return bytes(out[: written.length])
+
+    def merge(self, first, second, room=65536):
+        """The one fixed text of two sheets together."""
+        out = (U8 * room)()
+        merged = self._merge(first, len(first), second, len(second), out, len(out))
+        if merged.refusal:
+            raise Refused(merged.refusal, merged.line, sheet=merged.sheet)
+        return bytes(out[: merged.length])
+
+    def merged_fluent(self, first, second, fluent):
+        """The part of whichever sheet brought a merged fluent's name first."""
+        part = self._merged(first, len(first), second, len(second), fluent)
+        return (second if part.sheet == 2 else first)[part.at : part.at + part.len]
 
     def evaluate(self, sheet, rules, rooms=(512, 256, 256)):
         """The run's counts, its ends in rising order, and the tables of calls and answers."""

@@ -110,6 +110,65 @@ class Texts(unittest.TestCase):
         )
 
 
+def merged_by_names(first, second):
+    """The text of two plain texts together, by their lines alone."""
+    lines = [text.decode().splitlines() for text in (first, second)]
+    of = lambda which, word: [line for line in lines[which] if line.split("\t")[0] == word]
+    out = []
+    for word in ("fluent", "action", "rule"):
+        found = of(0, word)
+        for line in of(1, word):
+            found += [line] * (line not in found)
+        out += found
+    held = {name for which in (0, 1) for name in of(which, "start")[0].split("\t")[1:]}
+    names = [line.split("\t")[1] for line in out if line.startswith("fluent\t")]
+    out += ["\t".join(["start"] + [name for name in names if name in held])] + of(0, "goal")
+    return "".join(line + "\n" for line in out).encode(), names
+
+
+class Merges(unittest.TestCase):
+    """Every two accepted sheets merged: the text by their lines, with its names handed back; a sheet with itself is its own text."""
+
+    def test_every_two_sheets(self):
+        texts, merges = [], 0
+        for sheet in sheets_stored():
+            with contextlib.suppress(lawhemuri.Refused):
+                texts.append((content(sheet), LIBRARY.write(content(sheet))))
+        for first, plain in texts:
+            self.assertEqual(LIBRARY.merge(first, first), plain)
+            for second, other in texts:
+                merges += self.hold_to_lines(first, second, *merged_by_names(plain, other))
+        self.assertGreater(merges, len(texts))
+
+    def hold_to_lines(self, first, second, expected, names):
+        try:
+            text = LIBRARY.merge(first, second)
+        except lawhemuri.Refused as refused:
+            self.assertIn((refused.number, refused.sheet, refused.line), [(70, 0, 0), (17, 0, 0), (10, 0, 0)])
+            self.assertEqual(LIBRARY.merged_fluent(first, second, 0), b"")
+            return 0
+        self.assertEqual(text, expected)
+        self.assertEqual(LIBRARY.write(text), text)
+        for fluent, name in enumerate(names + [""]):
+            self.assertEqual(LIBRARY.merged_fluent(first, second, fluent), name.encode())
+        return 1
+
+    def test_faults(self):
+        good = b"fluent\ta\nstart\ngoal\n"
+        for first, second, fault in [
+            (b"fluent\tA\n", good, (14, 1, 1)),
+            (good, b"# x\nfluent\tA\n", (14, 2, 2)),
+            (good, b"start\ngoal", (12, 2, 0)),
+            (good, b"action\ta\nstart\ngoal\n", (70, 0, 0)),
+        ]:
+            with self.assertRaises(lawhemuri.Refused) as refused:
+                LIBRARY.merge(first, second)
+            self.assertEqual((refused.exception.number, refused.exception.sheet, refused.exception.line), fault)
+        with self.assertRaises(lawhemuri.Refused) as short:
+            LIBRARY.merge(good, good, room=len(good) - 1)
+        self.assertEqual((short.exception.number, short.exception.sheet), (50, 0))
+
+
 class ShortList(unittest.TestCase):
     """Drill D2 with a list of one place: 31."""
 

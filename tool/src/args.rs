@@ -23,7 +23,7 @@ struct Usage {
 const WITH: Flag = Flag { name: "--with", takes: Some("NAME"), says: "only ends in which NAME holds (may be given again)" };
 const WITHOUT: Flag = Flag { name: "--without", takes: Some("NAME"), says: "only ends in which it does not" };
 
-const COMMANDS: [Usage; 9] = [
+const COMMANDS: [Usage; 10] = [
     Usage {
         name: "ends",
         operands: "SHEET",
@@ -76,6 +76,13 @@ const COMMANDS: [Usage; 9] = [
         operands: "SHEET",
         most_operands: 1,
         says: "the sheet as its one fixed text: no comments, plain line ends, start in the order of the fluents",
+        flags: &[Flag { name: "-o", takes: Some("FILE"), says: "where to write it (standard output unless said)" }],
+    },
+    Usage {
+        name: "merge",
+        operands: "MAKER SITE",
+        most_operands: 2,
+        says: "two sheets as one: the maker's names, rules, start and goal, and what the site's sheet adds to them",
         flags: &[Flag { name: "-o", takes: Some("FILE"), says: "where to write it (standard output unless said)" }],
     },
     Usage {

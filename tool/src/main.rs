@@ -32,13 +32,15 @@ use ask::{one_end, Ask};
 use choices::Answers;
 use drill::Drill;
 use failure::{say, Failure};
-use lawhemuri::Way;
+use lawhemuri::{Unmerged, Unread, Way};
 use layout::{Layout, MOST_ROWS};
 use load::{Source, Undrilled};
 use progress::Progress;
 use valve::ByValve;
 use words::{count, grouped};
 
+/// Bytes that a sheet may have, and so a text.
+const MOST_BYTES: usize = 65536;
 /// Ways that `path` shows unless it is told how many.
 const MOST_WAYS: usize = 16;
 /// Ways that `page` draws unless it is told how many; and where there are more ends than stand in one table.
@@ -68,6 +70,7 @@ fn run(given: &Given) -> Result<(), Failure> {
         "path" => path(given, &drilled(&source)?),
         "page" => page(given, &source),
         "write" => written(given, &source),
+        "merge" => merged(given, &source),
         "archive" => archive(given, &drilled(&source)?),
         "class" => class(given, &drilled(&source)?),
         "report" => report(given, &drilled(&source)?),
@@ -225,6 +228,36 @@ fn written(given: &Given, source: &Source) -> Result<(), Failure> {
             Err(Failure::Failed(String::new()))
         }
     }
+}
+
+/// Writes the one fixed text of two sheets together. A sheet's own fault is told as that of the sheet.
+fn merged(given: &Given, maker: &Source) -> Result<(), Failure> {
+    let Some(site) = given.operands.get(1) else {
+        return Err(Failure::Use("merge needs two sheets: lawhemuri merge MAKER SITE".into()));
+    };
+    if given.operands.iter().all(|file| file == "-") {
+        return Err(Failure::Use("standard input is one sheet: give a file for the other".into()));
+    }
+    let site = load::source(site)?;
+    let file = given.last("-o").unwrap_or("-");
+    not_the_sheet(file, maker)?;
+    not_the_sheet(file, &site)?;
+    let mut text = vec![0; MOST_BYTES];
+    let Unmerged { refusal, sheet, line } = match lawhemuri::merge(&maker.text, &site.text, &mut text) {
+        Ok(length) => return write(file, &String::from_utf8_lossy(&text[..length])),
+        Err(unmerged) => unmerged,
+    };
+    say(&match sheet {
+        0 => {
+            let told = refusal::told_of_two(&maker.text, &site.text, refusal);
+            terminal::refusal(&told, &format!("{} and {}", maker.file, site.file), b"")
+        }
+        _ => {
+            let source = if sheet == 1 { maker } else { &site };
+            terminal::refusal(&refusal::told(&source.text, source.length, Unread { refusal, line }), &source.file, &source.text)
+        }
+    });
+    Err(Failure::Failed(String::new()))
 }
 
 /// Prints the states on the way to an end by valve, once the library has given the same states back.

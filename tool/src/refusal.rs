@@ -73,6 +73,46 @@ pub fn told(text: &[u8], length: Option<usize>, unread: Unread) -> Told {
     Told { number: unread.refusal.number(), ..told }
 }
 
+/// The words for two accepted sheets that cannot be merged.
+pub fn told_of_two(maker: &[u8], site: &[u8], refusal: Refusal) -> Told {
+    let told = match refusal {
+        Refusal::BothKinds => both_kinds(maker, site),
+        Refusal::TooMany => {
+            let title = "the two sheets together have more than 64 fluents, 64 actions or 256 rules";
+            Told::new(title, "", "use the other sheet's names for what is the same, or leave out what the drill does not need")
+        }
+        Refusal::TooLong => {
+            let remedy = "shorten names, or leave out rules that the drill does not need";
+            Told::new("the text of the two sheets together has more than 65,536 bytes", "", remedy)
+        }
+        refusal => Told::new(refusal.meaning(), "", "see the table of refusals in the guides"),
+    };
+    Told { number: refusal.number(), ..told }
+}
+
+/// The names that the lines with this word define.
+fn defined(text: &[u8], word: &str) -> Vec<String> {
+    let lines = lines_of(text);
+    let fields = lines.iter().map(|line| line.trim_end_matches('\r').split('\t').collect::<Vec<_>>());
+    fields.filter(|fields| fields.len() == 2 && fields[0] == word).map(|fields| fields[1].to_string()).collect()
+}
+
+/// A name of both kinds: which, and where it is what.
+fn both_kinds(maker: &[u8], site: &[u8]) -> Told {
+    let remedy = "rename it in one of the two sheets";
+    let shared = |of: &[u8], word: &str, other: &[u8], kind: &str| {
+        let others = defined(other, kind);
+        defined(of, word).into_iter().find(|name| others.contains(name))
+    };
+    if let Some(name) = shared(maker, "fluent", site, "action") {
+        return Told::new(format!("`{name}` is a fluent of the maker's sheet and an action of the site's"), "", remedy);
+    }
+    match shared(maker, "action", site, "fluent") {
+        Some(name) => Told::new(format!("`{name}` is an action of the maker's sheet and a fluent of the site's"), "", remedy),
+        None => Told::new(Refusal::BothKinds.meaning(), "", remedy),
+    }
+}
+
 /// The words for a run that no table holds.
 pub fn too_large() -> Told {
     let title = format!("the procedure is too large: its run has more than {} calls or answers", grouped(MOST_RECORDS));

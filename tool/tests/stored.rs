@@ -469,3 +469,30 @@ fn sheets_where_installed() {
     std::fs::copy(folder("sheets/low_water.sheet"), place.join("bin/example.sheet")).unwrap();
     assert!(ends("example.sheet").1.starts_with("ends\t3\t"), "a file goes before a known sheet");
 }
+
+#[test]
+fn two_sheets_are_merged() {
+    let place = scratch("merged");
+    let (maker, site) = (place.join("maker.sheet"), place.join("site.sheet"));
+    std::fs::write(&maker, "fluent\ta\nfluent\tb\naction\tg\nrule\tg\t+a\nstart\ta\ngoal\t!g\n").unwrap();
+    std::fs::write(&site, "# site\r\nfluent\tc\r\naction\tg\r\nrule\tg\t+c\r\nstart\tc\r\ngoal\r\n").unwrap();
+    let merge =
+        |first: &std::path::Path, second: &std::path::Path| told(&["merge".as_ref(), first.as_os_str(), second.as_os_str()]);
+    let (status, out, err) = merge(&maker, &site);
+    assert_eq!((status, err.as_str()), (0, ""));
+    assert_eq!(out, "fluent\ta\nfluent\tb\nfluent\tc\naction\tg\nrule\tg\t+a\nrule\tg\t+c\nstart\ta\tc\ngoal\t!g\n");
+    std::fs::write(&site, "start\ngoal\tx\n").unwrap();
+    let (status, out, err) = merge(&maker, &site);
+    assert_eq!((status, out.as_str()), (1, ""));
+    assert!(err.starts_with("refused 14") && err.contains("site.sheet:2"), "{err}");
+    let (status, _, err) = merge(&site, &maker);
+    assert!(status == 1 && err.contains("site.sheet:2"), "{err}");
+    std::fs::write(&site, "fluent\tg\nstart\ngoal\n").unwrap();
+    let (status, _, err) = merge(&maker, &site);
+    assert!(
+        status == 1 && err.starts_with("refused 70: `g` is an action of the maker's sheet and a fluent of the site's"),
+        "{err}"
+    );
+    let (status, _, err) = told(&["merge".as_ref(), maker.as_os_str()]);
+    assert!(status == 2 && err.contains("two sheets"), "{err}");
+}

@@ -5,6 +5,8 @@ ghost use Rattle.sheet.specs.Reader.{readSheet};
 ghost use Rattle.sheet.specs.Result.{resultOf, rulesAfter};
 ghost use Rattle.sheet.specs.FluentName.{nameSpan};
 ghost use Rattle.writer.specs.Writer.{writtenIn, outAfter};
+ghost use Rattle.merge.specs.Merge as merged;
+ghost use Rattle.merge.specs.MergedName.{mergedSpan};
 ghost use Rattle.evaluator.specs.Evaluated.{Evaluated, asked, lent, told};
 ghost use Rattle.class.specs.Class.{Ran};
 ghost use Rattle.path.specs.Outcome.{Answered};
@@ -44,6 +46,31 @@ pub extern "C" fn lawhemuri_write(sheet: &[u8], text: &mut [u8]) -> writer::Writ
     ensures { λ _. ⌜ now (text .exit) ≡ outAfter (now (text .entry)) (readSheet (now (sheet .entry))) ⌝ }
 {
     writer::write(sheet, text)
+}
+
+// Writes the one fixed text of two accepted sheets merged to `text`, which is unchanged past it and by a refusal.
+#[no_mangle]
+pub extern "C" fn lawhemuri_merge<'a>(
+    first: &'a [u8],
+    second: &'a [u8],
+    text: &mut [u8],
+) -> merge::Merged
+    ensures { λ r. ⌜ r ≡ merged.mergedIn (length (now (text .entry))) (merged.mergeOf (now (first .entry)) (now (second .entry))) ⌝ }
+    ensures { λ _. ⌜ now (text .exit) ≡ merged.outAfter (now (text .entry)) (merged.mergeOf (now (first .entry)) (now (second .entry))) ⌝ }
+{
+    merge::merge(first, second, text)
+}
+
+// Where a merged fluent's name stands, in whichever sheet brought it first; nothing for a merge refused other than with 50 or a number too high.
+#[no_mangle]
+pub extern "C" fn lawhemuri_merged_fluent<'a>(
+    first: &'a [u8],
+    second: &'a [u8],
+    fluent: u64,
+) -> merge::Part
+    ensures { λ r. ⌜ r ≡ mergedSpan (now (first .entry)) (now (second .entry)) fluent ⌝ }
+{
+    merge::merged_span(first, second, fluent)
 }
 
 // Evaluates the goal from the start: fills the tables with its calls and answers, and lists its ends in rising order.

@@ -132,7 +132,7 @@ pub fn field_end(s: &[u8], at: usize, to: usize) -> usize
 }
 
 // Whether two lists are the same bytes.
-fn same_bytes<'a>(x: &'a [u8], y: &'a [u8]) -> bool
+pub fn same_bytes<'a>(x: &'a [u8], y: &'a [u8]) -> bool
     ensures { λ r. ⌜ r ≡ same (now (x .entry)) (now (y .entry)) ⌝ }
 {
     if x.len() != y.len() {

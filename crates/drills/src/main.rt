@@ -6,6 +6,7 @@ mod cuts;
 mod denials;
 mod dresses;
 mod marks;
+mod merges;
 mod paths;
 mod print;
 mod reports;
@@ -20,6 +21,7 @@ fn main() {
     denials::all();
     paths::all();
     dresses::all();
+    merges::all();
     stores::all();
     classes::all();
     reports::all();

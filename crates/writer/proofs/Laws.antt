@@ -52,7 +52,7 @@ module _ (s : List ℕ) (b : Book) (e : readSheet s ≡ written b) where
       reads-proper b (sheet-proper s b e) (omega arith)
 
   -- where the writer does not refuse, the text is that of the book
-  text-in : (out : List ℕ) → result s out .refusal ≡ 0 → textIn s out ≡ textOf b
+  pub text-in : (out : List ℕ) → result s out .refusal ≡ 0 → textIn s out ≡ textOf b
   text-in out z = by (decLt (length out) (length (textOf b)))
     where
       by : Dec (length out < length (textOf b)) → textIn s out ≡ textOf b

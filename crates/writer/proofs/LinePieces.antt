@@ -15,20 +15,20 @@ use Rattle.chars.proofs.Fields.{fields-first}
 use Rattle.chars.proofs.Names.{same-length}
 use Rattle.writer.specs.Inner.{plainPiece, plainBytes, heldPiece, heldNext, heldBytes, startBytes, linePiece, lineBytes}
 
--- the line's first field, and what is behind a `fluent`
+-- the line's first field, and what is behind its word
 module _ (s : List ℕ) (a e end q : ℕ) (B : BareEnd s a e end) (F : FieldEnd s a end q) where
   pub first-of : getD (fields (bare (slice a e s))) 0 [] ≡ slice a q s
   first-of = ap (λ (l : List ℕ). getD (fields l) 0 []) (B .cut) ∙ ap (λ (fs : List (List ℕ)). getD fs 0 []) (fields-first s a end q (B .from) F)
 
-  pub tail-of : e ≤ length s → same (slice a q s) (text "fluent") ≡ true → drop 6 (bare (slice a e s)) ≡ slice q end s
-  tail-of w h =
-      let n = same-length (slice a q s) (text "fluent") h in
+  pub tail-of : (word : List ℕ) → e ≤ length s → same (slice a q s) word ≡ true → drop (length word) (bare (slice a e s)) ≡ slice q end s
+  tail-of word w h =
+      let n = same-length (slice a q s) word h in
       let i = F .within in
       let j = B .within in
       let k = F .from in
       let m = length-slice a q s (omega arith) in
-      let z : a + 6 ≡ q = omega arith in
-      ap (drop 6) (B .cut) ∙ drop-drop 6 a (take end s) ∙ ap (λ (n : ℕ). drop n (take end s)) z
+      let z : a + length word ≡ q = omega arith in
+      ap (drop (length word)) (B .cut) ∙ drop-drop (length word) a (take end s) ∙ ap (λ (n : ℕ). drop n (take end s)) z
 
 module _ (l : List ℕ) where
   pub plain-comment : begins HASH l ≡ true → plainPiece l ≡ []

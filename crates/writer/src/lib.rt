@@ -23,7 +23,7 @@ pub struct Written {
 pub const TEXT_SHORT: u64 = 50;
 
 // Puts one byte at a place; the place after it.
-fn put(out: &mut [u8], at: usize, b: u8) -> usize
+pub fn put(out: &mut [u8], at: usize, b: u8) -> usize
     requires { ⌜ at < length (now out) ⌝ }
     ensures { λ r. ⌜ Puts (now (out .entry)) at (b ∷ []) (now (out .exit)) r ⌝ }
 {
@@ -32,7 +32,7 @@ fn put(out: &mut [u8], at: usize, b: u8) -> usize
 }
 
 // Puts the part of s from `from` up to `to` at a place; the place after it.
-fn put_part(out: &mut [u8], at: usize, s: &[u8], from: usize, to: usize) -> usize
+pub fn put_part(out: &mut [u8], at: usize, s: &[u8], from: usize, to: usize) -> usize
     requires { ⌜ (from ≤ to) × (to ≤ length (now s)) × (at + (to - from) ≤ length (now out)) ⌝ }
     ensures { λ r. ⌜ Puts (now (out .entry)) at (slice from to (now (s .entry))) (now (out .exit)) r ⌝ }
 {

@@ -26,6 +26,21 @@ pub struct Written {
 }
 
 #[repr(C)]
+pub struct Merged {
+    pub refusal: u64,
+    pub sheet: u64,
+    pub line: u64,
+    pub length: u64,
+}
+
+#[repr(C)]
+pub struct Part {
+    pub sheet: u64,
+    pub at: usize,
+    pub len: usize,
+}
+
+#[repr(C)]
 pub struct Run {
     pub refusal: u64,
     pub ends: u64,
@@ -61,6 +76,21 @@ extern "C" {
         text: *mut u8,
         text_len: usize,
     ) -> Written;
+    pub fn lawhemuri_merge(
+        first: *const u8,
+        first_len: usize,
+        second: *const u8,
+        second_len: usize,
+        text: *mut u8,
+        text_len: usize,
+    ) -> Merged;
+    pub fn lawhemuri_merged_fluent(
+        first: *const u8,
+        first_len: usize,
+        second: *const u8,
+        second_len: usize,
+        fluent: u64,
+    ) -> Part;
     pub fn lawhemuri_evaluate(
         fluents: u64,
         actions: u64,

@@ -1,6 +1,6 @@
-//! Safe functions over the proved library: read a rehearsal sheet, write it as its one fixed text, evaluate its goal, from one start
-//! or from a whole class of them, list the path of an answer; store states by fluent, and restore them; the figures of a class run;
-//! mark what a trainee did.
+//! Safe functions over the proved library: read a rehearsal sheet, write it as its one fixed text, merge two sheets into one,
+//! evaluate its goal, from one start or from a whole class of them, list the path of an answer; store states by fluent, and restore
+//! them; the figures of a class run; mark what a trainee did.
 //!
 //! [`Rehearsal`] does all of it in memory of its own, and gives the steps of each way, held against the library's path:
 //!
@@ -14,8 +14,8 @@
 //!
 //! In the functions below the caller lends all memory as slices. What each slice holds afterwards, for every
 //! refusal, is said at each function. As the header's constants say, [`evaluate`] and [`class`] need 1.75 MiB of stack, [`path`]
-//! 1.125 MiB, [`read`], [`fluent_name`] and [`write`] 64 KiB, [`store`], [`restore`] and [`mark`] 1 KiB, [`report`] 8 KiB: a thread of
-//! the standard library has 2 MiB.
+//! 1.125 MiB, [`read`], [`fluent_name`], [`write`], [`merge`] and [`merged_fluent`] 64 KiB, [`store`], [`restore`] and [`mark`] 1 KiB,
+//! [`report`] 8 KiB: a thread of the standard library has 2 MiB.
 //!
 //! ```
 //! let text = b"fluent\ta\nfluent\tb\naction\tg\nrule\tg\t!g\t?a\t+b\nrule\tg\t+a\nstart\ngoal\t!g\n";
@@ -95,6 +95,14 @@ pub struct Unread {
     pub line: u64,
 }
 
+/// A refused merge: why, the sheet, 1 or 2, for its own fault, else 0, and that sheet's line from 1 for 13 to 17, else 0.
+#[derive(Clone, Copy, Debug, PartialEq, Eq)]
+pub struct Unmerged {
+    pub refusal: Refusal,
+    pub sheet: u64,
+    pub line: u64,
+}
+
 /// What is asked of [`evaluate`].
 #[derive(Clone, Copy, Debug)]
 pub struct Question<'a> {
@@ -163,6 +171,38 @@ pub fn write(sheet: &[u8], text: &mut [u8]) -> Result<usize, Unread> {
     };
     accepted(r.refusal).map_err(|refusal| Unread { refusal, line: r.line })?;
     Ok(r.length as usize)
+}
+
+/// Merges two accepted sheets into one fixed text (the first's refusals 10 to 18, the second's, then 70, 17, 10 and 50) and gives its
+/// length.
+///
+/// The text has the names of the first, then the new names of the second; the rules of the first, then those of the second not already
+/// written; both starts together; the first's goal. Past it `text` is unchanged; refused, all of `text` is. 65,536 bytes always do.
+pub fn merge(first: &[u8], second: &[u8], text: &mut [u8]) -> Result<usize, Unmerged> {
+    // SAFETY: the library reads the two sheets and writes `text`, within the lengths given, and keeps none.
+    let r = unsafe {
+        ffi::lawhemuri_merge(
+            first.as_ptr(),
+            first.len(),
+            second.as_ptr(),
+            second.len(),
+            text.as_mut_ptr(),
+            text.len(),
+        )
+    };
+    accepted(r.refusal).map_err(|refusal| Unmerged { refusal, sheet: r.sheet, line: r.line })?;
+    Ok(r.length as usize)
+}
+
+/// The very part of whichever sheet brought a merged fluent's name first; empty for a merge refused other than with 50 or a number
+/// too high.
+///
+/// Each call merges the two sheets.
+pub fn merged_fluent<'a>(first: &'a [u8], second: &'a [u8], fluent: u64) -> &'a [u8] {
+    // SAFETY: the library reads the two sheets within the lengths given; the part lies within the one it names.
+    let part =
+        unsafe { ffi::lawhemuri_merged_fluent(first.as_ptr(), first.len(), second.as_ptr(), second.len(), fluent) };
+    &(if part.sheet == 2 { second } else { first })[part.at..part.at + part.len]
 }
 
 /// The very part of the sheet that defines a fluent; empty for a refused sheet or a number too high.

@@ -62,6 +62,8 @@ pub enum Refusal {
     MarksShort = 61,
     /// 62: a recorded step that is a call or bad.
     BadRecordedStep = 62,
+    /// 70: a name is a fluent in one of two sheets and an action in the other.
+    BothKinds = 70,
     /// 80: the output has fewer places than there are words or states to write.
     OutputShort = 80,
     /// 81: the words are not one per fluent for each block of 64 states.
@@ -72,7 +74,7 @@ pub enum Refusal {
 
 impl Refusal {
     /// All refusals, in rising order of their numbers.
-    pub const ALL: [Refusal; 31] = [
+    pub const ALL: [Refusal; 32] = [
         Refusal::TooLong,
         Refusal::BadByte,
         Refusal::NotEnded,
@@ -101,6 +103,7 @@ impl Refusal {
         Refusal::LongRecord,
         Refusal::MarksShort,
         Refusal::BadRecordedStep,
+        Refusal::BothKinds,
         Refusal::OutputShort,
         Refusal::BadWordCount,
         Refusal::BitPastEnd,
@@ -147,6 +150,7 @@ impl Refusal {
             Refusal::LongRecord => "a record of over 63 steps",
             Refusal::MarksShort => "a table of under 4,096 words",
             Refusal::BadRecordedStep => "a recorded step that is a call, or of no fluent",
+            Refusal::BothKinds => "a name that is a fluent in one sheet and an action in the other",
             Refusal::OutputShort => "the output has fewer places than there are words or states",
             Refusal::BadWordCount => "words that are not one per fluent for each block of 64 states",
             Refusal::BitPastEnd => "a bit set past the last state",

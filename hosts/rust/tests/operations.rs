@@ -1,8 +1,8 @@
 //! The operations as a host meets them: results, refusals, and what each buffer holds afterwards.
 
 use lawhemuri::{
-    class, evaluate, fluent_name, mark, outcomes, path, read, report, report_of, report_words, restore, store, write, Buffers,
-    Fraction, OfStart, Question, Records, Refusal, Report, Run, Unread, Unrun, MARK_WORDS, MOST_RECORDED,
+    class, evaluate, fluent_name, mark, merge, merged_fluent, outcomes, path, read, report, report_of, report_words, restore, store,
+    write, Buffers, Fraction, OfStart, Question, Records, Refusal, Report, Run, Unmerged, Unread, Unrun, MARK_WORDS, MOST_RECORDED,
 };
 
 const EXAMPLE: &[u8] = b"fluent\topen\nfluent\tlit\naction\tpurge\naction\tlight\nrule\tpurge\t+open\n\
@@ -64,6 +64,69 @@ fn fixed_text() {
     assert_eq!(short, [7; 57]);
     assert_eq!(write(b"# 1\nfluent\tA\n", &mut short), Err(Unread { refusal: Refusal::BadField, line: 2 }));
     assert_eq!(short, [7; 57]);
+}
+
+#[test]
+fn two_sheets() {
+    let maker = b"fluent\ta\nfluent\tb\naction\tg\nrule\tg\t+a\nstart\ta\ngoal\t!g\n".as_slice();
+    let site = b"# site\r\nfluent\tc\r\nfluent\ta\r\naction\th\r\naction\tg\r\nrule\tg\t+a\r\nrule\th\t-c\t!g\r\nrule\th\t-c\t!g\r\nstart\tc\r\ngoal\t!h\r\n";
+    let both = b"fluent\ta\nfluent\tb\nfluent\tc\naction\tg\naction\th\nrule\tg\t+a\nrule\th\t-c\t!g\nstart\ta\tc\ngoal\t!g\n";
+    let turned = b"fluent\tc\nfluent\ta\nfluent\tb\naction\th\naction\tg\nrule\tg\t+a\nrule\th\t-c\t!g\nrule\th\t-c\t!g\nstart\tc\ta\ngoal\t!h\n";
+    let mut text = [7; 100];
+    assert_eq!(merge(maker, site, &mut text), Ok(86));
+    assert_eq!((&text[..86], &text[86..]), (&both[..], &[7; 14][..]));
+    assert_eq!(merge(site, maker, &mut text), Ok(99));
+    assert_eq!((&text[..99], text[99]), (&turned[..], 7));
+    assert_eq!(merge(maker, maker, &mut text), Ok(maker.len()));
+    assert_eq!(&text[..maker.len()], maker);
+    let names: Vec<&[u8]> = (0..4).map(|fluent| merged_fluent(maker, site, fluent)).collect();
+    assert_eq!(names, vec![b"a".as_slice(), b"b", b"c", b""]);
+    assert_eq!(names[0].as_ptr(), maker[7..].as_ptr());
+    assert_eq!(names[2].as_ptr(), site[15..].as_ptr());
+    let mut short = [7; 85];
+    let mut refused = |first: &[u8], second: &[u8]| {
+        let Err(Unmerged { refusal, sheet, line }) = merge(first, second, &mut short) else { panic!("merged") };
+        assert_eq!(short, [7; 85]);
+        (refusal.number(), sheet, line)
+    };
+    assert_eq!(refused(maker, site), (50, 0, 0));
+    assert_eq!(refused(b"fluent\tA\n", b"start\ngoal"), (14, 1, 1));
+    assert_eq!(refused(maker, b"start\ngoal"), (12, 2, 0));
+    assert_eq!(refused(maker, b"# x\nfluent\tA\n"), (14, 2, 2));
+    let crossed = b"action\ta\nstart\ngoal\n";
+    assert_eq!(refused(maker, crossed), (70, 0, 0));
+    assert_eq!(refused(crossed, maker), (70, 0, 0));
+    assert_eq!(merged_fluent(maker, crossed, 0), b"");
+}
+
+/// A sheet of 64 fluents, and of rules of 16 equal steps for one action; all names have 16 bytes.
+fn long_sheet(rules: usize, head: &str) -> Vec<u8> {
+    let (names, head): (Vec<String>, String) = ((0..64).map(|k| format!("abcdefghijklmn{k:02}")).collect(), head.repeat(16));
+    let mut sheet: String = names.iter().map(|name| format!("fluent\t{name}\n")).collect();
+    sheet += &format!("action\t{head}\n");
+    for k in 0..rules {
+        sheet += &format!("rule\t{head}{}\n", format!("\t{}{}", ["+", "-", "?", "~"][k / 64], names[k % 64]).repeat(16));
+    }
+    (sheet + "start\ngoal\n").into_bytes()
+}
+
+#[test]
+fn limits_of_two_sheets() {
+    let numbered = |word: &str, names: std::ops::Range<usize>| names.map(|k| format!("{word}\tx{k}\n")).collect::<String>();
+    let full = numbered("fluent", 0..64) + "start\ngoal\n";
+    let mut text = vec![0; 65536];
+    let mut merged = |first: &str, second: &str| {
+        merge(first.as_bytes(), second.as_bytes(), &mut text).map_err(|e| (e.refusal.number(), e.sheet, e.line))
+    };
+    assert_eq!(merged(&full, "fluent\tx63\nstart\tx63\ngoal\n"), Ok(709));
+    assert_eq!(merged(&full, "fluent\ty\nstart\ngoal\n"), Err((17, 0, 0)));
+    assert_eq!(merged(&full, "fluent\ty\naction\tx0\nstart\ngoal\n"), Err((70, 0, 0)));
+    let rules = "action\tg\n".to_string() + &"rule\tg\n".repeat(256) + "start\ngoal\n";
+    assert_eq!(merged(&rules, "action\tg\nrule\tg\t!g\nstart\ngoal\n"), Err((17, 0, 0)));
+    assert_eq!(merged(&rules, "action\tg\nrule\tg\nstart\ngoal\n"), Ok(1812));
+    let (g, h) = (long_sheet(103, "g"), long_sheet(103, "h"));
+    assert_eq!(merge(&g, &h, &mut text), Ok(65455));
+    assert_eq!(merge(&long_sheet(104, "g"), &long_sheet(104, "h"), &mut text), Err(Unmerged { refusal: Refusal::TooLong, sheet: 0, line: 0 }));
 }
 
 #[test]
@@ -172,7 +235,7 @@ fn denial() {
 #[test]
 fn numbers_of_refusals() {
     let numbers =
-        [10, 11, 12, 13, 14, 15, 16, 17, 18, 19, 20, 21, 22, 23, 24, 25, 26, 27, 30, 31, 40, 41, 42, 43, 50, 60, 61, 62, 80, 81, 82];
+        [10, 11, 12, 13, 14, 15, 16, 17, 18, 19, 20, 21, 22, 23, 24, 25, 26, 27, 30, 31, 40, 41, 42, 43, 50, 60, 61, 62, 70, 80, 81, 82];
     assert_eq!(Refusal::ALL.map(Refusal::number), numbers);
     assert_eq!(numbers.map(Refusal::of), Refusal::ALL.map(Some));
     assert!([0, 9, 28, 29, 32, 39, 44, 59, 63, 79, 83].map(Refusal::of).iter().all(Option::is_none));

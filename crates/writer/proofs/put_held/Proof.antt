@@ -42,7 +42,7 @@ module _ (d : tie.After-is-word) where
 
   -- the tab and the name
   piece : d .is-word .result ≡ true → drop 6 (bare (this d)) ≡ slice (word-end d) (end d) (sheet d)
-  piece h = tail-of (sheet d) (entry d .args .a) (entry d .args .e) (end d) (word-end d) (d .before .before .before .bare-end .ensures) (d .before .before .field-end .ensures) (entry d .pre .0 .1) (sym (d .is-word .ensures) ∙ h)
+  piece h = tail-of (sheet d) (entry d .args .a) (entry d .args .e) (end d) (word-end d) (d .before .before .before .bare-end .ensures) (d .before .before .field-end .ensures) (text "fluent") (entry d .pre .0 .1) (sym (d .is-word .ensures) ∙ h)
 
 bare-end-requires : tie.Need-bare-end-requires
 bare-end-requires c κs = search needs

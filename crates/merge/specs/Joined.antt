@@ -1,0 +1,60 @@
+-- The book of two books. Assumes nothing.
+use Prim.Native.Nat.{ℕ, suc, _+_, _*_}
+use mathlib.Core.Bool.{Bool, true, false, cond, _||_}
+use mathlib.Core.List.{List, [], _∷_, _++_, map}
+use lib.ListN.{getD, take, drop}
+use Rattle.steps.specs.State.{State, holds, added}
+use Rattle.steps.specs.Words.{kind-of, index-of}
+use Rattle.chars.specs.Places.{place, among}
+use Rattle.sheet.specs.Book.{Symbols, Book, ruleWords}
+use Rattle.sheet.specs.Field.{namesOf}
+
+-- The first list, then each of the second that does not stand yet: names, and rules as their words.
+unfoldable pub together : List (List ℕ) → List (List ℕ) → List (List ℕ)
+unfolding place
+together xs [] = xs
+together xs (y ∷ ys) = together (cond (among y xs) xs (xs ++ (y ∷ []))) ys
+
+-- "Names of the first, then new names of the second."
+abbrev pub bothNames : Symbols → Symbols → Symbols
+bothNames y z = record { fluents = together (y .fluents) (z .fluents); actions = together (y .actions) (z .actions) }
+
+-- A step word of z with its name's number in m.
+abbrev pub stepIn : Symbols → Symbols → ℕ → ℕ
+stepIn m z w = 256 * kind-of w + place (getD (namesOf z (kind-of w)) (index-of w) []) (namesOf m (kind-of w))
+
+-- The 18 words of a rule of z with its names' numbers in m.
+abbrev pub ruleIn : Symbols → Symbols → List ℕ → List ℕ
+ruleIn m z r = ruleWords (place (getD (z .actions) (getD r 0 0) []) (m .actions)) (map (stepIn m z) (take (getD r 1 0) (drop 2 r)))
+
+-- The state `to` of the names `all`, and in it those of these names, the first of them number k, that hold in s.
+unfoldable pub startIn : List (List ℕ) → ℕ → State → List (List ℕ) → State → State
+unfolding place
+startIn all k s [] to = to
+startIn all k s (n ∷ ns) to = startIn all (suc k) s ns (cond (holds s k) (added to (place n all)) to)
+
+-- "Rules of the first, then those of the second not already written; both starts together; the first's goal." The first's names stand
+-- first, so its numbers stay.
+unfoldable pub bookOver : Symbols → Book → Book → Book
+unfolding together startIn
+bookOver m a b = record {
+  stage = 5;
+  names = m;
+  rules = together (a .rules) (map (ruleIn m (b .names)) (b .rules));
+  started = true;
+  start = startIn (m .fluents) 0 (b .start) (b .names .fluents) (a .start);
+  goal = a .goal;
+}
+
+abbrev pub bothBooks : Book → Book → Book
+bothBooks a b = bookOver (bothNames (a .names) (b .names)) a b
+
+-- Some of the first list is among the second.
+abbrev pub meets : List (List ℕ) → List (List ℕ) → Bool
+meets [] ys = false
+meets (x ∷ xs) ys = among x ys || meets xs ys
+
+-- 70: "a name that is a fluent in one and an action in the other".
+unfoldable pub crossed : Symbols → Symbols → Bool
+unfolding place
+crossed y z = meets (y .fluents) (z .actions) || meets (y .actions) (z .fluents)

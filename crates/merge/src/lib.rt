@@ -1,0 +1,397 @@
+// The merge of two sheets into one fixed text. What stands behind the words of the lines is kept as parts of the two sheets: for each word
+// the second's, the first's, and those of the second that are new. Rules that are equal have equal lines, so no word is renumbered.
+mod parts;
+mod texts;
+
+ghost use mathlib.Core.Path.{_≡_};
+ghost use mathlib.Core.List.{_++_};
+ghost use Prim.Native.Nat.{_+_, _*_, _-_, _≤_};
+ghost use lib.ListN.{length};
+ghost use Rattle.chars.specs.Bytes.{text};
+ghost use Rattle.chars.specs.Pieces.{lines};
+ghost use Rattle.sheet.specs.Reader.{readSheet};
+ghost use Rattle.sheet.specs.Result.{resultOf};
+ghost use Rattle.writer.specs.Inner.{Puts};
+ghost use Rattle.merge.specs.Merge.{faulty, mergeOf, mergedIn, outAfter};
+ghost use Rattle.merge.specs.MergedName.{partIn, mergedSpan, partOfTwo, addressOfTwo};
+ghost use Rattle.merge.specs.Inner.{Inside, partsFrom, section, startParts, Adds, Few, Laid, faultOf, textIn, Ordered, Joining};
+use steps::state::State;
+
+// What the merge says. Refusal 0 is none; a sheet's own fault has the sheet, 1 or 2, and its line; the length is that of the text written.
+#[repr(C)]
+pub struct Merged {
+    pub refusal: u64,
+    pub sheet: u64,
+    pub line: u64,
+    pub length: u64,
+}
+
+// A part of one of two sheets: which, 1 or 2, where it begins, and how long it is. Sheet 0 is none.
+#[repr(C)]
+pub struct Part {
+    pub sheet: u64,
+    pub at: usize,
+    pub len: usize,
+}
+
+// A name that is a fluent in one sheet and an action in the other.
+pub const BOTH_KINDS: u64 = 70;
+
+// The parts of one word: the second's from `lo` on, the first's from `own` on, the new ones of the second from `new` up to `end`.
+pub struct Word {
+    pub lo: usize,
+    pub own: usize,
+    pub new: usize,
+    pub end: usize,
+}
+
+// The parts of all words, and the end of the goal's, which stands behind those of the rules.
+pub struct Layout {
+    pub fluents: Word,
+    pub actions: Word,
+    pub rules: Word,
+    pub end: usize,
+}
+
+// What two sheets say together, or a refusal: the parts, the end of those of `start`, and how long the text is.
+pub struct Joined {
+    pub refusal: u64,
+    pub sheet: u64,
+    pub line: u64,
+    pub layout: Layout,
+    pub held: usize,
+    pub size: usize,
+}
+
+// What a sheet says beside its rule words, which are not kept.
+fn told(s: &[u8]) -> sheet::Sheet
+    ensures { λ r. ⌜ r ≡ resultOf 4608 (readSheet (now (s .entry))) ⌝ }
+{
+    let mut words = [0u16; 4608];
+    sheet::read(s, &mut words)
+}
+
+// Puts the parts of a word into the list.
+fn lay_word<'a>(
+    first: &'a [u8],
+    second: &'a [u8],
+    word: &'a [u8],
+    list: &mut [usize],
+    n: usize,
+) -> Word
+    requires { ⌜ Inside (length (now first)) (now first ++ now second) (now list) n ⌝ }
+    requires { ⌜ (length (now first) ≤ 65536) × (length (now second) ≤ 65536) ⌝ }
+    requires { ⌜ 2 * (n + (length (section (now word) (lines (now second)))
+        + (length (section (now word) (lines (now first))) + length (section (now word) (lines (now second)))))) ≤ length (now list) ⌝ }
+    ensures { λ r. ⌜ Adds (length (now (first .entry))) (now (first .entry) ++ now (second .entry)) (now (list .entry)) n (now (list .exit)) r
+        (section (now (word .entry)) (lines (now (first .entry)))) (section (now (word .entry)) (lines (now (second .entry)))) ⌝ }
+{
+    let own = parts::sections(second, first.len(), word, list, n);
+    let new = parts::sections(first, 0, word, list, own);
+    let end = parts::gather(first, second, list, n, own, own, new);
+    Word {
+        lo: n,
+        own,
+        new,
+        end,
+    }
+}
+
+// Puts the parts of all words into the list.
+fn lay<'a>(first: &'a [u8], second: &'a [u8], list: &mut [usize]) -> Layout
+    requires { ⌜ Few (now first) × Few (now second) × (length (now list) ≡ 2560) ⌝ }
+    ensures { λ r. ⌜ Laid (now (first .entry)) (now (second .entry)) (now (list .exit)) r ⌝ }
+{
+    let fluents = lay_word(first, second, b"fluent", list, 0);
+    let actions = lay_word(first, second, b"action", list, fluents.end);
+    let rules = lay_word(first, second, b"rule", list, actions.end);
+    let end = parts::sections(first, 0, b"goal", list, rules.end);
+    Layout {
+        fluents,
+        actions,
+        rules,
+        end,
+    }
+}
+
+// 70 or 17, or 0.
+fn fault<'a>(first: &'a [u8], second: &'a [u8], list: &[usize], l: Layout) -> u64
+    requires { ⌜ Laid (now first) (now second) (now list) l ⌝ }
+    ensures { λ r. ⌜ r ≡ faultOf (section (text "fluent") (lines (now (first .entry)))) (section (text "fluent") (lines (now (second .entry))))
+        (section (text "action") (lines (now (first .entry)))) (section (text "action") (lines (now (second .entry))))
+        (section (text "rule") (lines (now (first .entry)))) (section (text "rule") (lines (now (second .entry)))) ⌝ }
+{
+    let f = l.fluents;
+    let a = l.actions;
+    let r = l.rules;
+    if parts::meet(first, second, list, f.own, f.new, a.lo, a.own) {
+        return BOTH_KINDS;
+    }
+    if parts::meet(first, second, list, a.own, a.new, f.lo, f.own) {
+        return BOTH_KINDS;
+    }
+    if 64 < f.end - f.own {
+        return sheet::refusals::TOO_MANY;
+    }
+    if 64 < a.end - a.own {
+        return sheet::refusals::TOO_MANY;
+    }
+    if 256 < r.end - r.own {
+        return sheet::refusals::TOO_MANY;
+    }
+    0
+}
+
+// How long the text is.
+fn text_size<'a>(first: &'a [u8], second: &'a [u8], list: &[usize], l: Layout, held: usize) -> usize
+    requires { ⌜ Inside (length (now first)) (now first ++ now second) (now list) held ⌝ }
+    requires { ⌜ Ordered l held × (length (now first ++ now second) ≤ 131072) ⌝ }
+    ensures { λ r. ⌜ r ≡ length (textIn (now (first .entry) ++ now (second .entry)) (now (list .entry)) l held) ⌝ }
+{
+    let f = l.fluents;
+    let a = l.actions;
+    let r = l.rules;
+    let fluents = texts::size(first, second, list, f.own, f.end, 7);
+    let actions = texts::size(first, second, list, a.own, a.end, 7);
+    let rules = texts::size(first, second, list, r.own, r.end, 5);
+    let start = texts::size(first, second, list, l.end, held, 0);
+    let goal = texts::size(first, second, list, r.end, l.end, 5);
+    fluents + (actions + (rules + ((6 + start) + goal)))
+}
+
+// Puts the `start` line with the parts from lo up to hi; the place after it.
+fn put_start<'a>(
+    first: &'a [u8],
+    second: &'a [u8],
+    list: &[usize],
+    lo: usize,
+    hi: usize,
+    out: &mut [u8],
+    at: usize,
+) -> usize
+    requires { ⌜ Inside (length (now first)) (now first ++ now second) (now list) hi ⌝ }
+    requires { ⌜ lo ≤ hi ⌝ }
+    requires { ⌜ at + length (startParts (partsFrom (now first ++ now second) (now list) lo (hi - lo))) ≤ length (now out) ⌝ }
+    ensures { λ r. ⌜ Puts (now (out .entry)) at
+        (startParts (partsFrom (now (first .entry) ++ now (second .entry)) (now (list .entry)) lo (hi - lo))) (now (out .exit)) r ⌝ }
+{
+    let word = writer::put_part(out, at, b"start", 0, 5);
+    let names = texts::put_all(first, second, list, lo, hi, b"", b"", out, word);
+    writer::put(out, names, b'\n')
+}
+
+// Puts the text.
+fn put_text<'a>(
+    first: &'a [u8],
+    second: &'a [u8],
+    list: &[usize],
+    l: Layout,
+    held: usize,
+    out: &mut [u8],
+) -> usize
+    requires { ⌜ Inside (length (now first)) (now first ++ now second) (now list) held ⌝ }
+    requires { ⌜ Ordered l held × (length (textIn (now first ++ now second) (now list) l held) ≤ length (now out)) ⌝ }
+    ensures { λ r. ⌜ Puts (now (out .entry)) 0 (textIn (now (first .entry) ++ now (second .entry)) (now (list .entry)) l held) (now (out .exit)) r ⌝ }
+{
+    let f = l.fluents;
+    let a = l.actions;
+    let r = l.rules;
+    let fluents = texts::put_all(first, second, list, f.own, f.end, b"fluent", b"\n", out, 0);
+    let actions = texts::put_all(
+        first,
+        second,
+        list,
+        a.own,
+        a.end,
+        b"action",
+        b"\n",
+        out,
+        fluents,
+    );
+    let rules = texts::put_all(
+        first,
+        second,
+        list,
+        r.own,
+        r.end,
+        b"rule",
+        b"\n",
+        out,
+        actions,
+    );
+    let start = put_start(first, second, list, l.end, held, out, rules);
+    texts::put_all(
+        first,
+        second,
+        list,
+        r.end,
+        l.end,
+        b"goal",
+        b"\n",
+        out,
+        start,
+    )
+}
+
+// A refusal.
+fn refused(refusal: u64, sheet: u64, line: u64) -> Joined
+    ensures { λ r. ⌜ (r .refusal ≡ refusal) × (r .sheet ≡ sheet) × (r .line ≡ line) ⌝ }
+{
+    let none = Word {
+        lo: 0,
+        own: 0,
+        new: 0,
+        end: 0,
+    };
+    let layout = Layout {
+        fluents: none,
+        actions: none,
+        rules: none,
+        end: 0,
+    };
+    Joined {
+        refusal,
+        sheet,
+        line,
+        layout,
+        held: 0,
+        size: 0,
+    }
+}
+
+// What two sheets say together, its parts in the list, or the first refusal met.
+fn join<'a>(first: &'a [u8], second: &'a [u8], list: &mut [usize]) -> Joined
+    requires { ⌜ length (now list) ≡ 2560 ⌝ }
+    ensures { λ r. ⌜ ((r .refusal ≡ 0 → ⊥) → mergeOf (now (first .entry)) (now (second .entry)) ≡ faulty (r .refusal) (r .sheet) (r .line)) ⌝ }
+    ensures { λ r. ⌜ (r .refusal ≡ 0 → Joining (now (first .entry)) (now (second .entry)) (now (list .exit)) r) ⌝ }
+{
+    let a = told(first);
+    if a.refusal != 0 {
+        return refused(a.refusal, 1, a.line);
+    }
+    let b = told(second);
+    if b.refusal != 0 {
+        return refused(b.refusal, 2, b.line);
+    }
+    let layout = lay(first, second, list);
+    let n = fault(first, second, list, layout);
+    if n != 0 {
+        return refused(n, 0, 0);
+    }
+    let f = layout.fluents;
+    let state = texts::starts(
+        first,
+        second,
+        list,
+        f.lo,
+        f.own,
+        f.own,
+        f.end,
+        State::of(b.start),
+        State::of(a.start),
+    );
+    let held = texts::held(list, f.own, f.end, state, layout.end);
+    let size = text_size(first, second, list, layout, held);
+    if 65536 < size {
+        return refused(sheet::refusals::TOO_LONG, 0, 0);
+    }
+    Joined {
+        refusal: 0,
+        sheet: 0,
+        line: 0,
+        layout,
+        held,
+        size,
+    }
+}
+
+// Writes the one fixed text of two accepted sheets to `out`, which is unchanged past it and by a refusal.
+pub fn merge<'a>(first: &'a [u8], second: &'a [u8], out: &mut [u8]) -> Merged
+    ensures { λ r. ⌜ r ≡ mergedIn (length (now (out .entry))) (mergeOf (now (first .entry)) (now (second .entry))) ⌝ }
+    ensures { λ _. ⌜ now (out .exit) ≡ outAfter (now (out .entry)) (mergeOf (now (first .entry)) (now (second .entry))) ⌝ }
+{
+    let mut list = [0usize; 2560];
+    let j = join(first, second, &mut list);
+    let refusal = j.refusal;
+    if refusal != 0 {
+        return Merged {
+            refusal,
+            sheet: j.sheet,
+            line: j.line,
+            length: 0,
+        };
+    }
+    let size = j.size;
+    if out.len() < size {
+        return Merged {
+            refusal: writer::TEXT_SHORT,
+            sheet: 0,
+            line: 0,
+            length: 0,
+        };
+    }
+    put_text(first, second, &list, j.layout, j.held, out);
+    Merged {
+        refusal: 0,
+        sheet: 0,
+        line: 0,
+        length: size as u64,
+    }
+}
+
+// A part of the sheet `which`.
+fn part_in(which: u64, span: sheet::Span) -> Part
+    ensures { λ r. ⌜ r ≡ partIn which span ⌝ }
+{
+    Part {
+        sheet: which,
+        at: span.at,
+        len: span.len,
+    }
+}
+
+// Where the merged fluent's name stands, in whichever sheet brought it first; nothing for a refused merge or a number too high.
+pub fn merged_span<'a>(first: &'a [u8], second: &'a [u8], number: u64) -> Part
+    ensures { λ r. ⌜ r ≡ mergedSpan (now (first .entry)) (now (second .entry)) number ⌝ }
+{
+    let mut list = [0usize; 2560];
+    let j = join(first, second, &mut list);
+    let refusal = j.refusal;
+    let layout = j.layout;
+    let f = layout.fluents;
+    if refusal != 0 {
+        return Part {
+            sheet: 0,
+            at: 0,
+            len: 0,
+        };
+    }
+    if (f.end - f.own) as u64 <= number {
+        return Part {
+            sheet: 0,
+            at: 0,
+            len: 0,
+        };
+    }
+    let i = f.own + number as usize;
+    if i < f.new {
+        return part_in(1, sheet::fluent_span(first, number));
+    }
+    let k = parts::find(first, second, &list, i, f.lo, f.own);
+    part_in(2, sheet::fluent_span(second, (k - f.lo) as u64))
+}
+
+// The very part of the sheet that brought the merged fluent's name first; else the empty part at the first sheet's first byte.
+pub fn merged_fluent<'a>(first: &'a [u8], second: &'a [u8], number: u64) -> &'a [u8]
+    ensures { λ r. ⌜ now r ≡ partOfTwo (now (first .entry)) (now (second .entry)) (mergedSpan (now (first .entry)) (now (second .entry)) number) ⌝ }
+    ensures { λ r. ⌜ r .ptr ≡ addressOfTwo (first .entry .ptr) (second .entry .ptr)
+        (mergedSpan (now (first .entry)) (now (second .entry)) number) ⌝ }
+{
+    let name = merged_span(first, second, number);
+    let at = name.at;
+    let end = at + name.len;
+    if name.sheet == 2 {
+        return &second[at..end];
+    }
+    &first[at..end]
+}
