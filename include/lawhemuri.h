@@ -1,7 +1,7 @@
 /* Rehearsal sheets in ground Transaction Logic: read a sheet, write it as its one
- * fixed text, merge two sheets into one, evaluate its goal, from one start or from a
- * whole class of them, list the path of an answer; store states by fluent, and restore
- * them; the figures of a class run; mark what a trainee did.
+ * fixed text, evaluate its goal, from one start or from a whole class of them, list the
+ * path of an answer; merge two sheets into one; store states by fluent, and restore them;
+ * take the figures of a class run; mark what a trainee did.
  *
  * The host lends all memory; nothing is allocated, kept between calls, printed or
  * locked, so calls may run in any number of threads. Every call returns, whatever
@@ -51,6 +51,8 @@ extern "C" {
  * Sheet's end:
  *  18  no `start` or no `goal`                               unchanged
  *  19  rule words lent are fewer than 18 times the rules     unchanged
+ * Many starts (lawhemuri_class; its starts then meet 20 to 31 one by one):
+ *  25  over 1,024 starts, or under 4 result words for each   unchanged
  * Rule words (lawhemuri_evaluate, from here on):
  *  20  over 64 fluents or over 64 actions                    unchanged
  *  21  length not a multiple of 18, or over 256 rules        unchanged
@@ -65,8 +67,6 @@ extern "C" {
  * List:
  *  31  fewer places than ends                                both tables finished,
  *                                                            list unchanged
- * Many starts (lawhemuri_class, before all; its starts meet 20 to 31 one by one):
- *  25  over 1,024 starts, or under 4 result words for each   unchanged
  * Tables that are shown (lawhemuri_path, after 20 to 23):
  *  40  a record count over its room                          list unchanged
  *  41  record number not below the answer count              list unchanged
@@ -97,7 +97,7 @@ extern "C" {
  *  27  fewer than 2 words for each fluent and 4 more         output unchanged
  *
  * A result with a refusal has 0 in every other field, but for three: the line of 13
- * to 17, the three counts of 31, and the sheet of a merged sheet's own fault.
+ * to 17, the three counts of 31, and which of two sheets has a fault of its own.
  */
 #define LAWHEMURI_OK 0u
 #define LAWHEMURI_TOO_LONG 10u
@@ -158,7 +158,7 @@ extern "C" {
  *   step. Bit j of word 64 * a + i is set exactly if some complete deduction of action a,
  *   from the state that the steps before place i leave, carries out just the steps from
  *   place i up to but not including place j. A word is 0 for an action at or above the
- *   count, for a place past the record's end, and after a step that cannot run.
+ *   count, for a place past the record's end, and for a place after a step that cannot run.
  */
 #define LAWHEMURI_RULE_WORDS 18u
 #define LAWHEMURI_CALL_WORDS 2u
@@ -383,10 +383,10 @@ lawhemuri_archived lawhemuri_restore(uint64_t fluents, uint64_t count,
 
 /* Writes the figures of a class run (20, 26, 27, or 0).
  *
- * results: 4 words for each start: refusal number or 0, ends, calls, answers. Only an
- *   unrefused start's ends are counted; all other words may hold anything.
- * ends: the ends of the unrefused starts, one start after another, as many as the results
- *   say and no more, in any order; an end from two starts counts twice.
+ * results: 4 words for each start: refusal number or 0, ends, calls, answers. Of a refused
+ *   start only the first word is looked at, of any other the first two.
+ * ends: the ends of the unrefused starts, as many as the results say and no more, in any
+ *   order; an end from two starts counts twice.
  * out: no refusal, the first LAWHEMURI_REPORT_WORDS(fluents) words are the figures and the
  *   list past them is unchanged; refused, it is unchanged.
  */

@@ -337,7 +337,7 @@ static void test_class(void) {
     EXPECT(memcmp(kept_calls, calls, sizeof calls) == 0 && memcmp(kept_answers, answers, sizeof answers) == 0);
 }
 
-/* 25 comes before all and changes nothing; no starts are refused nothing, whatever the book. */
+/* 25 comes before all and changes nothing; a class of no starts is not refused, whatever the book. */
 static void test_refused_class(void) {
     static const uint64_t starts[LAWHEMURI_MOST_STARTS + 1] = {4};
     static uint64_t results[4 * (LAWHEMURI_MOST_STARTS + 1)];
@@ -455,6 +455,7 @@ static void test_refused_marks(void) {
     fill(table, WORDS(table));
 #define REFUSED(actions, len, room) lawhemuri_mark(2, actions, rules, 36, GOAL, 1, 0, record, len, table, room).refusal
     EXPECT(REFUSED(65, 64, 0) == LAWHEMURI_BAD_COUNTS && REFUSED(0, 64, 0) == LAWHEMURI_BAD_RULE);
+    EXPECT(lawhemuri_mark(2, 1, rules, 36, GOAL, 1, 4, record, 64, table, WORDS(table)).refusal == LAWHEMURI_BAD_START);
     EXPECT(REFUSED(1, 64, 4095) == LAWHEMURI_LONG_RECORD);
     record[62] = 768;
     EXPECT(REFUSED(1, 63, 4095) == LAWHEMURI_MARKS_SHORT && REFUSED(1, 63, 4096) == LAWHEMURI_BAD_RECORDED_STEP);

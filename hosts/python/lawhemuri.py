@@ -151,8 +151,12 @@ class Library:
             raise Refused(run.refusal, finished=(run, calls, answers) if run.refusal == 31 else None)
         return run, ends[: run.ends], calls, answers
 
-    def class_run(self, sheet, rules, starts, rooms=(512, 256, 256), words=None):
-        """For each start its run, whose refusal is 0 for none, and its ends in rising order; `words` is the room for the result words."""
+    def class_run(self, sheet, rules, starts, rooms=None, words=None):
+        """For each start its run, whose refusal is 0 for none, and its ends in rising order. `rooms` are those of calls, answers and ends,
+        512, 256 and 256 for each start if none are given; `words` is the room for the result words. The tables are not handed back."""
+        if not all(0 <= start < 2**64 for start in starts):
+            raise ValueError("a start is a number of 64 bits")
+        rooms = (512, 256, 256 * len(starts)) if rooms is None else rooms
         calls, answers, ends = (U64 * (2 * rooms[0]))(), (U64 * (19 * rooms[1]))(), (U64 * rooms[2])()
         results = (U64 * (4 * len(starts) if words is None else words))()
         refusal = self._class(

@@ -153,6 +153,15 @@ class Merges(unittest.TestCase):
             self.assertEqual(LIBRARY.merged_fluent(first, second, fluent), name.encode())
         return 1
 
+    def test_ends(self):
+        names = b"fluent\ta\nfluent\tb\naction\tg\n"
+        first = names + b"rule\tg\t~b\t+a\nstart\ngoal\t!g\n"
+        kept = LIBRARY.merge(first, names + b"rule\tg\t+b\nstart\ngoal\n")
+        lost = LIBRARY.merge(first, names + b"rule\tg\t?b\nstart\tb\ngoal\n")
+        # the second start names b, which the first's does not: the first's end is none of the last
+        for sheet, ends in (first, [1]), (kept, [1, 2]), (lost, [2]):
+            self.assertEqual(LIBRARY.evaluate(*LIBRARY.read(sheet))[1], ends)
+
     def test_faults(self):
         good = b"fluent\ta\nstart\ngoal\n"
         for first, second, fault in [
@@ -201,6 +210,16 @@ class WholeClass(unittest.TestCase):
         )
         self.assertEqual(self.told([0, 2], rooms=(2, 3, 2)), [((30, 0, 0, 0), []), ((0, 1, 2, 2), [3])])
         self.assertEqual(self.told([]), [])
+
+    def test_room_for_every_start(self):
+        """Without rooms given the list has place for all: 200 starts have more than 256 ends."""
+        self.assertEqual(self.told([0] * 200), [((0, 2, 2, 4), [1, 3])] * 200)
+
+    def test_starts_of_64_bits(self):
+        self.assertEqual(self.told([2**64 - 1]), [((24, 0, 0, 0), [])])
+        for start in 2**64, -1:
+            with self.assertRaises(ValueError):
+                self.told([0, start])
 
     def test_most_starts(self):
         self.assertEqual(self.told([0] * 1024, rooms=(2, 4, 2048)), [((0, 2, 2, 4), [1, 3])] * 1024)
@@ -264,6 +283,10 @@ class OfAClass(unittest.TestCase):
         self.assertEqual(LIBRARY.report(1, [0, 1, 1, 1] * 2, [1, 1]), ([Fraction(1)], Fraction(1), Fraction(1)))
         self.assertEqual(LIBRARY.report(64, [0, 1, 1, 1], [2**64 - 1]), ([Fraction(1)] * 64, Fraction(64), Fraction(1)))
 
+    def test_bounds(self):
+        self.assertEqual(LIBRARY.report(1, [0] * 4096, []), ([None], None, Fraction(0)))
+        self.assertEqual(LIBRARY.report(1, [0, 65536, 0, 0], [1] * 65536), ([Fraction(1)], Fraction(1), Fraction(65536)))
+
     def test_class_as_it_comes(self):
         sheet, rules = LIBRARY.read(b"fluent\ta\nfluent\tb\naction\tg\nrule\tg\t!g\t?a\t+b\nrule\tg\t+a\nstart\ngoal\t!g\n")
         given = LIBRARY.class_run(sheet, rules, [0, 2, 4, 1], rooms=(8, 8, 4))
@@ -292,6 +315,8 @@ class OfAClass(unittest.TestCase):
         for number, refused in (
             (20, lambda: LIBRARY.report(65, [0], [1], out)),
             (26, lambda: LIBRARY.report(1, [0] * 5, [], out)),
+            (26, lambda: LIBRARY.report(1, [0] * 4100, [], out)),
+            (26, lambda: LIBRARY.report(1, [0, 65537, 0, 0], [1] * 65537, out)),
             (26, lambda: LIBRARY.report(1, [0, 1, 1, 1], [], out)),
             (26, lambda: LIBRARY.report(1, [0, 2**64 - 1, 0, 0, 0, 1, 0, 0], [], out)),
             (26, lambda: LIBRARY.report(1, [0, 1, 1, 1], [2], out)),

@@ -82,7 +82,7 @@ const COMMANDS: [Usage; 10] = [
         name: "merge",
         operands: "MAKER SITE",
         most_operands: 2,
-        says: "two sheets as one: the maker's names, rules, start and goal, and what the site's sheet adds to them",
+        says: "two sheets as one: the maker's names, rules and start, what the site's sheet adds to them, and the maker's goal",
         flags: &[Flag { name: "-o", takes: Some("FILE"), says: "where to write it (standard output unless said)" }],
     },
     Usage {

@@ -3,6 +3,7 @@
 use crate::drill::Drill;
 use crate::failure::Failure;
 use crate::near::near;
+use crate::refusal::is_name;
 use crate::words::{count, grouped};
 
 /// Fluents that must hold, and fluents that must not.
@@ -36,16 +37,16 @@ impl Ask {
 
 /// The set of some fluents.
 fn mask(drill: &Drill, names: &[String]) -> Result<u64, Failure> {
-    names.iter().try_fold(0, |mask, name| Ok(mask | 1 << fluent(drill, name)?))
+    names.iter().try_fold(0, |mask, name| Ok(mask | 1 << fluent(&drill.file, drill.fluents(), name)?))
 }
 
-/// The number of a fluent.
-pub fn fluent(drill: &Drill, name: &str) -> Result<usize, Failure> {
-    let known = drill.fluents();
+/// The number of a fluent of a sheet's file.
+pub fn fluent(file: &str, known: &[String], name: &str) -> Result<usize, Failure> {
     known.iter().position(|known| known == name).ok_or_else(|| {
         let meant =
             near(name, known.iter().map(String::as_str)).map_or(String::new(), |near| format!("; did you mean `{near}`?"));
-        Failure::Use(format!("{} has no fluent `{name}`{meant}", drill.file))
+        let fault = if is_name(name) { format!("{file} has no fluent `{name}`") } else { format!("`{name}` is no name") };
+        Failure::Use(fault + &meant)
     })
 }
 

@@ -4,12 +4,12 @@ use std::collections::BTreeSet;
 use std::fs::File;
 use std::io::{self, Read};
 
-use lawhemuri::{OfStart, Refusal, Trouble};
+use lawhemuri::{class_of, OfStart, Refusal, Trouble};
 
 use crate::ask::fluent;
-use crate::drill::Drill;
 use crate::failure::Failure;
-use crate::words::{count, count_or_no, grouped};
+use crate::sheet::Sheet;
+use crate::words::{count, count_or_no, grouped, holding, holding_words};
 
 /// Bytes of a file of starts that are read at most.
 const MOST_BYTES: u64 = 1 << 20;
@@ -40,29 +40,22 @@ pub fn read(operand: &str) -> Result<String, Failure> {
 }
 
 /// The starts that the lines of a text say. A line is `start` and the names that hold, as in a sheet, or somebody's name with a colon
-/// and then the names that hold; names are parted by TABs or spaces. Blank lines and lines that begin with `#` are left out. A start
-/// of nobody's is called by its number.
-pub fn starts(text: &str, file: &str, drill: &Drill) -> Result<Vec<Start>, Failure> {
+/// and then the names that hold; names are parted by TABs or spaces. Blank lines, lines that begin with `#` and a byte order mark are
+/// left out. A start of nobody's is called by its number.
+pub fn starts(text: &str, file: &str, sheet: &Sheet) -> Result<Vec<Start>, Failure> {
     let mut starts = Vec::new();
-    for (line, number) in text.lines().zip(1..) {
+    for (line, number) in text.strip_prefix('\u{feff}').unwrap_or(text).lines().zip(1..) {
         let line = line.trim();
         if line.is_empty() || line.starts_with('#') {
             continue;
         }
         let at = |what: &str| Failure::Use(format!("{file}, line {number}: {what}"));
-        let (who, names) = match line.split_once(':') {
-            Some((who, names)) if !who.trim().is_empty() => (who.trim().to_string(), names),
-            _ => {
-                let names = line.strip_prefix("start").filter(|names| names.is_empty() || names.starts_with(char::is_whitespace));
-                let names =
-                    names.ok_or_else(|| at("a line is `start`, or somebody's name and a colon, and then the names that hold"))?;
-                ((starts.len() + 1).to_string(), names)
-            }
-        };
+        let (who, names) = parted(line).map_err(|fault| at(&fault))?;
+        let who = who.map_or_else(|| (starts.len() + 1).to_string(), String::from);
         let mut state = 0;
         for name in names.split_whitespace() {
             let bit = 1
-                << fluent(drill, name).map_err(|failure| match failure {
+                << fluent(&sheet.file, &sheet.fluents, name).map_err(|failure| match failure {
                     Failure::Use(words) => at(&words),
                     other => other,
                 })?;
@@ -76,10 +69,27 @@ pub fn starts(text: &str, file: &str, drill: &Drill) -> Result<Vec<Start>, Failu
     Ok(starts)
 }
 
+/// Whose the start of a line is, if it is somebody's, and the names that hold; or what is wrong with the line. Of control characters
+/// only TABs between names are taken: any other might do something to the terminal.
+fn parted(line: &str) -> Result<(Option<&str>, &str), String> {
+    if let Some(control) = line.chars().find(|c| c.is_control() && *c != '\t') {
+        return Err(format!("the control character U+{:04X} stands in it", control as u32));
+    }
+    if let Some(names) = line.strip_prefix("start").filter(|rest| rest.is_empty() || rest.starts_with(char::is_whitespace)) {
+        return Ok((None, names));
+    }
+    match line.split_once(':').map(|(who, names)| (who.trim(), names)) {
+        Some(("start", _)) => Err("`start` is nobody's name: leave out the colon".into()),
+        Some((who, _)) if who.contains('\t') => Err("a TAB stands in somebody's name".into()),
+        Some((who, names)) if !who.is_empty() => Ok((Some(who), names)),
+        _ => Err("a line is `start`, or somebody's name and a colon, and then the names that hold".into()),
+    }
+}
+
 /// What the library gives for the starts; over 1,024 of them are refused.
-pub fn run(drill: &Drill, starts: &[Start]) -> Result<Vec<OfStart>, Failure> {
+pub fn run(sheet: &Sheet, starts: &[Start]) -> Result<Vec<OfStart>, Failure> {
     let states: Vec<u64> = starts.iter().map(|start| start.state).collect();
-    drill.rehearsal.class(&states).map_err(|trouble| match trouble {
+    class_of(&sheet.question(), &states).map_err(|trouble| match trouble {
         Trouble::Refused(Refusal::BadClass) => Failure::Failed(format!(
             "refused 25: {}, of which {} run in one go",
             count(starts.len(), "start"),
@@ -90,7 +100,7 @@ pub fn run(drill: &Drill, starts: &[Start]) -> Result<Vec<OfStart>, Failure> {
 }
 
 /// The table: a row for each start, with its ends under it if they are asked for.
-pub fn table(drill: &Drill, starts: &[Start], given: &[OfStart], with_ends: bool) -> String {
+pub fn table(sheet: &Sheet, starts: &[Start], given: &[OfStart], with_ends: bool) -> String {
     let rows: Vec<[String; 3]> = given.iter().map(|(told, _)| counts(told)).collect();
     let wide = |head: &str, column: &dyn Fn(usize) -> usize| (0..starts.len()).map(column).chain([head.len()]).max().unwrap_or(0);
     let who = wide("start", &|i| starts[i].who.chars().count());
@@ -100,14 +110,14 @@ pub fn table(drill: &Drill, starts: &[Start], given: &[OfStart], with_ends: bool
         format!("{name:<who$}{cells}  {holds}\n")
     };
     let ends: usize = given.iter().map(|(_, ends)| ends.len()).sum();
-    let mut out = format!("{}: {}, {}\n", drill.name, count_or_no(starts.len(), "start"), count_or_no(ends, "end"));
+    let mut out = format!("{}: {}, {}\n", sheet.name, count_or_no(starts.len(), "start"), count_or_no(ends, "end"));
     if !starts.is_empty() {
         out += &line("start", HEADS, "holds at the start");
     }
     for ((start, (_, ends)), row) in starts.iter().zip(given).zip(&rows) {
-        out += &line(&start.who, [&row[0], &row[1], &row[2]], &drill.holding_words(start.state));
+        out += &line(&start.who, [&row[0], &row[1], &row[2]], &holding_words(&sheet.fluents, start.state));
         for end in ends.iter().filter(|_| with_ends) {
-            out += &format!("{:who$}  end {end}: {}\n", "", drill.holding_words(*end));
+            out += &format!("{:who$}  end {end}: {}\n", "", holding_words(&sheet.fluents, *end));
         }
     }
     let refused: BTreeSet<u64> = given.iter().filter_map(|(told, _)| Some(told.err()?.refusal.number())).collect();
@@ -128,8 +138,9 @@ fn counts(told: &Result<lawhemuri::Run, lawhemuri::Unrun>) -> [String; 3] {
 }
 
 /// The same as JSON, with the ends. States are strings: they may have more digits than a number of JavaScript keeps.
-pub fn json(drill: &Drill, starts: &[Start], given: &[OfStart]) -> String {
-    let names = |state: u64| drill.holding(state).iter().map(|name| format!("\"{name}\"")).collect::<Vec<_>>().join(",");
+pub fn json(sheet: &Sheet, starts: &[Start], given: &[OfStart]) -> String {
+    let names =
+        |state: u64| holding(&sheet.fluents, state).iter().map(|name| format!("\"{name}\"")).collect::<Vec<_>>().join(",");
     let end = |end: &u64| format!("{{\"state\":\"{end}\",\"holds\":[{}]}}", names(*end));
     let row = |(start, (told, ends)): (&Start, &OfStart)| {
         let (refusal, run) = told.map_or_else(|unrun| (unrun.refusal.number(), unrun.run), |run| (0, run));
@@ -145,7 +156,7 @@ pub fn json(drill: &Drill, starts: &[Start], given: &[OfStart]) -> String {
         )
     };
     let rows: Vec<String> = starts.iter().zip(given).map(row).collect();
-    let fluents: Vec<String> = drill.fluents().iter().map(|name| format!("\"{name}\"")).collect();
+    let fluents: Vec<String> = sheet.fluents.iter().map(|name| format!("\"{name}\"")).collect();
     let rows = if rows.is_empty() { String::new() } else { format!("\n{}\n  ", rows.join(",\n")) };
     format!("{{\n  \"fluents\":[{}],\n  \"starts\":[{rows}]\n}}\n", fluents.join(","))
 }
@@ -163,17 +174,20 @@ fn quoted(text: &str) -> String {
 #[cfg(test)]
 mod tests {
     use super::*;
+    use crate::load::Source;
 
-    fn drill() -> Drill {
+    fn sheet() -> Sheet {
         let text = b"fluent\ta\nfluent\tb\naction\tg\nrule\tg\t!g\t?a\t+b\nrule\tg\t+a\nstart\ngoal\t!g\n";
-        Drill::new("g.sheet".into(), "g".into(), lawhemuri::Rehearsal::new(text.to_vec()).unwrap()).unwrap()
+        let source = Source { file: "g.sheet".into(), name: "g".into(), path: None, text: text.to_vec(), length: None };
+        Sheet::of(&source).unwrap_or_else(|_| panic!("the sheet is refused"))
     }
 
     #[test]
     fn starts_of_a_class() {
         let start = |who: &str, state| Start { who: who.into(), state };
-        let said = starts("# late shift\n\nstart\tb\r\nAnn Bee:\ta b\nstart\nben:\n", "class.txt", &drill()).unwrap();
+        let said = starts("\u{feff}# late shift\n\nstart\tb\r\nAnn Bee:\ta b\nstart\nben:\n", "class.txt", &sheet()).unwrap();
         assert_eq!(said, [start("1", 2), start("Ann Bee", 3), start("3", 0), start("ben", 0)]);
+        assert_eq!(starts("\u{feff}start a\n", "class.txt", &sheet()).unwrap(), [start("1", 1)]);
     }
 
     #[test]
@@ -184,10 +198,18 @@ mod tests {
             ("ann: a b a\n", "line 1: `a` stands twice"),
             ("ann: c\n", "line 1: g.sheet has no fluent `c`"),
             (": a\n", "line 1: a line is `start`, or"),
+            ("start: a\n", "line 1: `start` is nobody's name"),
+            ("start:\n", "line 1: `start` is nobody's name"),
+            ("start a:b\n", "line 1: `a:b` is no name"),
+            ("ann: a:b\n", "line 1: `a:b` is no name"),
+            ("start\n\u{1b}[2Jann: a\n", "line 2: the control character U+001B stands in it"),
+            ("ann: \u{1b}[2Ja\n", "line 1: the control character U+001B stands in it"),
+            ("an\u{9b}n: a\n", "line 1: the control character U+009B stands in it"),
+            ("ann\tb: a\n", "line 1: a TAB stands in somebody's name"),
         ];
         for (text, said) in cases {
-            let Err(Failure::Use(words)) = starts(text, "class.txt", &drill()) else { panic!("{text}") };
-            assert!(words.contains(said), "{text}: {words}");
+            let Err(Failure::Use(words)) = starts(text, "class.txt", &sheet()) else { panic!("{text}") };
+            assert!(words.contains(said) && !words.contains(char::is_control), "{text}: {words}");
         }
     }
 

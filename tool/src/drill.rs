@@ -5,6 +5,7 @@ use lawhemuri::{Rehearsal, GOAL_ACTION, GOAL_RULE, RULE_WORDS};
 
 use crate::failure::Failure;
 use crate::lines::{fields, lines_of, Places, MARKS};
+use crate::words;
 
 /// Ends among which each is given a name of its own at most.
 pub const MOST_NAMED_ENDS: usize = 1_000;
@@ -97,16 +98,12 @@ impl Drill {
 
     /// The names of the fluents that hold in a state.
     pub fn holding(&self, state: u64) -> Vec<&str> {
-        let names = self.fluents().iter().enumerate();
-        names.filter(|(k, _)| state >> k & 1 == 1).map(|(_, name)| name.as_str()).collect()
+        words::holding(self.fluents(), state)
     }
 
     /// The same in words.
     pub fn holding_words(&self, state: u64) -> String {
-        match self.holding(state)[..] {
-            [] => "nothing holds".into(),
-            ref names => names.join(", "),
-        }
+        words::holding_words(self.fluents(), state)
     }
 
     /// The name of an action; `goal` for the goal's number.

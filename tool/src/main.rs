@@ -18,6 +18,7 @@ mod progress;
 mod refusal;
 mod report;
 mod sha256;
+mod sheet;
 mod terminal;
 mod valve;
 mod words;
@@ -36,6 +37,8 @@ use lawhemuri::{Unmerged, Unread, Way};
 use layout::{Layout, MOST_ROWS};
 use load::{Source, Undrilled};
 use progress::Progress;
+use refusal::Told;
+use sheet::Sheet;
 use valve::ByValve;
 use words::{count, grouped};
 
@@ -63,6 +66,9 @@ fn run(given: &Given) -> Result<(), Failure> {
     if ["class", "report"].contains(&given.command) && given.operands.iter().filter(|operand| *operand == "-").count() == 2 {
         return Err(Failure::Use("the sheet and the starts cannot both be standard input".into()));
     }
+    if given.command == "merge" {
+        return merged(given);
+    }
     let source = load::source(&given.operands[0])?;
     match given.command {
         "ends" => ends(given, &drilled(&source)?),
@@ -70,10 +76,9 @@ fn run(given: &Given) -> Result<(), Failure> {
         "path" => path(given, &drilled(&source)?),
         "page" => page(given, &source),
         "write" => written(given, &source),
-        "merge" => merged(given, &source),
         "archive" => archive(given, &drilled(&source)?),
-        "class" => class(given, &drilled(&source)?),
-        "report" => report(given, &drilled(&source)?),
+        "class" => class(given, &read(&source)?),
+        "report" => report(given, &read(&source)?),
         "mark" => mark(given, &source),
         command => Err(Failure::Internal(format!("no command `{command}`"))),
     }
@@ -94,11 +99,19 @@ fn print(text: &str) -> Result<(), Failure> {
 fn drilled(source: &Source) -> Result<Drill, Failure> {
     load::drill(source).map_err(|undrilled| match undrilled {
         Undrilled::Failed(failure) => failure,
-        Undrilled::Refused(told) => {
-            say(&terminal::refusal(&told, &source.file, &source.text));
-            Failure::Failed(String::new())
-        }
+        Undrilled::Refused(told) => refused(&told, source),
     })
+}
+
+/// The sheet, read and not evaluated; a refusal is told on standard error.
+fn read(source: &Source) -> Result<Sheet, Failure> {
+    Sheet::of(source).map_err(|told| refused(&told, source))
+}
+
+/// Tells a refusal on standard error.
+fn refused(told: &Told, source: &Source) -> Failure {
+    say(&terminal::refusal(told, &source.file, &source.text));
+    Failure::Failed(String::new())
 }
 
 fn asked(given: &Given) -> Ask {
@@ -223,24 +236,21 @@ fn written(given: &Given, source: &Source) -> Result<(), Failure> {
     let mut text = vec![0; source.text.len()];
     match lawhemuri::write(&source.text, &mut text) {
         Ok(length) => write(file, &String::from_utf8_lossy(&text[..length])),
-        Err(unread) => {
-            say(&terminal::refusal(&refusal::told(&source.text, source.length, unread), &source.file, &source.text));
-            Err(Failure::Failed(String::new()))
-        }
+        Err(unread) => Err(refused(&refusal::told(&source.text, source.length, unread), source)),
     }
 }
 
 /// Writes the one fixed text of two sheets together. A sheet's own fault is told as that of the sheet.
-fn merged(given: &Given, maker: &Source) -> Result<(), Failure> {
-    let Some(site) = given.operands.get(1) else {
+fn merged(given: &Given) -> Result<(), Failure> {
+    let [maker, site] = given.operands.as_slice() else {
         return Err(Failure::Use("merge needs two sheets: lawhemuri merge MAKER SITE".into()));
     };
     if given.operands.iter().all(|file| file == "-") {
         return Err(Failure::Use("standard input is one sheet: give a file for the other".into()));
     }
-    let site = load::source(site)?;
+    let (maker, site) = (load::source(maker)?, load::source(site)?);
     let file = given.last("-o").unwrap_or("-");
-    not_the_sheet(file, maker)?;
+    not_the_sheet(file, &maker)?;
     not_the_sheet(file, &site)?;
     let mut text = vec![0; MOST_BYTES];
     let Unmerged { refusal, sheet, line } = match lawhemuri::merge(&maker.text, &site.text, &mut text) {
@@ -253,7 +263,7 @@ fn merged(given: &Given, maker: &Source) -> Result<(), Failure> {
             terminal::refusal(&told, &format!("{} and {}", maker.file, site.file), b"")
         }
         _ => {
-            let source = if sheet == 1 { maker } else { &site };
+            let source = if sheet == 1 { &maker } else { &site };
             terminal::refusal(&refusal::told(&source.text, source.length, Unread { refusal, line }), &source.file, &source.text)
         }
     });
@@ -279,31 +289,31 @@ fn archive(given: &Given, drill: &Drill) -> Result<(), Failure> {
 }
 
 /// Runs the sheet's goal from the starts of a class, and prints what each comes to.
-fn class(given: &Given, drill: &Drill) -> Result<(), Failure> {
-    let (starts, told) = class_run(given, drill)?;
+fn class(given: &Given, sheet: &Sheet) -> Result<(), Failure> {
+    let (starts, told) = class_run(given, sheet)?;
     print(&if given.has("--json") {
-        class::json(drill, &starts, &told)
+        class::json(sheet, &starts, &told)
     } else {
-        class::table(drill, &starts, &told, given.has("--ends"))
+        class::table(sheet, &starts, &told, given.has("--ends"))
     })
 }
 
 /// Runs the sheet's goal from the starts of a class, and prints the figures over it.
-fn report(given: &Given, drill: &Drill) -> Result<(), Failure> {
-    let (_, told) = class_run(given, drill)?;
-    let figures = report::figures(drill, &told)?;
-    print(&if given.has("--json") { report::json(drill, &told, &figures) } else { report::table(drill, &told, &figures) })
+fn report(given: &Given, sheet: &Sheet) -> Result<(), Failure> {
+    let (_, told) = class_run(given, sheet)?;
+    let figures = report::figures(sheet, &told)?;
+    print(&if given.has("--json") { report::json(sheet, &told, &figures) } else { report::table(sheet, &told, &figures) })
 }
 
-/// The starts of the file given, and what the sheet's goal comes to from each.
-fn class_run(given: &Given, drill: &Drill) -> Result<(Vec<class::Start>, Vec<lawhemuri::OfStart>), Failure> {
+/// The starts of the file given, and what the sheet's goal comes to from each. The sheet is read alone: its own start plays no part.
+fn class_run(given: &Given, sheet: &Sheet) -> Result<(Vec<class::Start>, Vec<lawhemuri::OfStart>), Failure> {
     let command = given.command;
     let none = || Failure::Use(format!("{command} needs a file of starts: lawhemuri {command} SHEET STARTS"));
     let file = given.operands.get(1).ok_or_else(none)?;
     let called = if file == "-" { "standard input" } else { file };
-    let starts = class::starts(&class::read(file)?, called, drill)?;
+    let starts = class::starts(&class::read(file)?, called, sheet)?;
     let progress = Progress::begin("running the class");
-    let told = class::run(drill, &starts)?;
+    let told = class::run(sheet, &starts)?;
     drop(progress);
     Ok((starts, told))
 }
@@ -316,20 +326,11 @@ fn mark(given: &Given, source: &Source) -> Result<(), Failure> {
     if record == "-" && given.operands[0] == "-" {
         return Err(Failure::Use("standard input is the sheet or the record, and not both".into()));
     }
-    let mut rules = vec![0; lawhemuri::MOST_RULE_WORDS];
-    let sheet = match lawhemuri::read(&source.text, &mut rules) {
-        Ok(sheet) => sheet,
-        Err(unread) => {
-            say(&terminal::refusal(&refusal::told(&source.text, source.length, unread), &source.file, &source.text));
-            return Err(Failure::Failed(String::new()));
-        }
-    };
-    let name = |k| String::from_utf8_lossy(lawhemuri::fluent_name(&source.text, k)).into_owned();
-    let fluents: Vec<String> = (0..sheet.fluents).map(name).collect();
+    let sheet = read(source)?;
     let (file, text) = load::record(record)?;
-    let steps = marking::steps(&file, &text, &fluents)?;
-    let marked = marking::marked(&sheet.question(&rules), &steps)?;
-    print(&marking::said(&marked, &steps, &fluents))
+    let steps = marking::steps(&file, &text, &sheet.fluents)?;
+    let marked = marking::marked(&sheet.question(), &steps)?;
+    print(&marking::said(&marked, &steps, &sheet.fluents))
 }
 
 /// Refuses to write over the sheet that was read, by whatever path it is named.

@@ -9,9 +9,9 @@ use lawhemuri::unfolding::{Kind, Step};
 use lawhemuri::{Question, MARK_WORDS, RULE_WORDS};
 
 use crate::failure::Failure;
-use crate::lines::{lines_of, MARKS};
+use crate::lines::{cropped, lines_of, MARKS};
 use crate::near::near;
-use crate::words::count;
+use crate::words::{count, holding_words};
 
 /// Actions, and places of a record, that the library's table has words for.
 const PLACES: usize = 64;
@@ -29,7 +29,8 @@ pub fn steps(file: &str, text: &[u8], fluents: &[String]) -> Result<Vec<Recorded
     let mut steps = Vec::new();
     for (line, written) in (1..).zip(lines_of(text)).filter(|(_, written)| !written.starts_with('#')) {
         for text in written.split_whitespace() {
-            let word = word(text, fluents).map_err(|fault| Failure::Failed(format!("{file}:{line}: `{text}`: {fault}")))?;
+            let told = |fault| Failure::Failed(format!("{file}:{line}: `{}`: {fault}", cropped(text, 0).0));
+            let word = word(text, fluents).map_err(told)?;
             steps.push(Recorded { word, text: text.into(), line });
         }
     }
@@ -47,7 +48,7 @@ fn word(text: &str, fluents: &[String]) -> Result<u16, String> {
     let Some(index) = fluents.iter().position(|fluent| fluent == name) else {
         let meant =
             near(name, fluents.iter().map(String::as_str)).map_or(String::new(), |near| format!("; did you mean `{near}`?"));
-        return Err(format!("the sheet has no fluent `{name}`{meant}"));
+        return Err(format!("the sheet has no fluent `{}`{meant}", cropped(name, 0).0));
     };
     Ok((256 * kind + index) as u16)
 }
@@ -149,9 +150,8 @@ fn named(words: &BTreeSet<u16>, fluents: &[String]) -> String {
 /// What is said of a record, in lines: yes or no; for no, how far it can be followed, and what stands in the way there.
 pub fn said(marked: &Marked, steps: &[Recorded], fluents: &[String]) -> String {
     let all = count(steps.len(), "step");
-    let holding: Vec<&str> = (0..fluents.len()).filter(|k| marked.state >> k & 1 == 1).map(|k| fluents[k].as_str()).collect();
     if marked.yes {
-        let left = if holding.is_empty() { "nothing holds".into() } else { holding.join(", ") };
+        let left = holding_words(fluents, marked.state);
         return format!(
             "yes\t{all}\n  these steps, in this order and no others, are a way through the goal; it leaves: {left}\n"
         );
@@ -231,6 +231,9 @@ mod tests {
             ("+c", "the sheet has no fluent `c`"),
             ("é", "a step begins with"),
             ("+", "the sheet has no fluent ``"),
+            ("\u{1b}[2J", "record:1: `␛[2J`: a step begins with"),
+            ("+a\0", "record:1: `+a␀`: the sheet has no fluent `a␀`"),
+            (&format!("+{}", "x".repeat(60_000)), "x …`: the sheet has no fluent `x"),
         ] {
             let Err(Failure::Failed(words)) = steps("record", record.as_bytes(), &names()) else { panic!("{record}") };
             assert!(words.contains(said), "{words}");

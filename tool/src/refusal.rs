@@ -200,7 +200,7 @@ fn incomplete(lines: &[String]) -> Told {
 }
 
 /// Whether a field is a name.
-fn is_name(field: &str) -> bool {
+pub fn is_name(field: &str) -> bool {
     field.len() <= MOST_NAME
         && field.starts_with(|c: char| c.is_ascii_lowercase())
         && field.chars().all(|c| c.is_ascii_lowercase() || c.is_ascii_digit() || c == '_')

@@ -2,13 +2,13 @@
 
 use lawhemuri::{report_of, Fraction, OfStart, Report};
 
-use crate::drill::Drill;
 use crate::failure::Failure;
+use crate::sheet::Sheet;
 use crate::words::{count_or_no, grouped};
 
 /// The figures as the library gives them.
-pub fn figures(drill: &Drill, given: &[OfStart]) -> Result<Report, Failure> {
-    report_of(drill.fluents().len(), given).map_err(|refusal| Failure::Internal(format!("the class's own results: {refusal}")))
+pub fn figures(sheet: &Sheet, given: &[OfStart]) -> Result<Report, Failure> {
+    report_of(sheet.fluents.len(), given).map_err(|refusal| Failure::Internal(format!("the class's own results: {refusal}")))
 }
 
 /// The starts, those of them that are refused, and the ends.
@@ -18,17 +18,17 @@ fn counts(given: &[OfStart]) -> [usize; 3] {
 }
 
 /// The table: a row for each fluent, then the two means in words.
-pub fn table(drill: &Drill, given: &[OfStart], figures: &Report) -> String {
+pub fn table(sheet: &Sheet, given: &[OfStart], figures: &Report) -> String {
     let [starts, refused, ends] = counts(given);
     let refused = if refused == 0 { String::new() } else { format!(", {} refused", grouped(refused)) };
-    let mut out = format!("{}: {}{refused}, {}\n", drill.name, count_or_no(starts, "start"), count_or_no(ends, "end"));
+    let mut out = format!("{}: {}{refused}, {}\n", sheet.name, count_or_no(starts, "start"), count_or_no(ends, "end"));
     let shares: Vec<String> = figures.shares.iter().map(|share| exact(*share)).collect();
-    let name = drill.fluents().iter().map(|name| name.len()).chain(["fluent".len()]).max().unwrap_or(0);
+    let name = sheet.fluents.iter().map(|name| name.len()).chain(["fluent".len()]).max().unwrap_or(0);
     let wide = shares.iter().map(String::len).chain(["share".len()]).max().unwrap_or(0);
     if !shares.is_empty() {
         out += &format!("{:<name$}  {:>wide$}  of the ends\n", "fluent", "share");
     }
-    for ((fluent, share), figure) in drill.fluents().iter().zip(&shares).zip(&figures.shares) {
+    for ((fluent, share), figure) in sheet.fluents.iter().zip(&shares).zip(&figures.shares) {
         out += &format!("{fluent:<name$}  {share:>wide$}  {}\n", percent(*figure));
     }
     out += &format!("mean number of fluents holding in an end: {}\n", mean(figures.mean_held, "no end"));
@@ -63,11 +63,11 @@ fn mean(fraction: Fraction, nothing: &str) -> String {
 }
 
 /// The same as JSON: each figure is a numerator and a denominator, in lowest terms; over nothing both are 0.
-pub fn json(drill: &Drill, given: &[OfStart], figures: &Report) -> String {
+pub fn json(sheet: &Sheet, given: &[OfStart], figures: &Report) -> String {
     let pair = |fraction: Fraction| format!("[{},{}]", fraction.numerator, fraction.denominator);
     let [starts, refused, ends] = counts(given);
-    let rows: Vec<String> = drill
-        .fluents()
+    let rows: Vec<String> = sheet
+        .fluents
         .iter()
         .zip(&figures.shares)
         .map(|(name, share)| format!("    {{\"fluent\":\"{name}\",\"share\":{}}}", pair(*share)))

@@ -26,6 +26,19 @@ pub fn count_or_no(number: usize, noun: &str) -> String {
     count(number, noun)
 }
 
+/// The names of those fluents that hold in a state.
+pub fn holding(fluents: &[String], state: u64) -> Vec<&str> {
+    fluents.iter().enumerate().filter(|(k, _)| state >> k & 1 == 1).map(|(_, name)| name.as_str()).collect()
+}
+
+/// The same in words.
+pub fn holding_words(fluents: &[String], state: u64) -> String {
+    match holding(fluents, state)[..] {
+        [] => "nothing holds".into(),
+        ref names => names.join(", "),
+    }
+}
+
 /// The noun with `a` or `an`.
 pub fn article(noun: &str) -> String {
     format!("{} {noun}", if noun.starts_with(['a', 'e', 'i', 'o', 'u']) { "an" } else { "a" })

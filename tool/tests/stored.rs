@@ -357,12 +357,17 @@ fn refused_starts_and_classes() {
     assert!(most.0 == 0 && most.1.starts_with("gated: 1,024 starts, 1,024 ends\n"));
     let over = "lawhemuri: refused 25: 1,025 starts, of which 1,024 run in one go\n";
     assert_eq!(class(&"start\n".repeat(1025)), (1, String::new(), over.into()));
-    for (text, said) in
-        [("start\nben: kye\n", "line 2: gated.sheet has no fluent `kye`; did you mean `key`?"), ("ben\n", "line 1: a line is")]
-    {
+    assert_eq!(class("\u{feff}start\tkey\n").1.lines().next(), Some("gated: 1 start, no end"));
+    for (text, said) in [
+        ("start\nben: kye\n", "line 2: gated.sheet has no fluent `kye`; did you mean `key`?"),
+        ("ben\n", "line 1: a line is"),
+        ("start: key\n", "line 1: `start` is nobody's name: leave out the colon"),
+        ("start key:switch_1\n", "line 1: `key:switch_1` is no name"),
+        ("\u{1b}[2Jben: key\n", "line 1: the control character U+001B stands in it"),
+    ] {
         let (status, out, err) = class(text);
         assert_eq!((status, out.as_str()), (2, ""));
-        assert!(err.contains(said), "{err}");
+        assert!(err.contains(said) && !err.contains('\u{1b}'), "{err}");
     }
     let sheet = sheet.to_str().unwrap();
     for (words, status, said) in [
@@ -373,6 +378,21 @@ fn refused_starts_and_classes() {
         let (code, out, err) = told(words);
         assert_eq!((code, out.as_str()), (status, ""), "{words:?}");
         assert!(err.contains(said), "{words:?}: {err}");
+    }
+}
+
+/// The sheet's own start plays no part: where no table has room for its run, the class and its figures are the same.
+#[test]
+fn a_class_of_a_sheet_too_large() {
+    let (kept, starts) = (here().join("tests/classes/gated.sheet"), here().join("tests/classes/gated.starts"));
+    let sheet = scratch("too_large").join("gated.sheet");
+    std::fs::write(&sheet, std::fs::read_to_string(kept).unwrap().replace("\nstart\n", "\nstart\tkey\n")).unwrap();
+    let (status, _, err) = told(&["ends".as_ref(), sheet.as_os_str()]);
+    assert!(status == 1 && err.starts_with("refused 30: "), "{err}");
+    for command in ["class", "report"] {
+        let (status, out, err) = told(&[command.as_ref(), sheet.as_os_str(), starts.as_os_str()]);
+        assert_eq!((status, err.as_str()), (0, ""));
+        stored(&here().join("tests/stored").join(format!("gated.{command}")), &out);
     }
 }
 

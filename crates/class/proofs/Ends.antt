@@ -2,7 +2,7 @@
 use Prim.Native.Nat.{ℕ, _+_, _≤_}
 use native.Mathlib.Omega.{arith}
 use mathlib.Core.Path.{_≡_, refl, sym, ap, ap₂, _∙_}
-use mathlib.Core.List.{List, [], _∷_, _++_, append-assoc, List·Memᴰ, List·Memᴰ·not-nil, List·Memᴰ·cases-cons, List·Memᴰ·append-cases}
+use mathlib.Core.List.{List, [], _∷_, _++_, append-assoc, List·Memᴰ, List·Memᴰ·head, List·Memᴰ·tail, List·Memᴰ·not-nil, List·Memᴰ·cases-cons, List·Memᴰ·append-cases}
 use mathlib.Core.Logic.{_≢_, ⊎-elim}
 use lib.ListN.{length, take, drop, length-append}
 use lib.Seq.{take-at, drop-at, drop-drop}
@@ -87,10 +87,13 @@ module _ {ask : State → Asked} where
   ends-most over r m z = absurd (List·Memᴰ·not-nil m)
   ends-most (turn {start = start} E T) r m z = ⊎-elim (λ e. rw e (most-ends (ask start) E (rw e at z))) (λ k. ends-most T r k z) (List·Memᴰ·cases-cons m)
 
-  -- Each end is one of an accepted start.
+  -- Each end is one of an accepted start of the class.
   pub ends-of-starts : {starts : List State} {before last : Lent} {rs : List Told} {ends : List State} → Turns ask starts before last rs → InTurn ask starts rs ends
-      → (D : State) → List·Memᴰ D ends → (start : State) × (refused-with (ask start) ≡ 0) × End (run-asked (ask start)) D
+      → (D : State) → List·Memᴰ D ends → (start : State) × List·Memᴰ start starts × (refused-with (ask start) ≡ 0) × End (run-asked (ask start)) D
   ends-of-starts over none D m = absurd (List·Memᴰ·not-nil m)
-  ends-of-starts (turn E T) (without n I) D m = ends-of-starts T I D m
+  ends-of-starts (turn E T) (without n I) D m = let (start, among, ok, d) = ends-of-starts T I D m in (start, List·Memᴰ·tail among, ok, d)
   ends-of-starts (turn {start = start} E T) (in-turn-more {own = own} z up e c I) D m =
-      ⊎-elim (λ k. (start, accepted E z, e D .0 k)) (λ k. ends-of-starts T I D k) (List·Memᴰ·append-cases own m)
+      ⊎-elim
+      (λ k. (start, List·Memᴰ·head refl, accepted E z, e D .0 k))
+      (λ k. let (begun, among, ok, d) = ends-of-starts T I D k in (begun, List·Memᴰ·tail among, ok, d))
+      (List·Memᴰ·append-cases own m)

@@ -13,7 +13,7 @@ use Rattle.steps.proofs.AcceptanceLaws.{accepted-below}
 use Rattle.steps.proofs.EachBelow.{true-not-false}
 use Rattle.evaluator.specs.Evaluated.{Asked, Lent, Told, asked}
 use Rattle.class.specs.Class.{four, result-words, Turns, Ran, refused, ran}
-use Rattle.class.specs.Shown.{SameRoom, Shown}
+use Rattle.class.specs.Shown.{Shown, ClassDetermined}
 use Rattle.class.proofs.Turns.{turns-many, room-kept}
 use Rattle.class.proofs.Single.{turns-unique, start-single, words-of-start}
 use Rattle.class.proofs.Ends.{ends-written, ends-most, ends-of-starts, same-list}
@@ -43,20 +43,18 @@ module _ (ask : State → Asked) {starts : List State} {results : List ℕ} wher
   class-shown (refused b e w s) z = absurd (omega arith)
   class-shown (ran b e T w) z = shown T w
 
-  -- The request, the rooms and the list determine the number given, the result words and the list, whatever the tables held.
-  pub class-determined : {b₁ b₂ a₁ a₂ : Lent} {results₁ results₂ : List ℕ} {r₁ r₂ : ℕ} → SameRoom b₁ b₂ → b₁ .ends ≡ b₂ .ends
-      → Ran ask starts results b₁ results₁ a₁ r₁ → Ran ask starts results b₂ results₂ a₂ r₂ → (r₁ ≡ r₂) × (results₁ ≡ results₂) × (a₁ .ends ≡ a₂ .ends)
-  class-determined s f (refused b e w t) (refused b′ e′ w′ t′) = (e ∙ sym e′, w ∙ sym w′, ap (λ (l : Lent). l .ends) t ∙ f ∙ sym (ap (λ (l : Lent). l .ends) t′))
-  class-determined s f (refused b e w t) (ran b′ e′ T′ w′) = absurd (true-not-false (sym b ∙ b′))
-  class-determined s f (ran b e T w) (refused b′ e′ w′ t′) = absurd (true-not-false (sym b′ ∙ b))
-  class-determined s f (ran b e T w) (ran b′ e′ T′ w′) =
-      let u = turns-unique s T T′ in
-      (e ∙ sym e′, w ∙ ap (λ (rs : List Told). result-words rs ++ drop (4 * length starts) results) u ∙ sym w′, same-list ask u f (ends-written ask T) (ends-written ask T′))
+pub class-determined : ClassDetermined
+class-determined ask starts results results₁ results₂ b₁ b₂ a₁ a₂ r₁ r₂ s f (refused b e w t) (refused b′ e′ w′ t′) = (e ∙ sym e′, w ∙ sym w′, ap (λ (l : Lent). l .ends) t ∙ f ∙ sym (ap (λ (l : Lent). l .ends) t′))
+class-determined ask starts results results₁ results₂ b₁ b₂ a₁ a₂ r₁ r₂ s f (refused b e w t) (ran b′ e′ T′ w′) = absurd (true-not-false (sym b ∙ b′))
+class-determined ask starts results results₁ results₂ b₁ b₂ a₁ a₂ r₁ r₂ s f (ran b e T w) (refused b′ e′ w′ t′) = absurd (true-not-false (sym b′ ∙ b))
+class-determined ask starts results results₁ results₂ b₁ b₂ a₁ a₂ r₁ r₂ s f (ran b e T w) (ran b′ e′ T′ w′) =
+    let u = turns-unique s T T′ in
+    (e ∙ sym e′, w ∙ ap (λ (rs : List Told). result-words rs ++ drop (4 * length starts) results) u ∙ sym w′, same-list ask u f (ends-written ask T) (ends-written ask T′))
 
 -- No end written has a bit at or above the fluent count.
 pub class-below : {fluents actions : ℕ} {rules goal : List ℕ} {starts : List State} {results results′ : List ℕ} {before after : Lent}
     (S : Shown (asked fluents actions rules goal) starts results before results′ after) (D : State) → List·Memᴰ D (S .ends) → bad-start fluents D ≡ false
 unfolding bad-start
 class-below {fluents} {actions} {rules} {goal} S D m =
-    let (start, ok, d) = S .of-starts D m in
+    let (start, among, ok, d) = S .of-starts D m in
     rw (eq-eqb _ _ (div-eq-of-lt (accepted-below fluents actions rules goal start ok D [] d)))

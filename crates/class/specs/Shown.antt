@@ -8,7 +8,7 @@ use Rattle.steps.specs.State.{State}
 use Rattle.steps.specs.Run.{End}
 use Rattle.steps.specs.Counting.{Rising}
 use Rattle.evaluator.specs.Evaluated.{Asked, Lent, Told, refused-with, run-asked, Evaluated}
-use Rattle.class.specs.Class.{four, written, result-words, handed-on}
+use Rattle.class.specs.Class.{four, written, result-words, handed-on, Ran}
 
 -- Tables, and lists, of the same lengths.
 pub record SameRoom (one other : Lent) : Type 0 where
@@ -52,10 +52,18 @@ module _ (ask : State → Asked) where
     pub in-turn : InTurn starts given ends
     pub list : after .ends ≡ ends ++ drop (length ends) (before .ends)
     pub ends-many : length ends ≡ written given
-    -- No unrefused start has over 65,536 of them, and each is one of an accepted start.
+    -- No unrefused start has over 65,536 of them, and each is an end of an accepted start of the class.
     pub most : (r : Told) → List·Memᴰ r given → r .refusal ≡ 0 → r .ends ≤ 65536
-    pub of-starts : (D : State) → List·Memᴰ D ends → (start : State) × (refused-with (ask start) ≡ 0) × End (run-asked (ask start)) D
+    pub of-starts : (D : State) → List·Memᴰ D ends
+        → (start : State) × List·Memᴰ start starts × (refused-with (ask start) ≡ 0) × End (run-asked (ask start)) D
     -- Which tables are left.
     pub tables : TablesLeft starts before after
     -- Every buffer keeps its length.
     pub room : SameRoom after before
+
+-- The request, the rooms and the list determine the number given, the result words and the list, whatever the tables held.
+abbrev pub ClassDetermined : Type 0
+ClassDetermined =
+    (ask : State → Asked) (starts : List State) (results results₁ results₂ : List ℕ) (b₁ b₂ a₁ a₂ : Lent) (r₁ r₂ : ℕ)
+    → SameRoom b₁ b₂ → b₁ .ends ≡ b₂ .ends → Ran ask starts results b₁ results₁ a₁ r₁ → Ran ask starts results b₂ results₂ a₂ r₂
+    → (r₁ ≡ r₂) × (results₁ ≡ results₂) × (a₁ .ends ≡ a₂ .ends)

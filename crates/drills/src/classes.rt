@@ -73,7 +73,7 @@ fn tables() {
     in_rooms(b"24 alone", &[4, 8], 9, 2, 3, 2);
 }
 
-// Starts and words that are refused whole, or none.
+// No starts at all; result words that are too few, so that the whole class is refused; and just enough of them.
 fn rooms() {
     in_rooms(b"no starts", &[], 1, 2, 2, 1);
     in_rooms(b"25 of 3 words", &[0], 3, 2, 4, 2);

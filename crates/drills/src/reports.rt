@@ -1,4 +1,5 @@
-// Figures for the course report, from result words and ends written by hand, and what is refused. Every word of an output is 7 before.
+// Figures for the course report, from result words and ends written by hand, and what is refused. Every word of an output is 7 before,
+// but in `many_starts`, whose four reports share one.
 use crate::print;
 
 // Asks for the figures, and prints what is given and left.

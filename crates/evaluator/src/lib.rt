@@ -82,10 +82,11 @@ fn round<'a>(
     marks: &mut [u32],
     uses: &mut [u16],
 ) -> Rounded
-    requires { ⌜ Standing (now rules) (now goal) first (stage .walked) (stage .seen) (now calls) (stage .calls) (now «call_index») (now answers) (stage .answers) (now «answer_index»)
-        (now marks) (stage .walk) (now uses) ⌝ }
-    ensures { λ r. ⌜ Went (now (rules .entry)) (now (goal .entry)) first (stage .walked) (stage .seen) (now (calls .entry)) (stage .calls) (now (answers .entry)) (stage .answers) (now (uses .entry))
-        (r .full) (now (calls .exit)) (r .calls) (now («call_index» .exit)) (now (answers .exit)) (r .answers) (now («answer_index» .exit)) (now (marks .exit)) (r .walk) (now (uses .exit)) ⌝ }
+    requires { ⌜ Standing (now rules) (now goal) first (stage .walked) (stage .seen) (now calls) (stage .calls) (now «call_index»)
+        (now answers) (stage .answers) (now «answer_index») (now marks) (stage .walk) (now uses) ⌝ }
+    ensures { λ r. ⌜ Went (now (rules .entry)) (now (goal .entry)) first (stage .walked) (stage .seen) (now (calls .entry)) (stage .calls)
+        (now (answers .entry)) (stage .answers) (now (uses .entry)) (r .full) (now (calls .exit)) (r .calls) (now («call_index» .exit)) (now (answers .exit)) (r .answers)
+        (now («answer_index» .exit)) (now (marks .exit)) (r .walk) (now (uses .exit)) ⌝ }
 {
     let count = rules.len() / 18;
     let rows = stage.calls;

@@ -60,7 +60,7 @@ unfoldable pub bad-record : ℕ → ℕ → List ℕ → Bool
 bad-record fluents actions words =
     not (each-below (length words) (λ i. not (is-call (getD words i 0)) && good-step fluents actions (getD words i 0)))
 
--- The first of 20 to 24, then 60 over 63 steps, 61 table under 4,096 words, and 62 that is met, or 0.
+-- The first that is met of 20 to 24, then of 60 (over 63 steps), 61 (table under 4,096 words) and 62; 0 if none is.
 unfoldable pub refusal : Question → (room : ℕ) → ℕ
 refusal q room =
     cond (eqb (refusal-of (q .fluents) (q .actions) (q .rules) (q .goal) (q .start)) 0)
@@ -86,7 +86,7 @@ pub record Marked (q : Question) (a i j : ℕ) : Type 0 where
   pub left : left-by (take i (body-of (q .words))) (q .start) ≡ on state
   pub carried : CarriesOut (book-of (q .rules)) state (call a ∷ []) (between (body-of (q .words)) i j)
 
--- The table afterwards: each bit of the first 4,096 words says that, "words past the 4,096 are unchanged".
+-- The table afterwards: a bit of the first 4,096 words is set exactly if it is marked; "words past the 4,096 are unchanged".
 pub record TableMarked (q : Question) (before after : List ℕ) : Type 0 where
   pub size : length after ≡ length before
   pub bits : (a i j : ℕ) → a < 64 → i < 64 → j < 64 → (bit (getD after (64 * a + i) 0) j ≡ 1) ↔ Marked q a i j

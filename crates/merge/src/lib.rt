@@ -350,7 +350,8 @@ fn part_in(which: u64, span: sheet::Span) -> Part
     }
 }
 
-// Where the merged fluent's name stands, in whichever sheet brought it first; nothing for a refused merge or a number too high.
+// Where the merged fluent's name stands, in whichever sheet brought it first; nothing for a merge refused other than
+// with 50 or a number too high.
 pub fn merged_span<'a>(first: &'a [u8], second: &'a [u8], number: u64) -> Part
     ensures { λ r. ⌜ r ≡ mergedSpan (now (first .entry)) (now (second .entry)) number ⌝ }
 {

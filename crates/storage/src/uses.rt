@@ -171,7 +171,8 @@ fn look_at_new(
     walked: usize,
     rows: usize,
 ) -> Within
-    requires { ⌜ (19 * known ≤ length (now answers)) × (known ≤ 65536) × (seen ≤ known) × (walked ≤ rows) × (rows ≤ 65536) × (length (now uses) ≡ 327680) ⌝ }
+    requires { ⌜ (19 * known ≤ length (now answers)) × (known ≤ 65536) × (seen ≤ known)
+        × (walked ≤ rows) × (rows ≤ 65536) × (length (now uses) ≡ 327680) ⌝ }
     requires { ⌜ ((x : ℕ) → x < known → getD (now answers) (19 * x) 0 < 65536) ⌝ }
     requires { ⌜ ((k : ℕ) → heat (now uses) k ≤ seen) ⌝ }
     ensures { λ r. ⌜ Spans (answers-in 19 (now (answers .entry)) known) (now (uses .entry)) walked seen known rows (r .low) (r .high) (r .top) ⌝ }
@@ -207,7 +208,8 @@ fn look_before(uses: &mut [u16], answers: &[u64], seen: usize, known: usize, x: 
     requires { ⌜ (19 * known ≤ length (now answers)) × (known < 65535) × (seen ≤ x) × (x < known) × (length (now uses) ≡ 327680) ⌝ }
     requires { ⌜ ((x : ℕ) → x < known → getD (now answers) (19 * x) 0 < 65536) ⌝ }
     ensures { λ r. ⌜ ((uses₀ : List ℕ) → Looked (answers-in 19 (now (answers .entry)) known) uses₀ (now (uses .entry)) seen known x true
-        → Looked (answers-in 19 (now (answers .entry)) known) uses₀ (now (uses .exit)) seen known (x + 1) r) × (length (now (uses .exit)) ≡ length (now (uses .entry))) ⌝ }
+        → Looked (answers-in 19 (now (answers .entry)) known) uses₀ (now (uses .exit)) seen known (x + 1) r)
+        × (length (now (uses .exit)) ≡ length (now (uses .entry))) ⌝ }
 {
     let first = tables::call_of(answers, x) as usize;
     if number(uses, HEATS + first) != x + 1 {
@@ -317,7 +319,8 @@ pub fn span_of(
     walked: usize,
     rows: usize,
 ) -> Span
-    requires { ⌜ (19 * known ≤ length (now answers)) × (known ≤ 65536) × (seen ≤ known) × (walked ≤ rows) × (rows ≤ 65536) × (length (now uses) ≡ 327680) ⌝ }
+    requires { ⌜ (19 * known ≤ length (now answers)) × (known ≤ 65536) × (seen ≤ known)
+        × (walked ≤ rows) × (rows ≤ 65536) × (length (now uses) ≡ 327680) ⌝ }
     requires { ⌜ ((x : ℕ) → x < known → getD (now answers) (19 * x) 0 < 65536) ⌝ }
     requires { ⌜ ((k : ℕ) → heat (now uses) k ≤ seen) ⌝ }
     ensures { λ r. ⌜ Spans (answers-in 19 (now (answers .entry)) known) (now (uses .exit)) walked seen known rows (r .low) (r .high) (r .top) ⌝ }

@@ -70,12 +70,7 @@ extern "C" {
     pub fn lawhemuri_version() -> u64;
     pub fn lawhemuri_read(sheet: *const u8, sheet_len: usize, rules: *mut u16, rules_len: usize) -> Sheet;
     pub fn lawhemuri_fluent_name(sheet: *const u8, sheet_len: usize, fluent: u64) -> Span;
-    pub fn lawhemuri_write(
-        sheet: *const u8,
-        sheet_len: usize,
-        text: *mut u8,
-        text_len: usize,
-    ) -> Written;
+    pub fn lawhemuri_write(sheet: *const u8, sheet_len: usize, text: *mut u8, text_len: usize) -> Written;
     pub fn lawhemuri_merge(
         first: *const u8,
         first_len: usize,
@@ -84,13 +79,8 @@ extern "C" {
         text: *mut u8,
         text_len: usize,
     ) -> Merged;
-    pub fn lawhemuri_merged_fluent(
-        first: *const u8,
-        first_len: usize,
-        second: *const u8,
-        second_len: usize,
-        fluent: u64,
-    ) -> Part;
+    pub fn lawhemuri_merged_fluent(first: *const u8, first_len: usize, second: *const u8, second_len: usize, fluent: u64)
+        -> Part;
     pub fn lawhemuri_evaluate(
         fluents: u64,
         actions: u64,

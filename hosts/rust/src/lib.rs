@@ -1,8 +1,9 @@
-//! Safe functions over the proved library: read a rehearsal sheet, write it as its one fixed text, merge two sheets into one,
-//! evaluate its goal, from one start or from a whole class of them, list the path of an answer; store states by fluent, and restore
-//! them; the figures of a class run; mark what a trainee did.
+//! Safe functions over the proved library: read a rehearsal sheet, write it as its one fixed text, evaluate its goal, from one start
+//! or from a whole class of them, list the path of an answer; merge two sheets into one; store states by fluent, and restore them;
+//! take the figures of a class run; mark what a trainee did.
 //!
-//! [`Rehearsal`] does all of it in memory of its own, and gives the steps of each way, held against the library's path:
+//! [`Rehearsal`] reads, evaluates and lists paths in memory of its own, and gives the steps of each way, held against the library's
+//! path:
 //!
 //! ```
 //! let text = b"fluent\topen\naction\tpurge\nrule\tpurge\t+open\nstart\ngoal\t!purge\n";
@@ -38,7 +39,7 @@ pub mod unfolding;
 pub use class::{class, outcomes, Outcome, MOST_STARTS, START_WORDS};
 use refusal::accepted;
 pub use refusal::Refusal;
-pub use rehearsal::{OfStart, Rehearsal, Trouble, Way, MOST_EVENTS, MOST_RECORDS, STACK_EVALUATE, STACK_PATH};
+pub use rehearsal::{class_of, OfStart, Rehearsal, Trouble, Way, MOST_EVENTS, MOST_RECORDS, STACK_EVALUATE, STACK_PATH};
 pub use report::{report, report_of, report_words, Figures, Fraction, Report};
 
 /// Words of one rule: head, step count, 16 step words.
@@ -166,9 +167,7 @@ pub fn read(sheet: &[u8], rules: &mut [u16]) -> Result<Sheet, Unread> {
 /// that read to the same have the same text, and it is never longer than the sheet. Past it `text` is unchanged; refused, all of `text` is.
 pub fn write(sheet: &[u8], text: &mut [u8]) -> Result<usize, Unread> {
     // SAFETY: the library reads `sheet` and writes `text`, within the lengths given, and keeps neither.
-    let r = unsafe {
-        ffi::lawhemuri_write(sheet.as_ptr(), sheet.len(), text.as_mut_ptr(), text.len())
-    };
+    let r = unsafe { ffi::lawhemuri_write(sheet.as_ptr(), sheet.len(), text.as_mut_ptr(), text.len()) };
     accepted(r.refusal).map_err(|refusal| Unread { refusal, line: r.line })?;
     Ok(r.length as usize)
 }
@@ -181,14 +180,7 @@ pub fn write(sheet: &[u8], text: &mut [u8]) -> Result<usize, Unread> {
 pub fn merge(first: &[u8], second: &[u8], text: &mut [u8]) -> Result<usize, Unmerged> {
     // SAFETY: the library reads the two sheets and writes `text`, within the lengths given, and keeps none.
     let r = unsafe {
-        ffi::lawhemuri_merge(
-            first.as_ptr(),
-            first.len(),
-            second.as_ptr(),
-            second.len(),
-            text.as_mut_ptr(),
-            text.len(),
-        )
+        ffi::lawhemuri_merge(first.as_ptr(), first.len(), second.as_ptr(), second.len(), text.as_mut_ptr(), text.len())
     };
     accepted(r.refusal).map_err(|refusal| Unmerged { refusal, sheet: r.sheet, line: r.line })?;
     Ok(r.length as usize)
@@ -200,8 +192,7 @@ pub fn merge(first: &[u8], second: &[u8], text: &mut [u8]) -> Result<usize, Unme
 /// Each call merges the two sheets.
 pub fn merged_fluent<'a>(first: &'a [u8], second: &'a [u8], fluent: u64) -> &'a [u8] {
     // SAFETY: the library reads the two sheets within the lengths given; the part lies within the one it names.
-    let part =
-        unsafe { ffi::lawhemuri_merged_fluent(first.as_ptr(), first.len(), second.as_ptr(), second.len(), fluent) };
+    let part = unsafe { ffi::lawhemuri_merged_fluent(first.as_ptr(), first.len(), second.as_ptr(), second.len(), fluent) };
     &(if part.sheet == 2 { second } else { first })[part.at..part.at + part.len]
 }
 

@@ -42,7 +42,7 @@ impl fmt::Display for Trouble {
             Trouble::Sheet(Unread { refusal, line: 0 }) => write!(f, "{refusal}"),
             Trouble::Sheet(Unread { refusal, line }) => write!(f, "{refusal}, line {line}"),
             Trouble::TooLarge => {
-                write!(f, "{}: more than {MOST_RECORDS} calls or answers, no room helps", Refusal::TablesFull)
+                write!(f, "{}: more than 65,536 calls or answers, no room helps", Refusal::TablesFull)
             }
             Trouble::Refused(refusal) => write!(f, "{refusal}"),
             Trouble::Thread(error) => write!(f, "no thread could be started: {error}"),
@@ -145,11 +145,9 @@ impl Rehearsal {
         &self.ends
     }
 
-    /// The sheet's goal from many starts, in one go (refusal 25). Rooms grow until they serve every start or are as large as may be, so a
-    /// start is refused only where no room helps (30) or it has a bit too high (24).
+    /// The sheet's goal from many starts, in one go, as [`class_of`] gives it.
     pub fn class(&self, starts: &[u64]) -> Result<Vec<OfStart>, Trouble> {
-        let question = self.sheet.question(&self.rules);
-        with_stack(STACK_EVALUATE, || grow_class(&question, starts))?.map_err(Trouble::Refused)
+        class_of(&self.sheet.question(&self.rules), starts)
     }
 
     /// The finished tables.
@@ -230,6 +228,12 @@ impl Rehearsal {
         let steps = self.tables().body(answer.rule).iter().zip(answer.evidence);
         steps.filter(|(&word, _)| Step::of(word).kind == Kind::Call).map(|(_, &used)| used as usize).collect()
     }
+}
+
+/// A goal from many starts, in one go (refusal 25); the question's own start is not used. Rooms grow until they serve every start or are as
+/// large as may be, so of an accepted sheet a start is refused only where no room helps (30) or it has a bit too high (24).
+pub fn class_of(question: &Question<'_>, starts: &[u64]) -> Result<Vec<OfStart>, Trouble> {
+    with_stack(STACK_EVALUATE, || grow_class(question, starts))?.map_err(Trouble::Refused)
 }
 
 /// Evaluates in rooms that grow.

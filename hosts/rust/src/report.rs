@@ -97,7 +97,7 @@ pub struct Report {
     pub mean_ends: Fraction,
 }
 
-/// The figures of what [`Rehearsal::class`](crate::Rehearsal::class) gave for a sheet of so many fluents. What it gave never meets 26.
+/// The figures of what [`class_of`](crate::class_of) gave for a sheet of so many fluents. What it gave never meets 26.
 pub fn report_of(fluents: usize, given: &[OfStart]) -> Result<Report, Refusal> {
     let words = |(told, _): &OfStart| {
         let (refusal, run) = told.map_or_else(|unrun| (unrun.refusal.number(), unrun.run), |run| (0, run));
@@ -105,7 +105,8 @@ pub fn report_of(fluents: usize, given: &[OfStart]) -> Result<Report, Refusal> {
     };
     let results: Vec<u64> = given.iter().flat_map(words).collect();
     let ends: Vec<u64> = given.iter().flat_map(|(_, ends)| ends.iter().copied()).collect();
-    let mut out = vec![0; report_words(fluents)];
+    // Over 64 fluents are refused with 20, whatever the room.
+    let mut out = vec![0; report_words(fluents.min(64))];
     let figures = report(fluents as u64, &results, &ends, &mut out)?;
     Ok(Report { shares: figures.shares().collect(), mean_held: figures.mean_held(), mean_ends: figures.mean_ends() })
 }

@@ -1,8 +1,9 @@
 //! The operations as a host meets them: results, refusals, and what each buffer holds afterwards.
 
 use lawhemuri::{
-    class, evaluate, fluent_name, mark, merge, merged_fluent, outcomes, path, read, report, report_of, report_words, restore, store,
-    write, Buffers, Fraction, OfStart, Question, Records, Refusal, Report, Run, Unmerged, Unread, Unrun, MARK_WORDS, MOST_RECORDED,
+    class, evaluate, fluent_name, mark, merge, merged_fluent, outcomes, path, read, report, report_of, report_words, restore,
+    store, write, Buffers, Fraction, OfStart, Question, Records, Refusal, Report, Run, Unmerged, Unread, Unrun, MARK_WORDS,
+    MOST_RECORDED,
 };
 
 const EXAMPLE: &[u8] = b"fluent\topen\nfluent\tlit\naction\tpurge\naction\tlight\nrule\tpurge\t+open\n\
@@ -126,7 +127,10 @@ fn limits_of_two_sheets() {
     assert_eq!(merged(&rules, "action\tg\nrule\tg\nstart\ngoal\n"), Ok(1812));
     let (g, h) = (long_sheet(103, "g"), long_sheet(103, "h"));
     assert_eq!(merge(&g, &h, &mut text), Ok(65455));
-    assert_eq!(merge(&long_sheet(104, "g"), &long_sheet(104, "h"), &mut text), Err(Unmerged { refusal: Refusal::TooLong, sheet: 0, line: 0 }));
+    assert_eq!(
+        merge(&long_sheet(104, "g"), &long_sheet(104, "h"), &mut text),
+        Err(Unmerged { refusal: Refusal::TooLong, sheet: 0, line: 0 })
+    );
 }
 
 #[test]
@@ -134,7 +138,9 @@ fn comments_and_line_ends() {
     let mut rules = [7; 18];
     let mut refusal = |sheet: &[u8]| read(sheet, &mut rules).map_err(|e| (e.refusal.number(), e.line)).err();
     assert_eq!(refusal(b"# a\tb c\r\nstart\r\n#\ngoal\r\n# end\r\n"), None);
-    for sheet in [b"start \ngoal\n".as_slice(), b" # x\n", b"start\r\r\ngoal\n", b"start\ngoal\r", b"#a\rb\n", b"#\x7f\n", b"#\x1f\n"] {
+    for sheet in
+        [b"start \ngoal\n".as_slice(), b" # x\n", b"start\r\r\ngoal\n", b"start\ngoal\r", b"#a\rb\n", b"#\x7f\n", b"#\x1f\n"]
+    {
         assert_eq!(refusal(sheet), Some((11, 0)), "{sheet:?}");
     }
     assert_eq!(refusal(b"start\ngoal\n# x y"), Some((12, 0)));
@@ -234,8 +240,10 @@ fn denial() {
 
 #[test]
 fn numbers_of_refusals() {
-    let numbers =
-        [10, 11, 12, 13, 14, 15, 16, 17, 18, 19, 20, 21, 22, 23, 24, 25, 26, 27, 30, 31, 40, 41, 42, 43, 50, 60, 61, 62, 70, 80, 81, 82];
+    let numbers = [
+        10, 11, 12, 13, 14, 15, 16, 17, 18, 19, 20, 21, 22, 23, 24, 25, 26, 27, 30, 31, 40, 41, 42, 43, 50, 60, 61, 62, 70, 80,
+        81, 82,
+    ];
     assert_eq!(Refusal::ALL.map(Refusal::number), numbers);
     assert_eq!(numbers.map(Refusal::of), Refusal::ALL.map(Some));
     assert!([0, 9, 28, 29, 32, 39, 44, 59, 63, 79, 83].map(Refusal::of).iter().all(Option::is_none));
@@ -443,6 +451,7 @@ fn figures_of_a_class_as_it_comes() {
     assert_eq!(out, [1, 1, 2, 3, 5, 3, 3, 2]);
     let given: Vec<OfStart> = outcomes(&results[..16], &ends).map(|start| (start.told, start.ends.to_vec())).collect();
     assert_eq!(report_of(2, &given), Ok(made));
+    assert_eq!([65, usize::MAX].map(|fluents| report_of(fluents, &given)), [Err(Refusal::BadCounts), Err(Refusal::BadCounts)]);
 }
 
 #[test]
@@ -459,6 +468,8 @@ fn refused_reports_leave_the_output() {
     assert_eq!(out, [MARK; 6]);
     assert!(report(1, &[0, 65536, 0, 0], &[0; 65536], &mut out).is_ok());
     assert_eq!(out, [0, 1, 0, 1, 65536, 1]);
+    assert!(report(1, &[0; 4096], &[], &mut out).is_ok());
+    assert_eq!(out, [0, 0, 0, 0, 0, 1]);
 }
 
 /// Drill D2's book: records that are its goal's and records that are not, in a table with one word more.
@@ -490,6 +501,7 @@ fn refused_marks_leave_the_table() {
     let mut table = [MARK; MARK_WORDS];
     assert_eq!(mark(&question(65), &[256; 64], &mut []), Err(Refusal::BadCounts));
     assert_eq!(mark(&question(0), &[256; 64], &mut []), Err(Refusal::BadRule));
+    assert_eq!(mark(&Question { start: 4, ..question(1) }, &[768; 64], &mut table), Err(Refusal::BadStart));
     assert_eq!(mark(&question(1), &[768; 64], &mut table[1..]), Err(Refusal::LongRecord));
     assert_eq!(mark(&question(1), &[768], &mut table[1..]), Err(Refusal::MarksShort));
     for bad in [768, 258, 1280] {
