@@ -8,31 +8,27 @@ use crate::tables;
 ghost use mathlib.Core.Path.{_≡_};
 ghost use mathlib.Core.Bool.{true};
 ghost use mathlib.Core.List.{List};
-ghost use Prim.Native.Nat.{ℕ, _+_, _*_, _<_, _≤_, min, max};
+ghost use Prim.Native.Nat.{ℕ, _+_, _-_, _*_, _<_, _≤_, min, max};
 ghost use lib.ListN.{length, getD};
 ghost use Rattle.tabling.specs.Records.{answers-in};
-ghost use Rattle.tabling.proofs.Uses.{with-use, with-via, after-both, least, greatest, heat, Used, Came, Noted, Spans};
+ghost use Rattle.tabling.proofs.Uses.{with-use, with-via, after-both, least, greatest, via, start, heat, Used, Came, Noted, Spans};
 ghost use Rattle.tabling.proofs.Turn.{FirstHot, FirstNew};
 ghost use Rattle.tabling.proofs.Index.{AnswerIndex};
-ghost use Rattle.tabling.proofs.Heat.{with-start, Drawn, Looked, Begun};
+ghost use Rattle.tabling.proofs.Heat.{with-start, Lighted, Looked, Begun};
 
-// How many numbers there are, and where the parts begin after the first: 65,535 less the least caller; the greatest caller; one more than the
-// answer after which walks come to the record (0 for none, or SEVERAL); the first of its answers that a round looks at; one more than the
-// new answer for which it does, the record's own first where it has any.
+// How many numbers there are. Those of a record that are read together stand together: 65,535 less the least caller, the greatest caller, and
+// one more than the answer after which walks come to the record (0 for none, or SEVERAL); then, behind those of all records, the first of its
+// answers that a round looks at, and the new answer for which it does, the record's own first where it has any.
 pub const NOTES: usize = 327680;
-
-const GREATEST: usize = 65536;
-
-const VIAS: usize = 131072;
 
 const STARTS: usize = 196608;
 
-const HEATS: usize = 262144;
+const HEATS: usize = 196609;
 
+// Several answers, or one of the last two, for whose numbers there is no room beside it; and the most that stands for a single answer.
 const SEVERAL: usize = 65535;
 
-// No round looks at part of the answers once there are this many: their numbers and SEVERAL could not be told apart.
-const MOST: usize = 65535;
+const SINGLE: usize = 65534;
 
 fn lesser(a: usize, b: usize) -> usize
     ensures { λ r. ⌜ r ≡ min a b ⌝ }
@@ -65,7 +61,7 @@ fn least_of(uses: &[u16], i: usize) -> usize
     requires { ⌜ (length (now uses) ≡ 327680) × (i < 65536) ⌝ }
     ensures { λ r. ⌜ (r ≡ least (now (uses .entry)) i) × (r ≤ 65535) ⌝ }
 {
-    65535 - number(uses, i)
+    65535 - number(uses, 3 * i)
 }
 
 // The greatest.
@@ -73,7 +69,31 @@ fn greatest_of(uses: &[u16], i: usize) -> usize
     requires { ⌜ (length (now uses) ≡ 327680) × (i < 65536) ⌝ }
     ensures { λ r. ⌜ (r ≡ greatest (now (uses .entry)) i) × (r ≤ 65535) ⌝ }
 {
-    number(uses, GREATEST + i)
+    number(uses, 3 * i + 1)
+}
+
+// One more than the answer after which walks come to record k.
+fn via_of(uses: &[u16], k: usize) -> usize
+    requires { ⌜ (length (now uses) ≡ 327680) × (k < 65536) ⌝ }
+    ensures { λ r. ⌜ (r ≡ via (now (uses .entry)) k) × (r ≤ 65535) ⌝ }
+{
+    number(uses, 3 * k + 2)
+}
+
+// The first of its answers that a round looks at.
+fn start_of(uses: &[u16], k: usize) -> usize
+    requires { ⌜ (length (now uses) ≡ 327680) × (k < 65536) ⌝ }
+    ensures { λ r. ⌜ (r ≡ start (now (uses .entry)) k) × (r ≤ 65535) ⌝ }
+{
+    number(uses, STARTS + 2 * k)
+}
+
+// The new answer for which it does.
+fn heat_of(uses: &[u16], k: usize) -> usize
+    requires { ⌜ (length (now uses) ≡ 327680) × (k < 65536) ⌝ }
+    ensures { λ r. ⌜ (r ≡ heat (now (uses .entry)) k) × (r ≤ 65535) ⌝ }
+{
+    number(uses, HEATS + 2 * k)
 }
 
 // Notes that a walk of record `row` has come to record `callee`.
@@ -83,8 +103,8 @@ fn note_caller(uses: &mut [u16], row: usize, callee: usize)
 {
     let low = lesser(least_of(uses, callee), row);
     let high = greater(greatest_of(uses, callee), row);
-    uses[callee] = (65535 - low) as u16;
-    uses[GREATEST + callee] = high as u16;
+    uses[3 * callee] = (65535 - low) as u16;
+    uses[3 * callee + 1] = high as u16;
 }
 
 // What is noted where walks have come after `was` and now come after `last`.
@@ -105,8 +125,8 @@ fn note_via(uses: &mut [u16], callee: usize, last: usize)
     requires { ⌜ (length (now uses) ≡ 327680) × (callee < 65536) ⌝ }
     ensures { λ _. ⌜ now (uses .exit) ≡ with-via (now (uses .entry)) last callee ⌝ }
 {
-    let was = number(uses, VIAS + callee);
-    uses[VIAS + callee] = after_both(was, last) as u16;
+    let was = via_of(uses, callee);
+    uses[3 * callee + 2] = after_both(was, last) as u16;
 }
 
 // Whether it is noted that a walk of record `row` has come to record `callee` after the answer `last - 1`, or after none.
@@ -123,7 +143,7 @@ fn is_noted(uses: &[u16], row: usize, callee: usize, last: usize) -> bool
     if last == 0 {
         return true;
     }
-    let via = number(uses, VIAS + callee);
+    let via = via_of(uses, callee);
     if via == last {
         return true;
     }
@@ -146,13 +166,13 @@ pub fn note(uses: &mut [u16], row: usize, callee: usize, last: usize)
     note_via(uses, callee, last);
 }
 
-// Has the round look at the answers of record k from y on, for the new answer `heat - 1`.
+// Has the round look at the answers of record k from y on, for the new answer `heat`.
 fn put_start(uses: &mut [u16], k: usize, y: usize, heat: usize)
     requires { ⌜ (length (now uses) ≡ 327680) × (k < 65536) × (y ≤ 65535) × (heat ≤ 65535) ⌝ }
     ensures { λ _. ⌜ now (uses .exit) ≡ with-start (now (uses .entry)) k y heat ⌝ }
 {
-    uses[STARTS + k] = y as u16;
-    uses[HEATS + k] = heat as u16;
+    uses[STARTS + 2 * k] = y as u16;
+    uses[HEATS + 2 * k] = heat as u16;
 }
 
 // The callers of all records with answers from `seen` up to `known`: from `low` up to `high`; and up to where a round looks at records.
@@ -174,9 +194,9 @@ fn look_at_new(
     requires { ⌜ (19 * known ≤ length (now answers)) × (known ≤ 65536) × (seen ≤ known)
         × (walked ≤ rows) × (rows ≤ 65536) × (length (now uses) ≡ 327680) ⌝ }
     requires { ⌜ ((x : ℕ) → x < known → getD (now answers) (19 * x) 0 < 65536) ⌝ }
-    requires { ⌜ ((k : ℕ) → heat (now uses) k ≤ seen) ⌝ }
+    requires { ⌜ ((k : ℕ) → heat (now uses) k ≤ seen - 1) ⌝ }
     ensures { λ r. ⌜ Spans (answers-in 19 (now (answers .entry)) known) (now (uses .entry)) walked seen known rows (r .low) (r .high) (r .top) ⌝ }
-    ensures { λ _. ⌜ Drawn (answers-in 19 (now (answers .entry)) known) (now (uses .entry)) (now (uses .exit)) seen known seen ⌝ }
+    ensures { λ _. ⌜ Lighted (answers-in 19 (now (answers .entry)) known) (now (uses .entry)) (now (uses .exit)) seen known seen ⌝ }
 {
     let mut low = walked;
     let mut high: usize = 0;
@@ -186,7 +206,7 @@ fn look_at_new(
         let k = tables::call_of(answers, x) as usize;
         low = lesser(low, least_of(uses, k));
         high = greater(high, greatest_of(uses, k) + 1);
-        put_start(uses, k, x, lesser(x + 1, MOST));
+        put_start(uses, k, x, x);
     }
     if walked < rows {
         return Within {
@@ -205,46 +225,51 @@ fn look_at_new(
 // Where x is the first new answer of its record: has the round look at the answer after which walks come to that record, and so on; false
 // where there are several.
 fn look_before(uses: &mut [u16], answers: &[u64], seen: usize, known: usize, x: usize) -> bool
-    requires { ⌜ (19 * known ≤ length (now answers)) × (known < 65535) × (seen ≤ x) × (x < known) × (length (now uses) ≡ 327680) ⌝ }
+    requires { ⌜ (19 * known ≤ length (now answers)) × (known ≤ 65536) × (seen ≤ x) × (x < known) × (length (now uses) ≡ 327680) ⌝ }
     requires { ⌜ ((x : ℕ) → x < known → getD (now answers) (19 * x) 0 < 65536) ⌝ }
     ensures { λ r. ⌜ ((uses₀ : List ℕ) → Looked (answers-in 19 (now (answers .entry)) known) uses₀ (now (uses .entry)) seen known x true
         → Looked (answers-in 19 (now (answers .entry)) known) uses₀ (now (uses .exit)) seen known (x + 1) r)
         × (length (now (uses .exit)) ≡ length (now (uses .entry))) ⌝ }
 {
     let first = tables::call_of(answers, x) as usize;
-    if number(uses, HEATS + first) != x + 1 {
+    if heat_of(uses, first) != x {
         return true;
     }
-    let mut via = number(uses, VIAS + first);
+    let most = lesser(known, SINGLE);
+    let mut via = via_of(uses, first);
     let mut left: usize = 65536;
     while 0 < left {
         if via == 0 {
             return true;
         }
-        if known < via {
+        if most < via {
             return false;
         }
         let y = via - 1;
         let k = tables::call_of(answers, y) as usize;
-        let heat = number(uses, HEATS + k);
-        if seen < heat {
-            let start = lesser(number(uses, STARTS + k), y);
+        let heat = heat_of(uses, k);
+        if seen <= heat {
+            let start = lesser(start_of(uses, k), y);
             put_start(uses, k, start, heat);
             return true;
         }
-        via = number(uses, VIAS + k);
-        put_start(uses, k, y, x + 1);
+        via = via_of(uses, k);
+        put_start(uses, k, y, x);
         left -= 1;
     }
     false
 }
 
-// Has the round look at the answers before those from `seen` on; whether all that it has to look at is known.
+// Has the round look at the answers before those from `seen` on; whether all that it has to look at is known. Where as many answers are new as
+// are old it is not worth the search.
 fn look_back(uses: &mut [u16], answers: &[u64], seen: usize, known: usize) -> bool
-    requires { ⌜ (19 * known ≤ length (now answers)) × (known < 65535) × (seen ≤ known) × (length (now uses) ≡ 327680) ⌝ }
+    requires { ⌜ (19 * known ≤ length (now answers)) × (known ≤ 65536) × (seen ≤ known) × (length (now uses) ≡ 327680) ⌝ }
     requires { ⌜ ((x : ℕ) → x < known → getD (now answers) (19 * x) 0 < 65536) ⌝ }
     ensures { λ r. ⌜ Looked (answers-in 19 (now (answers .entry)) known) (now (uses .entry)) (now (uses .exit)) seen known known r ⌝ }
 {
+    if seen + seen <= known {
+        return false;
+    }
     let mut x = seen;
     while x < known {
         let all = look_before(uses, answers, seen, known, x);
@@ -269,10 +294,10 @@ pub fn first_looked(
     requires { ⌜ ((m : ℕ) × (known ≤ m) × (19 * m ≤ length (now answers)) × AnswerIndex (answers-in 19 (now answers) m) (now «answer_index»)) ⌝ }
     ensures { λ r. ⌜ FirstHot (answers-in 19 (now (answers .entry)) known) (now (uses .entry)) seen known row r ⌝ }
 {
-    if number(uses, HEATS + row) <= seen {
+    if heat_of(uses, row) < seen {
         return known;
     }
-    let x = number(uses, STARTS + row);
+    let x = start_of(uses, row);
     if x < known {
         if tables::call_of(answers, x) == row as u64 {
             return x;
@@ -286,11 +311,10 @@ pub fn first_new(uses: &[u16], answers: &[u64], seen: usize, known: usize, row: 
     requires { ⌜ (row < 65536) × (19 * known ≤ length (now answers)) × (known ≤ 65536) × (length (now uses) ≡ 327680) ⌝ }
     ensures { λ r. ⌜ FirstNew (answers-in 19 (now (answers .entry)) known) (now (uses .entry)) seen known row r ⌝ }
 {
-    let heat = number(uses, HEATS + row);
-    if heat <= seen {
+    let x = heat_of(uses, row);
+    if x < seen {
         return known;
     }
-    let x = heat - 1;
     if x < known {
         if tables::call_of(answers, x) == row as u64 {
             return x;
@@ -310,7 +334,8 @@ pub struct Span {
     pub warm: bool,
 }
 
-// The span of a round: all callers of records with answers from `seen` up to `known`, and the records from `walked` on.
+// The span of a round: all callers of records with answers from `seen` up to `known`, and the records from `walked` on. While no answer is
+// old nothing is passed over.
 pub fn span_of(
     uses: &mut [u16],
     answers: &[u64],
@@ -322,12 +347,12 @@ pub fn span_of(
     requires { ⌜ (19 * known ≤ length (now answers)) × (known ≤ 65536) × (seen ≤ known)
         × (walked ≤ rows) × (rows ≤ 65536) × (length (now uses) ≡ 327680) ⌝ }
     requires { ⌜ ((x : ℕ) → x < known → getD (now answers) (19 * x) 0 < 65536) ⌝ }
-    requires { ⌜ ((k : ℕ) → heat (now uses) k ≤ seen) ⌝ }
+    requires { ⌜ ((k : ℕ) → heat (now uses) k ≤ seen - 1) ⌝ }
     ensures { λ r. ⌜ Spans (answers-in 19 (now (answers .entry)) known) (now (uses .exit)) walked seen known rows (r .low) (r .high) (r .top) ⌝ }
     ensures { λ r. ⌜ Begun (answers-in 19 (now (answers .entry)) known) (now (uses .entry)) (now (uses .exit)) walked seen known (r .old) (r .warm) ⌝ }
 {
     let within = look_at_new(uses, answers, seen, known, walked, rows);
-    if known < MOST {
+    if 0 < seen {
         let warm = look_back(uses, answers, seen, known);
         return Span {
             low: within.low,

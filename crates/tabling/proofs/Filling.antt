@@ -1,6 +1,6 @@
 -- The invariants of the nest of loops that fills the tables, and what it leaves. Each loop's invariant starts from the tables (marked ₀)
 -- that stood where that loop began. Assumes nothing.
-use Prim.Native.Nat.{ℕ, _+_, _/_, _<_, _≤_}
+use Prim.Native.Nat.{ℕ, _+_, _-_, _/_, _<_, _≤_}
 use native.Mathlib.Omega.{arith}
 use mathlib.Core.Path.{_≡_, refl, sym, ap, _∙_}
 use mathlib.Core.Bool.{Bool, true, false}
@@ -43,7 +43,7 @@ pub record Standing (rules goal : List ℕ) (first walked seen : ℕ) (calls : L
   pub indexed : Indexed calls n call-index answers m answer-index
   pub stamped : Stamped marks walk
   pub uses-long : length uses ≡ 327680
-  pub stale : (k : ℕ) → heat uses k ≤ seen
+  pub stale : (k : ℕ) → heat uses k ≤ seen - 1
   pub roots : List (ℕ × State)
   pub round : Round (bodies-of rules goal) (Among roots) first walked seen (in-words calls n answers m) uses
 
@@ -58,7 +58,7 @@ pub record Went (rules goal : List ℕ) (first walked seen : ℕ) (calls₀ : Li
   pub known-in : full ≡ false → m₀ ≤ m
   pub stamped : full ≡ false → Stamped marks walk
   pub uses-long : length uses ≡ length uses₀
-  pub stale : (k : ℕ) → heat uses k ≤ m₀
+  pub stale : (k : ℕ) → heat uses k ≤ m₀ - 1
   pub next : full ≡ false → (roots : List (ℕ × State)) → Round (bodies-of rules goal) (Among roots) first walked seen (in-words calls₀ n₀ answers₀ m₀) uses₀
       → Round (bodies-of rules goal) (Among roots) first n₀ m₀ (in-words calls n answers m) uses × (n + m ≡ n₀ + m₀ → Whole (bodies-of rules goal) (Among roots) first (in-words calls n answers m))
   pub outgrown : full ≡ true → (roots : List (ℕ × State)) → Round (bodies-of rules goal) (Among roots) first walked seen (in-words calls₀ n₀ answers₀ m₀) uses₀
@@ -72,7 +72,7 @@ module _ (rules goal : List ℕ) (first : ℕ) (calls₀ : List ℕ) (n₀ : ℕ
     pub kept : Kept calls n answers m
     pub indexed : Indexed calls n call-index answers m answer-index
     pub uses-long : length uses ≡ length uses₀
-    pub stale : (k : ℕ) → heat uses k ≤ seen
+    pub stale : (k : ℕ) → heat uses k ≤ seen - 1
     pub stamped : Stamped marks walk
     pub round : (roots : List (ℕ × State)) → Valid (bodies-of rules goal) (Among roots) (in-words calls₀ n₀ answers₀ m₀) → Round (bodies-of rules goal) (Among roots) first walked seen (in-words calls n answers m) uses
 

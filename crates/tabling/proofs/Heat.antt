@@ -1,10 +1,10 @@
 -- How a round finds the answers to look at again: first the new ones, from the last to the first; then, from each record with new answers, back
 -- to the answer after which walks come to it, and so on, up to a record that is come to after none or that is looked at already. Assumes nothing.
-use Prim.Native.Nat.{ℕ, _+_, _-_, _<_, _≤_, min}
+use Prim.Native.Nat.{ℕ, _+_, _-_, _*_, _<_, _≤_, min}
 use native.Mathlib.Omega.{arith}
 use native.Mathlib.Decide.{ℕ-discrete, decLt}
 use mathlib.Core.Path.{_≡_, refl, sym, subst, ap, _∙_}
-use mathlib.Core.Bool.{Bool, true}
+use mathlib.Core.Bool.{Bool, true, false}
 use mathlib.Core.List.{List}
 use mathlib.Core.Logic.{_⊎_, inl, inr}
 use lib.ListN.{length, getD, set, length-set}
@@ -13,39 +13,39 @@ use Rattle.steps.proofs.EachBelow.{true-not-false}
 use Rattle.tabling.specs.Records.{Answers}
 use Rattle.tabling.proofs.Uses.{via, start, heat, Hot, Newest, Up, Warm, Lit}
 
--- The numbers with the answers of record k from y on looked at, for the answer h - 1.
+-- The numbers with the answers of record k from y on looked at, for the answer h.
 unfoldable pub with-start : List ℕ → ℕ → ℕ → ℕ → List ℕ
-with-start uses k y h = set (set uses (196608 + k) y) (262144 + k) h
+with-start uses k y h = set (set uses (196608 + 2 * k) y) (196609 + 2 * k) h
 
 -- The new answer for which record k is looked at is its own.
 abbrev Own : Answers → List ℕ → ℕ → Type 0
-Own answers uses k = answers .call (heat uses k - 1) ≡ k
+Own answers uses k = answers .call (heat uses k) ≡ k
 
 module _ (uses : List ℕ) (k y h : ℕ) (long : length uses ≡ 327680) (small : k < 65536) where
   pub start-long : length (with-start uses k y h) ≡ length uses
   unfolding with-start
-  start-long = length-set (set uses (196608 + k) y) (262144 + k) h ∙ length-set uses (196608 + k) y
+  start-long = length-set (set uses (196608 + 2 * k) y) (196609 + 2 * k) h ∙ length-set uses (196608 + 2 * k) y
 
-  other : (i : ℕ) → (i ≡ 196608 + k → ⊥) → (i ≡ 262144 + k → ⊥) → getD (with-start uses k y h) i 0 ≡ getD uses i 0
+  other : (i : ℕ) → (i ≡ 196608 + 2 * k → ⊥) → (i ≡ 196609 + 2 * k → ⊥) → getD (with-start uses k y h) i 0 ≡ getD uses i 0
   unfolding with-start
-  other i n m = getD-set-other (set uses (196608 + k) y) (262144 + k) i h 0 m ∙ getD-set-other uses (196608 + k) i y 0 n
+  other i n m = getD-set-other (set uses (196608 + 2 * k) y) (196609 + 2 * k) i h 0 m ∙ getD-set-other uses (196608 + 2 * k) i y 0 n
 
   start-here : start (with-start uses k y h) k ≡ y
   unfolding with-start
-  start-here = getD-set-other (set uses (196608 + k) y) (262144 + k) (196608 + k) h 0 (omega arith) ∙ getD-set-same uses (196608 + k) y 0 (omega arith)
+  start-here = getD-set-other (set uses (196608 + 2 * k) y) (196609 + 2 * k) (196608 + 2 * k) h 0 (omega arith) ∙ getD-set-same uses (196608 + 2 * k) y 0 (omega arith)
 
   heat-here : heat (with-start uses k y h) k ≡ h
   unfolding with-start
-  heat-here = getD-set-same (set uses (196608 + k) y) (262144 + k) h 0 (omega (arith, length-set uses (196608 + k) y))
+  heat-here = getD-set-same (set uses (196608 + 2 * k) y) (196609 + 2 * k) h 0 (omega (arith, length-set uses (196608 + 2 * k) y))
 
   pub start-low : (i : ℕ) → i < 196608 → getD (with-start uses k y h) i 0 ≡ getD uses i 0
   start-low i l = other i (omega arith) (omega arith)
 
   heat-other : (i : ℕ) → (i ≡ k → ⊥) → heat (with-start uses k y h) i ≡ heat uses i
-  heat-other i n = other (262144 + i) (omega arith) (omega arith)
+  heat-other i n = other (196609 + 2 * i) (omega arith) (λ e. n (omega arith))
 
   start-other : (i : ℕ) → i < 65536 → (i ≡ k → ⊥) → start (with-start uses k y h) i ≡ start uses i
-  start-other i l n = other (196608 + i) (omega arith) (omega arith)
+  start-other i l n = other (196608 + 2 * i) (λ e. n (omega arith)) (omega arith)
 
   pub heat-most : (most : ℕ) → h ≤ most → ((i : ℕ) → heat uses i ≤ most) → (i : ℕ) → heat (with-start uses k y h) i ≤ most
   heat-most most l m i = by (ℕ-discrete i k)
@@ -56,22 +56,22 @@ module _ (uses : List ℕ) (k y h : ℕ) (long : length uses ≡ 327680) (small 
 
   module _ (answers : Answers) (seen : ℕ) where
     -- what was looked at still is, if k was not, or not before y
-    pub start-hot : seen < h → (seen < heat uses k → y ≤ start uses k) → (z : ℕ) → Hot answers uses seen z → Hot answers (with-start uses k y h) seen z
+    pub start-hot : seen ≤ h → (seen ≤ heat uses k → y ≤ start uses k) → (z : ℕ) → Hot answers uses seen z → Hot answers (with-start uses k y h) seen z
     start-hot lit more z (l, a, b) = by (ℕ-discrete (answers .call z) k)
       where
         by : Dec (answers .call z ≡ k) → Hot answers (with-start uses k y h) seen z
         by (yes e) = rw (e, start-here, heat-here) (small, lit, omega (arith, more (rw e at a), rw e at b))
         by (no n) = rw (start-other (answers .call z) l n, heat-other (answers .call z) n) (l, a, b)
 
-    pub start-new : seen < h → (z : ℕ) → answers .call z ≡ k → y ≤ z → Hot answers (with-start uses k y h) seen z
+    pub start-new : seen ≤ h → (z : ℕ) → answers .call z ≡ k → y ≤ z → Hot answers (with-start uses k y h) seen z
     start-new lit z e l = rw (e, start-here, heat-here) (small, lit, l)
 
-    pub start-up : seen < h → (seen < heat uses k → y ≤ start uses k) → (known i : ℕ) → i < 65536 → Up answers uses seen known i → Up answers (with-start uses k y h) seen known i
-    start-up lit more known i l (inl e) = inl (start-low (131072 + i) (omega arith) ∙ e)
-    start-up lit more known i l (inr (z, e, j, w)) = inr (z, start-low (131072 + i) (omega arith) ∙ e, j, start-hot lit more z w)
+    pub start-up : seen ≤ h → (seen ≤ heat uses k → y ≤ start uses k) → (known i : ℕ) → i < 65536 → Up answers uses seen known i → Up answers (with-start uses k y h) seen known i
+    start-up lit more known i l (inl e) = inl (start-low (3 * i + 2) (omega arith) ∙ e)
+    start-up lit more known i l (inr (z, e, j, w)) = inr (z, start-low (3 * i + 2) (omega arith) ∙ e, j, start-hot lit more z w)
 
     -- the first of the new answers stays noted
-    pub start-newest : (seen < heat uses k → h ≡ heat uses k) → (z : ℕ) → Newest answers uses seen z → Newest answers (with-start uses k y h) seen z
+    pub start-newest : (seen ≤ heat uses k → h ≡ heat uses k) → (z : ℕ) → Newest answers uses seen z → Newest answers (with-start uses k y h) seen z
     start-newest same z (l, a, b, c) = by (ℕ-discrete (answers .call z) k)
       where
         by : Dec (answers .call z ≡ k) → Newest answers (with-start uses k y h) seen z
@@ -82,83 +82,58 @@ module _ (uses : List ℕ) (k y h : ℕ) (long : length uses ≡ 327680) (small 
 
 -- ---- the new answers
 
--- The new answers from x on are noted.
+-- The new answers from x on are noted. Where there are old ones, no other record is looked at yet.
 pub record Lighted (answers : Answers) (uses uses′ : List ℕ) (seen known x : ℕ) : Type 0 where
   pub long : length uses′ ≡ length uses
   pub low : (i : ℕ) → i < 196608 → getD uses′ i 0 ≡ getD uses i 0
-  pub most : (k : ℕ) → heat uses′ k ≤ known
+  pub most : (k : ℕ) → heat uses′ k ≤ known - 1
   pub newest : (y : ℕ) → x ≤ y → y < known → Newest answers uses′ seen y
   pub hot : (y : ℕ) → x ≤ y → y < known → Hot answers uses′ seen y
-  pub own : (k : ℕ) → seen < heat uses′ k → Own answers uses′ k
+  pub own : 0 < seen → (k : ℕ) → seen ≤ heat uses′ k → Own answers uses′ k
 
-pub light-start : (answers : Answers) (uses : List ℕ) (seen known : ℕ) → seen ≤ known → ((k : ℕ) → heat uses k ≤ seen) → Lighted answers uses uses seen known known
+pub light-start : (answers : Answers) (uses : List ℕ) (seen known : ℕ) → seen ≤ known → ((k : ℕ) → heat uses k ≤ seen - 1) → Lighted answers uses uses seen known known
 light-start answers uses seen known in-order stale = record {
   long = refl;
   low = λ i l. refl;
   most = λ k. omega (arith, stale k);
   newest = λ y l h. absurd (omega arith);
   hot = λ y l h. absurd (omega arith);
-  own = λ k l. absurd (omega (arith, stale k));
+  own = λ some k l. absurd (omega (arith, stale k));
 }
 
 pub light-next : {answers : Answers} {uses uses′ : List ℕ} {seen known x k : ℕ} → length uses ≡ 327680 → Lighted answers uses uses′ seen known (x + 1) → seen ≤ x → x < known → answers .call x ≡ k → k < 65536
-    → Lighted answers uses (with-start uses′ k x (x + 1)) seen known x
+    → Lighted answers uses (with-start uses′ k x x) seen known x
 light-next {answers} {uses} {uses′} {seen} {known} {x} {k} long L after below e small = record {
-  long = start-long uses′ k x (x + 1) long′ small ∙ L .long;
-  low = λ i l. start-low uses′ k x (x + 1) long′ small i l ∙ L .low i l;
-  most = heat-most uses′ k x (x + 1) long′ small known (omega arith) (L .most);
+  long = start-long uses′ k x x long′ small ∙ L .long;
+  low = λ i l. start-low uses′ k x x long′ small i l ∙ L .low i l;
+  most = heat-most uses′ k x x long′ small (known - 1) (omega arith) (L .most);
   newest = λ y l h. newest y l h (ℕ-discrete (answers .call y) k);
   hot = λ y l h. hot y l h (ℕ-discrete (answers .call y) k);
-  own = λ i l. own i l (ℕ-discrete i k);
+  own = λ some i l. own some i l (ℕ-discrete i k);
 }
   where
     long′ : length uses′ ≡ 327680
     long′ = L .long ∙ long
 
-    here : heat (with-start uses′ k x (x + 1)) k ≡ x + 1
-    here = heat-here uses′ k x (x + 1) long′ small
-
-    of-k : answers .call (x + 1 - 1) ≡ k
-    of-k = let z : x + 1 - 1 ≡ x = omega arith in rw z e
+    here : heat (with-start uses′ k x x) k ≡ x
+    here = heat-here uses′ k x x long′ small
 
     later : {y : ℕ} → x ≤ y → (answers .call y ≡ k → ⊥) → x + 1 ≤ y
     later {y} l n = elim (ℕ-discrete x y) [ yes z ↦ absurd (n (subst (λ (i : ℕ). answers .call i ≡ k) z e)) | no m ↦ omega arith ]
 
-    newest : (y : ℕ) → x ≤ y → y < known → Dec (answers .call y ≡ k) → Newest answers (with-start uses′ k x (x + 1)) seen y
-    newest y l h (yes z) = rw (z, here) (small, omega arith, omega arith, of-k)
-    newest y l h (no n) = rw (heat-other uses′ k x (x + 1) long′ small (answers .call y) n) (L .newest y (later l n) h)
+    newest : (y : ℕ) → x ≤ y → y < known → Dec (answers .call y ≡ k) → Newest answers (with-start uses′ k x x) seen y
+    newest y l h (yes z) = rw (z, here) (small, after, l, e)
+    newest y l h (no n) = rw (heat-other uses′ k x x long′ small (answers .call y) n) (L .newest y (later l n) h)
 
-    hot : (y : ℕ) → x ≤ y → y < known → Dec (answers .call y ≡ k) → Hot answers (with-start uses′ k x (x + 1)) seen y
-    hot y l h (yes z) = start-new uses′ k x (x + 1) long′ small answers seen (omega arith) y z l
+    hot : (y : ℕ) → x ≤ y → y < known → Dec (answers .call y ≡ k) → Hot answers (with-start uses′ k x x) seen y
+    hot y l h (yes z) = start-new uses′ k x x long′ small answers seen after y z l
     hot y l h (no n) =
         let w : Hot answers uses′ seen y = L .hot y (later l n) h in
-        rw (start-other uses′ k x (x + 1) long′ small (answers .call y) (w .0) n, heat-other uses′ k x (x + 1) long′ small (answers .call y) n) w
+        rw (start-other uses′ k x x long′ small (answers .call y) (w .0) n, heat-other uses′ k x x long′ small (answers .call y) n) w
 
-    own : (i : ℕ) → seen < heat (with-start uses′ k x (x + 1)) i → Dec (i ≡ k) → Own answers (with-start uses′ k x (x + 1)) i
-    own i l (yes z) = rw (z, here) of-k
-    own i l (no n) = let f = heat-other uses′ k x (x + 1) long′ small i n in rw f (L .own i (rw f at l))
-
--- The same for any number of answers, where what is noted of them serves only below 65,535.
-pub record Drawn (answers : Answers) (uses uses′ : List ℕ) (seen known x : ℕ) : Type 0 where
-  pub long : length uses′ ≡ length uses
-  pub low : (i : ℕ) → i < 196608 → getD uses′ i 0 ≡ getD uses i 0
-  pub most : (k : ℕ) → heat uses′ k ≤ known
-  pub lighted : known < 65535 → Lighted answers uses uses′ seen known x
-
-pub drawn-start : (answers : Answers) (uses : List ℕ) (seen known : ℕ) → seen ≤ known → ((k : ℕ) → heat uses k ≤ seen) → Drawn answers uses uses seen known known
-drawn-start answers uses seen known in-order stale = let L = light-start answers uses seen known in-order stale in record { long = L .long; low = L .low; most = L .most; lighted = λ _. L }
-
-pub drawn-next : {answers : Answers} {uses uses′ : List ℕ} {seen known x k h : ℕ} → length uses ≡ 327680 → Drawn answers uses uses′ seen known (x + 1) → seen ≤ x → x < known → answers .call x ≡ k → k < 65536 → h ≡ min (x + 1) 65535
-    → Drawn answers uses (with-start uses′ k x h) seen known x
-drawn-next {answers} {uses} {uses′} {seen} {known} {x} {k} {h} long D after below e small z = record {
-  long = start-long uses′ k x h long′ small ∙ D .long;
-  low = λ i l. start-low uses′ k x h long′ small i l ∙ D .low i l;
-  most = heat-most uses′ k x h long′ small known (omega arith) (D .most);
-  lighted = λ few. (let s : h ≡ x + 1 = omega arith in rw s (light-next long (D .lighted few) after below e small));
-}
-  where
-    long′ : length uses′ ≡ 327680
-    long′ = D .long ∙ long
+    own : 0 < seen → (i : ℕ) → seen ≤ heat (with-start uses′ k x x) i → Dec (i ≡ k) → Own answers (with-start uses′ k x x) i
+    own some i l (yes z) = rw (z, here) e
+    own some i l (no n) = let f = heat-other uses′ k x x long′ small i n in rw f (L .own some i (rw f at l))
 
 -- ---- the answers before them
 
@@ -167,36 +142,39 @@ drawn-next {answers} {uses} {uses′} {seen} {known} {x} {k} {h} long D after be
 pub record Looked (answers : Answers) (uses uses′ : List ℕ) (seen known x : ℕ) (ok : Bool) : Type 0 where
   pub long : length uses′ ≡ length uses
   pub low : (i : ℕ) → i < 196608 → getD uses′ i 0 ≡ getD uses i 0
-  pub most : ((k : ℕ) → heat uses k ≤ known) → (k : ℕ) → heat uses′ k ≤ known
+  pub most : ((k : ℕ) → heat uses k ≤ known - 1) → (k : ℕ) → heat uses′ k ≤ known - 1
   pub newest : (y : ℕ) → Newest answers uses seen y → Newest answers uses′ seen y
   pub hot : (y : ℕ) → Hot answers uses seen y → Hot answers uses′ seen y
-  pub up : ok ≡ true → ((k : ℕ) → seen < heat uses k → Own answers uses k) → (k : ℕ) → k < 65536 → seen < heat uses′ k → Up answers uses′ seen known k ⊎ ((x < heat uses′ k) × Own answers uses′ k)
+  pub up : ok ≡ true → ((k : ℕ) → seen ≤ heat uses k → Own answers uses k) → (k : ℕ) → k < 65536 → seen ≤ heat uses′ k → Up answers uses′ seen known k ⊎ ((x ≤ heat uses′ k) × Own answers uses′ k)
 
 pub look-start : (answers : Answers) (uses : List ℕ) (seen known : ℕ) → Looked answers uses uses seen known seen true
 look-start answers uses seen known = record { long = refl; low = λ i l. refl; most = λ m. m; newest = λ y n. n; hot = λ y h. h; up = λ e own k l h. inr (h, own k h) }
+
+-- or it is not even begun
+pub look-none : (answers : Answers) (uses : List ℕ) (seen known x : ℕ) → Looked answers uses uses seen known x false
+look-none answers uses seen known x = record { long = refl; low = λ i l. refl; most = λ m. m; newest = λ y n. n; hot = λ y h. h; up = λ e. absurd (true-not-false (sym e)) }
 
 -- The answer of number w less one, after which a record comes that is looked at for the new answer x, is still to be looked at.
 pub record Heating (answers : Answers) (uses uses′ : List ℕ) (seen known x w : ℕ) : Type 0 where
   pub long : length uses′ ≡ length uses
   pub low : (i : ℕ) → i < 196608 → getD uses′ i 0 ≡ getD uses i 0
-  pub most : ((k : ℕ) → heat uses k ≤ known) → (k : ℕ) → heat uses′ k ≤ known
+  pub most : ((k : ℕ) → heat uses k ≤ known - 1) → (k : ℕ) → heat uses′ k ≤ known - 1
   pub newest : (y : ℕ) → Newest answers uses seen y → Newest answers uses′ seen y
   pub hot : (y : ℕ) → Hot answers uses seen y → Hot answers uses′ seen y
-  pub up : ((k : ℕ) → seen < heat uses k → Own answers uses k) → (k : ℕ) → k < 65536 → seen < heat uses′ k
-      → Up answers uses′ seen known k ⊎ (((x + 1 < heat uses′ k) × Own answers uses′ k) ⊎ (via uses′ k ≡ w))
+  pub up : ((k : ℕ) → seen ≤ heat uses k → Own answers uses k) → (k : ℕ) → k < 65536 → seen ≤ heat uses′ k
+      → Up answers uses′ seen known k ⊎ (((x + 1 ≤ heat uses′ k) × Own answers uses′ k) ⊎ (via uses′ k ≡ w))
 
 -- x is not the first new answer of its record: there is nothing to do for it
-pub look-other : {answers : Answers} {uses uses′ : List ℕ} {seen known x : ℕ} → Looked answers uses uses′ seen known x true → (heat uses′ (answers .call x) ≡ x + 1 → ⊥) → Looked answers uses uses′ seen known (x + 1) true
+pub look-other : {answers : Answers} {uses uses′ : List ℕ} {seen known x : ℕ} → Looked answers uses uses′ seen known x true → (heat uses′ (answers .call x) ≡ x → ⊥) → Looked answers uses uses′ seen known (x + 1) true
 look-other {answers} {uses} {uses′} {seen} {known} {x} L n = record { long = L .long; low = L .low; most = L .most; newest = L .newest; hot = L .hot; up = λ e own k l h. up k (L .up e own k l h) }
   where
-    up : (k : ℕ) → Up answers uses′ seen known k ⊎ ((x < heat uses′ k) × Own answers uses′ k) → Up answers uses′ seen known k ⊎ ((x + 1 < heat uses′ k) × Own answers uses′ k)
+    up : (k : ℕ) → Up answers uses′ seen known k ⊎ ((x ≤ heat uses′ k) × Own answers uses′ k) → Up answers uses′ seen known k ⊎ ((x + 1 ≤ heat uses′ k) × Own answers uses′ k)
     up k (inl u) = inl u
-    up k (inr (l, o)) = by (ℕ-discrete (heat uses′ k) (x + 1))
+    up k (inr (l, o)) = by (ℕ-discrete (heat uses′ k) x)
       where
-        by : Dec (heat uses′ k ≡ x + 1) → Up answers uses′ seen known k ⊎ ((x + 1 < heat uses′ k) × Own answers uses′ k)
+        by : Dec (heat uses′ k ≡ x) → Up answers uses′ seen known k ⊎ ((x + 1 ≤ heat uses′ k) × Own answers uses′ k)
         by (yes e) =
-            let z : heat uses′ k - 1 ≡ x = omega arith in
-            let c : answers .call x ≡ k = sym (ap (answers .call) z) ∙ o in
+            let c : answers .call x ≡ k = sym (ap (answers .call) e) ∙ o in
             absurd (n (rw c e))
         by (no m) = inr (omega arith, o)
 
@@ -204,13 +182,13 @@ look-other {answers} {uses} {uses′} {seen} {known} {x} L n = record { long = L
 pub heat-start : {answers : Answers} {uses uses′ : List ℕ} {seen known x : ℕ} → Looked answers uses uses′ seen known x true → Heating answers uses uses′ seen known x (via uses′ (answers .call x))
 heat-start {answers} {uses} {uses′} {seen} {known} {x} L = record { long = L .long; low = L .low; most = L .most; newest = L .newest; hot = L .hot; up = λ own k l h. up k (L .up refl own k l h) }
   where
-    up : (k : ℕ) → Up answers uses′ seen known k ⊎ ((x < heat uses′ k) × Own answers uses′ k)
-        → Up answers uses′ seen known k ⊎ (((x + 1 < heat uses′ k) × Own answers uses′ k) ⊎ (via uses′ k ≡ via uses′ (answers .call x)))
+    up : (k : ℕ) → Up answers uses′ seen known k ⊎ ((x ≤ heat uses′ k) × Own answers uses′ k)
+        → Up answers uses′ seen known k ⊎ (((x + 1 ≤ heat uses′ k) × Own answers uses′ k) ⊎ (via uses′ k ≡ via uses′ (answers .call x)))
     up k (inl u) = inl u
-    up k (inr (l, o)) = by (ℕ-discrete (heat uses′ k) (x + 1))
+    up k (inr (l, o)) = by (ℕ-discrete (heat uses′ k) x)
       where
-        by : Dec (heat uses′ k ≡ x + 1) → Up answers uses′ seen known k ⊎ (((x + 1 < heat uses′ k) × Own answers uses′ k) ⊎ (via uses′ k ≡ via uses′ (answers .call x)))
-        by (yes e) = let z : heat uses′ k - 1 ≡ x = omega arith in inr (inr (ap (via uses′) (sym o ∙ ap (answers .call) z)))
+        by : Dec (heat uses′ k ≡ x) → Up answers uses′ seen known k ⊎ (((x + 1 ≤ heat uses′ k) × Own answers uses′ k) ⊎ (via uses′ k ≡ via uses′ (answers .call x)))
+        by (yes e) = inr (inr (ap (via uses′) (sym o ∙ ap (answers .call) e)))
         by (no m) = inr (inl (omega arith, o))
 
 -- it may be given up at any time
@@ -221,14 +199,14 @@ heat-stop ok H n = record { long = H .long; low = H .low; most = H .most; newest
 pub heat-none : {answers : Answers} {uses uses′ : List ℕ} {seen known x w : ℕ} → Heating answers uses uses′ seen known x w → w ≡ 0 → Looked answers uses uses′ seen known (x + 1) true
 heat-none {answers} {uses} {uses′} {seen} {known} {x} {w} H e = record { long = H .long; low = H .low; most = H .most; newest = H .newest; hot = H .hot; up = λ _ own k l h. up k (H .up own k l h) }
   where
-    up : (k : ℕ) → Up answers uses′ seen known k ⊎ (((x + 1 < heat uses′ k) × Own answers uses′ k) ⊎ (via uses′ k ≡ w)) → Up answers uses′ seen known k ⊎ ((x + 1 < heat uses′ k) × Own answers uses′ k)
+    up : (k : ℕ) → Up answers uses′ seen known k ⊎ (((x + 1 ≤ heat uses′ k) × Own answers uses′ k) ⊎ (via uses′ k ≡ w)) → Up answers uses′ seen known k ⊎ ((x + 1 ≤ heat uses′ k) × Own answers uses′ k)
     up k (inl u) = inl u
     up k (inr (inl p)) = inr p
     up k (inr (inr z)) = inl (inl (z ∙ e))
 
 -- One more record is looked at, that of the answer y before: from `from` on, for the answer h - 1.
-module _ {answers : Answers} {uses uses′ : List ℕ} {seen known x y : ℕ} (long : length uses ≡ 327680) (H : Heating answers uses uses′ seen known x (y + 1)) (inside : y < known) (small : answers .call y < 65536) (from h : ℕ) (before : from ≤ y)
-    (lit : seen < h) (most : ((i : ℕ) → heat uses i ≤ known) → h ≤ known) (more : seen < heat uses′ (answers .call y) → from ≤ start uses′ (answers .call y)) (same : seen < heat uses′ (answers .call y) → h ≡ heat uses′ (answers .call y)) where
+module _ {answers : Answers} {uses uses′ : List ℕ} {seen known x y : ℕ} (long : length uses ≡ 327680) (H : Heating answers uses uses′ seen known x (y + 1)) (inside : y < min known 65534) (small : answers .call y < 65536) (from h : ℕ) (before : from ≤ y)
+    (lit : seen ≤ h) (most : ((i : ℕ) → heat uses i ≤ known - 1) → h ≤ known - 1) (more : seen ≤ heat uses′ (answers .call y) → from ≤ start uses′ (answers .call y)) (same : seen ≤ heat uses′ (answers .call y) → h ≡ heat uses′ (answers .call y)) where
   abbrev k : ℕ
   k = answers .call y
 
@@ -242,20 +220,20 @@ module _ {answers : Answers} {uses uses′ : List ℕ} {seen known x y : ℕ} (l
   hot-here = start-new uses′ k from h long′ small answers seen lit y refl before
 
   -- a record that was looked at, and is not that of y
-  up-other : ((i : ℕ) → seen < heat uses i → Own answers uses i) → (i : ℕ) → i < 65536 → seen < heat uses′ i → heat after i ≡ heat uses′ i → Up answers after seen known i ⊎ ((x + 1 < heat after i) × Own answers after i)
+  up-other : ((i : ℕ) → seen ≤ heat uses i → Own answers uses i) → (i : ℕ) → i < 65536 → seen ≤ heat uses′ i → heat after i ≡ heat uses′ i → Up answers after seen known i ⊎ ((x + 1 ≤ heat after i) × Own answers after i)
   up-other own i l e f = by (H .up own i l e)
     where
-      by : Up answers uses′ seen known i ⊎ (((x + 1 < heat uses′ i) × Own answers uses′ i) ⊎ (via uses′ i ≡ y + 1)) → Up answers after seen known i ⊎ ((x + 1 < heat after i) × Own answers after i)
+      by : Up answers uses′ seen known i ⊎ (((x + 1 ≤ heat uses′ i) × Own answers uses′ i) ⊎ (via uses′ i ≡ y + 1)) → Up answers after seen known i ⊎ ((x + 1 ≤ heat after i) × Own answers after i)
       by (inl u) = inl (start-up uses′ k from h long′ small answers seen lit more known i l u)
       by (inr (inl (a, o))) = inr (rw f (a, o))
-      by (inr (inr z)) = inl (inr (y, start-low uses′ k from h long′ small (131072 + i) (omega arith) ∙ z, inside, hot-here))
+      by (inr (inr z)) = inl (inr (y, start-low uses′ k from h long′ small (3 * i + 2) (omega arith) ∙ z, inside, hot-here))
 
   -- it was looked at already
-  pub heat-done : seen < heat uses′ k → Looked answers uses after seen known (x + 1) true
+  pub heat-done : seen ≤ heat uses′ k → Looked answers uses after seen known (x + 1) true
   heat-done was = record {
     long = start-long uses′ k from h long′ small ∙ H .long;
     low = λ i l. start-low uses′ k from h long′ small i l ∙ H .low i l;
-    most = λ m. heat-most uses′ k from h long′ small known (most m) (H .most m);
+    most = λ m. heat-most uses′ k from h long′ small (known - 1) (most m) (H .most m);
     newest = λ z n. start-newest uses′ k from h long′ small answers seen same z (H .newest z n);
     hot = λ z n. start-hot uses′ k from h long′ small answers seen lit more z (H .hot z n);
     up = λ _ own i l f. (let e = heats i (ℕ-discrete i k) in up-other own i l (rw e at f) e);
@@ -270,19 +248,19 @@ module _ {answers : Answers} {uses uses′ : List ℕ} {seen known x y : ℕ} (l
   heat-next = record {
     long = start-long uses′ k from h long′ small ∙ H .long;
     low = λ i l. start-low uses′ k from h long′ small i l ∙ H .low i l;
-    most = λ m. heat-most uses′ k from h long′ small known (most m) (H .most m);
+    most = λ m. heat-most uses′ k from h long′ small (known - 1) (most m) (H .most m);
     newest = λ z n. start-newest uses′ k from h long′ small answers seen same z (H .newest z n);
     hot = λ z n. start-hot uses′ k from h long′ small answers seen lit more z (H .hot z n);
     up = λ own i l f. up own i l f (ℕ-discrete i k);
   }
     where
-      wide : {i : ℕ} → Up answers after seen known i ⊎ ((x + 1 < heat after i) × Own answers after i) → Up answers after seen known i ⊎ (((x + 1 < heat after i) × Own answers after i) ⊎ (via after i ≡ via uses′ k))
+      wide : {i : ℕ} → Up answers after seen known i ⊎ ((x + 1 ≤ heat after i) × Own answers after i) → Up answers after seen known i ⊎ (((x + 1 ≤ heat after i) × Own answers after i) ⊎ (via after i ≡ via uses′ k))
       wide (inl u) = inl u
       wide (inr p) = inr (inl p)
 
-      up : ((i : ℕ) → seen < heat uses i → Own answers uses i) → (i : ℕ) → i < 65536 → seen < heat after i → Dec (i ≡ k)
-          → Up answers after seen known i ⊎ (((x + 1 < heat after i) × Own answers after i) ⊎ (via after i ≡ via uses′ k))
-      up own i l f (yes z) = inr (inr (start-low uses′ k from h long′ small (131072 + i) (omega arith) ∙ ap (via uses′) z))
+      up : ((i : ℕ) → seen ≤ heat uses i → Own answers uses i) → (i : ℕ) → i < 65536 → seen ≤ heat after i → Dec (i ≡ k)
+          → Up answers after seen known i ⊎ (((x + 1 ≤ heat after i) × Own answers after i) ⊎ (via after i ≡ via uses′ k))
+      up own i l f (yes z) = inr (inr (start-low uses′ k from h long′ small (3 * i + 2) (omega arith) ∙ ap (via uses′) z))
       up own i l f (no n) = let e = heat-other uses′ k from h long′ small i n in wide (up-other own i l (rw e at f) e)
 
 -- ---- both
@@ -295,12 +273,12 @@ look-stop y L n = record { long = L .long; low = L .low; most = L .most; newest 
 pub record Begun (answers : Answers) (uses uses′ : List ℕ) (walked seen known old : ℕ) (warm : Bool) : Type 0 where
   pub long : length uses′ ≡ length uses
   pub low : (i : ℕ) → i < 196608 → getD uses′ i 0 ≡ getD uses i 0
-  pub stale : (k : ℕ) → heat uses′ k ≤ known
+  pub stale : (k : ℕ) → heat uses′ k ≤ known - 1
   pub lit : (r : ℕ) → r < old → (r < walked) × Lit answers uses′ seen known warm
 
-pub begun : {answers : Answers} {uses uses′ uses″ : List ℕ} {seen known : ℕ} {ok : Bool} (walked : ℕ) → known < 65535 → Lighted answers uses uses′ seen known seen → Looked answers uses′ uses″ seen known known ok
+pub begun : {answers : Answers} {uses uses′ uses″ : List ℕ} {seen known : ℕ} {ok : Bool} (walked : ℕ) → 0 < seen → seen ≤ known → Lighted answers uses uses′ seen known seen → Looked answers uses′ uses″ seen known known ok
     → Begun answers uses uses″ walked seen known walked ok
-begun {answers} {uses} {uses′} {uses″} {seen} {known} walked few L R = record {
+begun {answers} {uses} {uses′} {uses″} {seen} {known} walked some in-order L R = record {
   long = R .long ∙ L .long;
   low = λ i l. R .low i l ∙ L .low i l;
   stale = most;
@@ -308,18 +286,18 @@ begun {answers} {uses} {uses′} {uses″} {seen} {known} walked few L R = recor
     l,
     record {
       newest = λ y i h. R .newest y (L .newest y i h);
-      looked = λ e. record { few = few; new = λ y i h. R .hot y (L .hot y i h); up = λ k i h. up k (R .up e (L .own) k i h) };
+      looked = λ e. record { new = λ y i h. R .hot y (L .hot y i h); up = λ k i h. up k (R .up e (L .own some) k i h) };
     },
   );
 }
   where
-    most : (k : ℕ) → heat uses″ k ≤ known
+    most : (k : ℕ) → heat uses″ k ≤ known - 1
     most = R .most (L .most)
 
-    up : (k : ℕ) → Up answers uses″ seen known k ⊎ ((known < heat uses″ k) × Own answers uses″ k) → Up answers uses″ seen known k
+    up : (k : ℕ) → Up answers uses″ seen known k ⊎ ((known ≤ heat uses″ k) × Own answers uses″ k) → Up answers uses″ seen known k
     up k (inl u) = u
     up k (inr (l, o)) = absurd (omega (arith, most k))
 
 -- or no record is passed over
-pub begun-none : {answers : Answers} {uses uses′ : List ℕ} {seen known : ℕ} (walked : ℕ) (warm : Bool) → Drawn answers uses uses′ seen known seen → Begun answers uses uses′ walked seen known 0 warm
-begun-none walked warm D = record { long = D .long; low = D .low; stale = D .most; lit = λ r l. absurd (omega arith) }
+pub begun-none : {answers : Answers} {uses uses′ : List ℕ} {seen known : ℕ} (walked : ℕ) (warm : Bool) → Lighted answers uses uses′ seen known seen → Begun answers uses uses′ walked seen known 0 warm
+begun-none walked warm L = record { long = L .long; low = L .low; stale = L .most; lit = λ r l. absurd (omega arith) }

@@ -266,7 +266,7 @@ module _ (bodies : Bodies) (Root : ℕ → State → Type 0) (b : Tables) (known
             let G = T .given in
             let z : t .answers .call y ≡ b .answers .call y = T .grew .call-same {x = y} (omega (arith, G .enough)) in
             let g = T .noted .heats (b .answers .call y) in
-            let x : t .answers .call (heat (P .notes) (b .answers .call y) - 1) ≡ b .answers .call (heat (P .notes) (b .answers .call y) - 1) = T .grew .call-same (omega (arith, G .enough)) in
+            let x : t .answers .call (heat (P .notes) (b .answers .call y)) ≡ b .answers .call (heat (P .notes) (b .answers .call y)) = T .grew .call-same (omega (arith, G .enough)) in
             rw (z, g, x) (i, a, c, d)
 
         -- all answers before the one that is taken are done

@@ -2,7 +2,7 @@
 -- record whose walks have come to it lies between them), after which answer walks come to it (`via`), from which of its own answers on a round
 -- has to look at it again (`start`), and for which new answer (`heat`). A record whose callees gained no answer since it was walked has
 -- nothing new to give. Assumes nothing.
-use Prim.Native.Nat.{ℕ, _+_, _-_, _<_, _≤_, min, max}
+use Prim.Native.Nat.{ℕ, _+_, _-_, _*_, _<_, _≤_, min, max}
 use native.Mathlib.Omega.{arith}
 use native.Mathlib.Decide.{ℕ-discrete, decLt}
 use mathlib.Core.Path.{_≡_, refl, sym, _∙_}
@@ -20,10 +20,10 @@ use Rattle.tabling.proofs.Growth.{Tables, HeldCall, Grew, call-up}
 
 -- The least and the greatest number of a record's callers. Where nothing is noted, nothing lies between them.
 abbrev pub least : List ℕ → ℕ → ℕ
-least uses i = 65535 - getD uses i 0
+least uses i = 65535 - getD uses (3 * i) 0
 
 abbrev pub greatest : List ℕ → ℕ → ℕ
-greatest uses i = getD uses (65536 + i) 0
+greatest uses i = getD uses (3 * i + 1) 0
 
 -- The walks of record `row` may have come to record i.
 abbrev pub Used : List ℕ → ℕ → ℕ → Type 0
@@ -31,16 +31,16 @@ Used uses row i = (i < 65536) × (least uses i ≤ row) × (row ≤ greatest use
 
 -- One more than the number of the answer after which walks come to a record: 0 for none, 65,535 for several or one of a number too high.
 abbrev pub via : List ℕ → ℕ → ℕ
-via uses k = getD uses (131072 + k) 0
+via uses k = getD uses (3 * k + 2) 0
 
 -- Where a round begins among a record's answers.
 abbrev pub start : List ℕ → ℕ → ℕ
-start uses k = getD uses (196608 + k) 0
+start uses k = getD uses (196608 + 2 * k) 0
 
--- One more than the number of the answer, new in some round, for which that round looks at the record; 0 for none. It is the first of the
--- record's own new answers where it has any.
+-- The number of the answer, new in some round, for which that round looks at the record: the first of the record's own new answers where it
+-- has any. Where nothing is noted it is 0, which no round takes for a new answer: one with no old answers passes over none.
 abbrev pub heat : List ℕ → ℕ → ℕ
-heat uses k = getD uses (262144 + k) 0
+heat uses k = getD uses (196609 + 2 * k) 0
 
 -- Walks may have come to record k after the answer `last - 1`, or with none before it where `last` is 0.
 abbrev pub Came : List ℕ → ℕ → ℕ → Type 0
@@ -48,11 +48,11 @@ Came uses last k = (last ≡ 0) ⊎ ((via uses k ≡ last) ⊎ (via uses k ≡ 6
 
 -- The numbers with `row` among the records that come to record i.
 unfoldable pub with-use : List ℕ → ℕ → ℕ → List ℕ
-with-use uses row i = set (set uses i (65535 - min (least uses i) row)) (65536 + i) (max (greatest uses i) row)
+with-use uses row i = set (set uses (3 * i) (65535 - min (least uses i) row)) (3 * i + 1) (max (greatest uses i) row)
 
 pub use-long : (uses : List ℕ) (row i : ℕ) → length (with-use uses row i) ≡ length uses
 unfolding with-use
-use-long uses row i = length-set (set uses i (65535 - min (least uses i) row)) (65536 + i) (max (greatest uses i) row) ∙ length-set uses i (65535 - min (least uses i) row)
+use-long uses row i = length-set (set uses (3 * i) (65535 - min (least uses i) row)) (3 * i + 1) (max (greatest uses i) row) ∙ length-set uses (3 * i) (65535 - min (least uses i) row)
 
 -- Nothing noted is forgotten.
 pub record UsesKept (uses uses′ : List ℕ) : Type 0 where
@@ -73,8 +73,8 @@ kept-of g = record { more = g .more; came = g .came }
 -- the words of callers and of answers before are the same
 pub kept-same : (uses uses′ : List ℕ) → ((i : ℕ) → i < 196608 → getD uses′ i 0 ≡ getD uses i 0) → UsesKept uses uses′
 kept-same uses uses′ same = record {
-  more = λ row i (l, a, b). rw (same i (omega arith), same (65536 + i) (omega arith)) (l, a, b);
-  came = λ last k l c. rw (same (131072 + k) (omega arith)) c;
+  more = λ row i (l, a, b). rw (same (3 * i) (omega arith), same (3 * i + 1) (omega arith)) (l, a, b);
+  came = λ last k l c. rw (same (3 * k + 2) (omega arith)) c;
 }
 
 pub uses-refl : (uses : List ℕ) → UsesGrew uses uses
@@ -89,21 +89,21 @@ uses-trans g h = record {
   heats = λ k. h .heats k ∙ g .heats k;
 }
 
-module _ (uses : List ℕ) (row i : ℕ) (inside : 65536 + i < length uses) (small : i < 65536) (low : row < 65536) where
+module _ (uses : List ℕ) (row i : ℕ) (inside : 3 * i + 1 < length uses) (small : i < 65536) (low : row < 65536) where
   use-least : least (with-use uses row i) i ≡ min (least uses i) row
   unfolding with-use
   use-least =
-      let e = getD-set-other (set uses i (65535 - min (least uses i) row)) (65536 + i) i (max (greatest uses i) row) 0 (omega arith) in
-      let f = getD-set-same uses i (65535 - min (least uses i) row) 0 (omega arith) in
+      let e = getD-set-other (set uses (3 * i) (65535 - min (least uses i) row)) (3 * i + 1) (3 * i) (max (greatest uses i) row) 0 (omega arith) in
+      let f = getD-set-same uses (3 * i) (65535 - min (least uses i) row) 0 (omega arith) in
       rw (e, f) (omega arith)
 
   use-greatest : greatest (with-use uses row i) i ≡ max (greatest uses i) row
   unfolding with-use
-  use-greatest = getD-set-same (set uses i (65535 - min (least uses i) row)) (65536 + i) (max (greatest uses i) row) 0 (rw (length-set uses i (65535 - min (least uses i) row)) inside)
+  use-greatest = getD-set-same (set uses (3 * i) (65535 - min (least uses i) row)) (3 * i + 1) (max (greatest uses i) row) 0 (rw (length-set uses (3 * i) (65535 - min (least uses i) row)) inside)
 
-  use-other : (k : ℕ) → (k ≡ i → ⊥) → (k ≡ 65536 + i → ⊥) → getD (with-use uses row i) k 0 ≡ getD uses k 0
+  use-other : (k : ℕ) → (k ≡ 3 * i → ⊥) → (k ≡ 3 * i + 1 → ⊥) → getD (with-use uses row i) k 0 ≡ getD uses k 0
   unfolding with-use
-  use-other k n m = getD-set-other (set uses i (65535 - min (least uses i) row)) (65536 + i) k (max (greatest uses i) row) 0 m ∙ getD-set-other uses i k (65535 - min (least uses i) row) 0 n
+  use-other k n m = getD-set-other (set uses (3 * i) (65535 - min (least uses i) row)) (3 * i + 1) k (max (greatest uses i) row) 0 m ∙ getD-set-other uses (3 * i) k (65535 - min (least uses i) row) 0 n
 
   pub use-new : Used (with-use uses row i) row i
   use-new = (small, omega (arith, use-least), omega (arith, use-greatest))
@@ -112,13 +112,13 @@ module _ (uses : List ℕ) (row i : ℕ) (inside : 65536 + i < length uses) (sma
   use-grew = record {
     long = use-long uses row i;
     more = λ r k u. more r k u (ℕ-discrete k i);
-    came = λ last k l c. rw (use-other (131072 + k) (omega arith) (omega arith)) c;
-    starts = λ k. use-other (196608 + k) (omega arith) (omega arith);
-    heats = λ k. use-other (262144 + k) (omega arith) (omega arith);
+    came = λ last k l c. rw (use-other (3 * k + 2) (omega arith) (omega arith)) c;
+    starts = λ k. use-other (196608 + 2 * k) (omega arith) (omega arith);
+    heats = λ k. use-other (196609 + 2 * k) (omega arith) (omega arith);
   }
     where
       more : (r k : ℕ) → Used uses r k → Dec (k ≡ i) → Used (with-use uses row i) r k
-      more r k (l, a, b) (no n) = rw (use-other k n (omega arith), use-other (65536 + k) (omega arith) (omega arith)) (l, a, b)
+      more r k (l, a, b) (no n) = rw (use-other (3 * k) (λ e. n (omega arith)) (omega arith), use-other (3 * k + 1) (omega arith) (λ e. n (omega arith))) (l, a, b)
       more r k u (yes e) =
           let (z, a, b) : Used uses r i = rw e at u in
           rw e (small, omega (arith, use-least), omega (arith, use-greatest))
@@ -130,7 +130,7 @@ unfoldable pub after-both : ℕ → ℕ → ℕ
 after-both was last = cond (eqb was 0) (min last 65535) (cond (eqb was last) last 65535)
 
 unfoldable pub with-via : List ℕ → ℕ → ℕ → List ℕ
-with-via uses last k = set uses (131072 + k) (after-both (via uses k) last)
+with-via uses last k = set uses (3 * k + 2) (after-both (via uses k) last)
 
 both-last : (was last : ℕ) → (after-both was last ≡ last) ⊎ (after-both was last ≡ 65535)
 unfolding after-both
@@ -163,14 +163,14 @@ both-was was last = by (eqb was 0) (eqb was last) refl refl
     by false true e f = inr (inl (sym (eqb-true was last f)))
     by false false e f = inr (inr refl)
 
-module _ (uses : List ℕ) (last i : ℕ) (inside : 131072 + i < length uses) (small : i < 65536) where
+module _ (uses : List ℕ) (last i : ℕ) (inside : 3 * i + 2 < length uses) (small : i < 65536) where
   via-same : via (with-via uses last i) i ≡ after-both (via uses i) last
   unfolding with-via
-  via-same = getD-set-same uses (131072 + i) (after-both (via uses i) last) 0 inside
+  via-same = getD-set-same uses (3 * i + 2) (after-both (via uses i) last) 0 inside
 
-  via-other : (k : ℕ) → (k ≡ 131072 + i → ⊥) → getD (with-via uses last i) k 0 ≡ getD uses k 0
+  via-other : (k : ℕ) → (k ≡ 3 * i + 2 → ⊥) → getD (with-via uses last i) k 0 ≡ getD uses k 0
   unfolding with-via
-  via-other k n = getD-set-other uses (131072 + i) k (after-both (via uses i) last) 0 n
+  via-other k n = getD-set-other uses (3 * i + 2) k (after-both (via uses i) last) 0 n
 
   pub via-new : Came (with-via uses last i) last i
   via-new = inr (rw via-same (both-last (via uses i) last))
@@ -178,11 +178,11 @@ module _ (uses : List ℕ) (last i : ℕ) (inside : 131072 + i < length uses) (s
   pub via-grew : UsesGrew uses (with-via uses last i)
   unfolding with-via
   via-grew = record {
-    long = length-set uses (131072 + i) _;
-    more = λ r k (l, a, b). rw (via-other k (omega arith), via-other (65536 + k) (omega arith)) (l, a, b);
+    long = length-set uses (3 * i + 2) _;
+    more = λ r k (l, a, b). rw (via-other (3 * k) (omega arith), via-other (3 * k + 1) (omega arith)) (l, a, b);
     came = λ v k l c. came v k c (ℕ-discrete k i);
-    starts = λ k. via-other (196608 + k) (omega arith);
-    heats = λ k. via-other (262144 + k) (omega arith);
+    starts = λ k. via-other (196608 + 2 * k) (omega arith);
+    heats = λ k. via-other (196609 + 2 * k) (omega arith);
   }
     where
       at : (v : ℕ) → Came uses v i → (via uses i ≡ 0) ⊎ ((after-both (via uses i) last ≡ via uses i) ⊎ (after-both (via uses i) last ≡ 65535)) → Came (with-via uses last i) v i
@@ -195,7 +195,7 @@ module _ (uses : List ℕ) (last i : ℕ) (inside : 131072 + i < length uses) (s
       at v (inr (inr z)) (inr (inr e)) = inr (inr (via-same ∙ e))
 
       came : (v k : ℕ) → Came uses v k → Dec (k ≡ i) → Came (with-via uses last i) v k
-      came v k c (no n) = rw (via-other (131072 + k) (omega arith)) c
+      came v k c (no n) = rw (via-other (3 * k + 2) (λ e. n (omega arith))) c
       came v k c (yes e) = rw e (at v (rw e at c) (both-was (via uses i) last))
 
 -- What the code leaves where a walk of `row` has come to record i after `last`.
@@ -204,14 +204,14 @@ pub record Noted (uses uses′ : List ℕ) (row last i : ℕ) : Type 0 where
   pub used : Used uses′ row i
   pub after : Came uses′ last i
 
-pub noted-both : (uses : List ℕ) (row last i : ℕ) → 131072 + i < length uses → i < 65536 → row < 65536 → Noted uses (with-via (with-use uses row i) last i) row last i
+pub noted-both : (uses : List ℕ) (row last i : ℕ) → 3 * i + 2 < length uses → i < 65536 → row < 65536 → Noted uses (with-via (with-use uses row i) last i) row last i
 noted-both uses row last i long small low =
     let g = use-grew uses row i (omega arith) small low in
-    let l : 131072 + i < length (with-use uses row i) = omega (arith, g .long) in
+    let l : 3 * i + 2 < length (with-use uses row i) = omega (arith, g .long) in
     let h = via-grew (with-use uses row i) last i l small in
     record { grew = uses-trans g h; used = h .more row i (use-new uses row i (omega arith) small low); after = via-new (with-use uses row i) last i l small }
 
-pub noted-none : (uses : List ℕ) (row i : ℕ) → 65536 + i < length uses → i < 65536 → row < 65536 → Noted uses (with-use uses row i) row 0 i
+pub noted-none : (uses : List ℕ) (row i : ℕ) → 3 * i + 1 < length uses → i < 65536 → row < 65536 → Noted uses (with-use uses row i) row 0 i
 noted-none uses row i long small low = record { grew = use-grew uses row i long small low; used = use-new uses row i long small low; after = inl refl }
 
 -- ---- a call that stands and that the walks of `row` have come to
@@ -285,28 +285,27 @@ pub spans-same : {answers : Answers} {uses uses′ : List ℕ} {walked seen know
 spans-same {answers} {uses} {uses′} {walked} {seen} {known} same S = record { low-in = S .low-in; top-in = S .top-in; quiet = λ r l p. (let q = S .quiet r l p in record { old = q .old; none = λ x i h u. q .none x i h (back r (answers .call x) u) }) }
   where
     back : (r i : ℕ) → Used uses′ r i → Used uses r i
-    back r i (l, a, b) = rw (← same i (omega arith), ← same (65536 + i) (omega arith)) (l, a, b)
+    back r i (l, a, b) = rw (← same (3 * i) (omega arith), ← same (3 * i + 1) (omega arith)) (l, a, b)
 
 -- ---- the answers that a round has to look at again
 
 -- The round with the new answers from `seen` on looks at answer y and at all later ones of its record.
 abbrev pub Hot : Answers → List ℕ → ℕ → ℕ → Type 0
-Hot answers uses seen y = (answers .call y < 65536) × (seen < heat uses (answers .call y)) × (start uses (answers .call y) ≤ y)
+Hot answers uses seen y = (answers .call y < 65536) × (seen ≤ heat uses (answers .call y)) × (start uses (answers .call y) ≤ y)
 
 -- What is noted of a record with new answers, y among them: the first of them.
 abbrev pub Newest : Answers → List ℕ → ℕ → ℕ → Type 0
 Newest answers uses seen y =
-    (answers .call y < 65536) × (seen < heat uses (answers .call y)) × (heat uses (answers .call y) ≤ y + 1) × (answers .call (heat uses (answers .call y) - 1) ≡ answers .call y)
+    (answers .call y < 65536) × (seen ≤ heat uses (answers .call y)) × (heat uses (answers .call y) ≤ y) × (answers .call (heat uses (answers .call y)) ≡ answers .call y)
 
--- Record k is come to after no answer, or after one that is looked at.
+-- Record k is come to after no answer, or after a single one, which is looked at.
 abbrev pub Up : Answers → List ℕ → ℕ → ℕ → ℕ → Type 0
-Up answers uses seen known k = (via uses k ≡ 0) ⊎ ((y : ℕ) × (via uses k ≡ y + 1) × (y < known) × Hot answers uses seen y)
+Up answers uses seen known k = (via uses k ≡ 0) ⊎ ((y : ℕ) × (via uses k ≡ y + 1) × (y < min known 65534) × Hot answers uses seen y)
 
 -- The new answers are looked at, and so is each answer after which walks come to a record that has answers looked at.
 pub record Warm (answers : Answers) (uses : List ℕ) (seen known : ℕ) : Type 0 where
-  pub few : known < 65535
   pub new : (x : ℕ) → seen ≤ x → x < known → Hot answers uses seen x
-  pub up : (k : ℕ) → k < 65536 → seen < heat uses k → Up answers uses seen known k
+  pub up : (k : ℕ) → k < 65536 → seen ≤ heat uses k → Up answers uses seen known k
 
 -- What a round notes before it walks: the new answers, and, if `warm`, all that it has to look at again.
 pub record Lit (answers : Answers) (uses : List ℕ) (seen known : ℕ) (warm : Bool) : Type 0 where
@@ -314,7 +313,7 @@ pub record Lit (answers : Answers) (uses : List ℕ) (seen known : ℕ) (warm : 
   pub looked : warm ≡ true → Warm answers uses seen known
 
 -- no answer is looked at of a record to which walks come after one that is not
-pub cold : (answers : Answers) (uses : List ℕ) (seen known y k : ℕ) → Warm answers uses seen known → k < 65536 → Came uses (y + 1) k → (Hot answers uses seen y → ⊥) → seen < heat uses k → ⊥
+pub cold : (answers : Answers) (uses : List ℕ) (seen known y k : ℕ) → Warm answers uses seen known → k < 65536 → Came uses (y + 1) k → (Hot answers uses seen y → ⊥) → seen ≤ heat uses k → ⊥
 cold answers uses seen known y k W l c n e = by c (W .up k l e)
   where
     by : Came uses (y + 1) k → Up answers uses seen known k → ⊥
@@ -322,16 +321,16 @@ cold answers uses seen known y k W l c n e = by c (W .up k l e)
     by (inr (inl z)) (inl v) = omega arith
     by (inr (inl z)) (inr (x, v, i, h)) = let w : x ≡ y = omega arith in n (rw w at h)
     by (inr (inr z)) (inl v) = omega arith
-    by (inr (inr z)) (inr (x, v, i, h)) = omega (arith, W .few)
+    by (inr (inr z)) (inr (x, v, i, h)) = omega arith
 
 -- in grown tables
 pub lit-up : {b u : Tables} {uses : List ℕ} {seen known : ℕ} {warm : Bool} → Grew b u → known ≤ b .answers .count → Lit (b .answers) uses seen known warm → Lit (u .answers) uses seen known warm
-lit-up {b} {u} {uses} {seen} {known} {warm} g enough L = record { newest = λ y l h. newest y h (L .newest y l h); looked = λ e. (let W = L .looked e in record { few = W .few; new = λ x l h. hot x h (W .new x l h); up = λ k l e. up k (W .up k l e) }) }
+lit-up {b} {u} {uses} {seen} {known} {warm} g enough L = record { newest = λ y l h. newest y h (L .newest y l h); looked = λ e. (let W = L .looked e in record { new = λ x l h. hot x h (W .new x l h); up = λ k l e. up k (W .up k l e) }) }
   where
     newest : (y : ℕ) → y < known → Newest (b .answers) uses seen y → Newest (u .answers) uses seen y
     newest y h (l, a, c, d) =
         let e : u .answers .call y ≡ b .answers .call y = g .call-same {x = y} (omega arith) in
-        let f : u .answers .call (heat uses (b .answers .call y) - 1) ≡ b .answers .call (heat uses (b .answers .call y) - 1) = g .call-same {x = heat uses (b .answers .call y) - 1} (omega arith) in
+        let f : u .answers .call (heat uses (b .answers .call y)) ≡ b .answers .call (heat uses (b .answers .call y)) = g .call-same {x = heat uses (b .answers .call y)} (omega arith) in
         rw (e, f) (l, a, c, d)
 
     hot : (x : ℕ) → x < known → Hot (b .answers) uses seen x → Hot (u .answers) uses seen x
@@ -339,4 +338,4 @@ lit-up {b} {u} {uses} {seen} {known} {warm} g enough L = record { newest = λ y 
 
     up : (k : ℕ) → Up (b .answers) uses seen known k → Up (u .answers) uses seen known k
     up k (inl z) = inl z
-    up k (inr (y, z, l, h)) = inr (y, z, l, hot y l h)
+    up k (inr (y, z, l, h)) = inr (y, z, l, hot y (omega arith) h)

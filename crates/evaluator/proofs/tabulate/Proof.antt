@@ -1,5 +1,5 @@
 -- `tabulate` meets its contract: the goal's call stands first, or there is no room for it. Assumes nothing.
-use Prim.Native.Nat.{ℕ, _+_, _≤_}
+use Prim.Native.Nat.{ℕ, _+_, _*_, _≤_}
 use native.Mathlib.Omega.{arith}
 use mathlib.Core.Path.{refl, _∙_}
 use mathlib.Core.List.{[], _∷_}
@@ -81,7 +81,7 @@ fill-requires c κs =
         zeros-stamped 65536 0 refl (omega arith),
         omega arith,
         length-replicate {A = ℕ} 327680 0,
-        λ k. zeros-at 327680 (262144 + k),
+        λ k. zeros-at 327680 (196609 + 2 * k),
       ),
       (i .pre .0, ((64, i .args .start) ∷ [], first e)),
     )

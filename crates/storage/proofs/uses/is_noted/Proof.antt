@@ -20,10 +20,10 @@ returns-3 : tie.Need-returns-3
 returns-3 c = λ _. ((c .before .before .before .before .before .before .pre .1, omega (arith, c .before .before .before .if1 .left, c .before .before .before .before .least-of .ensures .0), omega (arith, c .before .if2 .left, c .before .before .greatest-of .ensures .0)), inl (c .if3 .taken))
 
 returns-4 : tie.Need-returns-4
-returns-4 c = λ _. ((c .before .before .before .before .before .before .before .before .pre .1, omega (arith, c .before .before .before .before .before .if1 .left, c .before .before .before .before .before .before .least-of .ensures .0), omega (arith, c .before .before .before .if2 .left, c .before .before .before .before .greatest-of .ensures .0)), inr (inl (sym (c .before .number .ensures .0) ∙ c .if4 .taken)))
+returns-4 c = λ _. ((c .before .before .before .before .before .before .before .before .pre .1, omega (arith, c .before .before .before .before .before .if1 .left, c .before .before .before .before .before .before .least-of .ensures .0), omega (arith, c .before .before .before .if2 .left, c .before .before .before .before .greatest-of .ensures .0)), inr (inl (sym (c .before .via-of .ensures .0) ∙ c .if4 .taken)))
 
 returns-5 : tie.Need-returns-5
-returns-5 c = λ e. ((c .before .before .before .before .before .before .before .before .pre .1, omega (arith, c .before .before .before .before .before .if1 .left, c .before .before .before .before .before .before .least-of .ensures .0), omega (arith, c .before .before .before .if2 .left, c .before .before .before .before .greatest-of .ensures .0)), inr (inr (sym (c .before .number .ensures .0) ∙ eqb-true _ 65535 e)))
+returns-5 c = λ e. ((c .before .before .before .before .before .before .before .before .pre .1, omega (arith, c .before .before .before .before .before .if1 .left, c .before .before .before .before .before .before .least-of .ensures .0), omega (arith, c .before .before .before .if2 .left, c .before .before .before .before .greatest-of .ensures .0)), inr (inr (sym (c .before .via-of .ensures .0) ∙ eqb-true _ 65535 e)))
 
 pub is-noted-spec : {M : Type 1} → statement M
 is-noted-spec =
@@ -34,7 +34,6 @@ is-noted-spec =
     (λ c κs. search needs)
     returns-2
     returns-3
-    (λ c. search needs)
     (λ c κs. search needs)
     returns-4
     returns-5)

@@ -7,7 +7,7 @@ use lib.ListN.{length}
 use borrow.Author.Tests.{not-true, not-false}
 use Rattle.steps.proofs.EachBelow.{true-not-false}
 use Rattle.tabling.specs.Records.{answers-in}
-use Rattle.tabling.proofs.Heat.{Looked, look-start, look-stop}
+use Rattle.tabling.proofs.Heat.{Looked, look-start, look-stop, look-none}
 use borrow.Author.Needs.{needs}
 use Rattle.storage.proofs.uses.look_back.Statement.{statement}
 use Rattle.storage.proofs.uses.look_back.Tie as tie
@@ -18,32 +18,38 @@ Inv-loop uses₀ answers seen known x₀ uses x = (x ≤ known) × (seen ≤ x) 
 abbrev μ-loop : tie.MeasureT-loop
 μ-loop uses₀ answers seen known x₀ uses x = known - x
 
+add-if1 : tie.Need-add-if1 Inv-loop μ-loop
+add-if1 c = omega (arith, c .before .before .pre .0 .1, c .before .before .pre .0 .2)
+
+returns : tie.Need-returns Inv-loop μ-loop
+returns c = let i = c .before .before .before in look-none (answers-in 19 (i .args .answers .now) (i .args .known)) (i .args .uses .now) (i .args .seen) (i .args .known) (i .args .known)
+
 loop-holds : tie.Need-loop-holds Inv-loop μ-loop
-loop-holds c = let i = c .before .before in (i .pre .0 .2, omega arith, look-start (answers-in 19 (i .args .answers .now) (i .args .known)) (i .args .uses .now) (i .args .seen) (i .args .known))
+loop-holds c = let i = c .before .before .before in (i .pre .0 .2, omega arith, look-start (answers-in 19 (i .args .answers .now) (i .args .known)) (i .args .uses .now) (i .args .seen) (i .args .known))
 
 look-before-requires : tie.Need-look-before-requires Inv-loop μ-loop
-look-before-requires c κs = let i = c .before .before .before .before .before in let l = c .before .before .loop in ((i .pre .0 .0, i .pre .0 .1, l .inv .1, c .before .loop-test .taken, l .inv .2 .long ∙ i .pre .0 .3), i .pre .1)
+look-before-requires c κs = let i = c .before .before .before .before .before .before in let l = c .before .before .loop in ((i .pre .0 .0, i .pre .0 .1, l .inv .1, c .before .loop-test .taken, l .inv .2 .long ∙ i .pre .0 .3), i .pre .1)
 
 same-length : tie.Need-same-length Inv-loop μ-loop
 same-length c = c .before .before .before .look-before .ensures .1 ∙ c .before .before .before .before .before .before .loop .inv .2 .long
 
-returns : tie.Need-returns Inv-loop μ-loop
-returns c = look-stop _ (rw (not-true (c .before .before .before .look-before .result) (c .if1 .taken)) at (c .before .before .before .look-before .ensures .0 _ (c .before .before .before .before .before .before .loop .inv .2))) (λ e. true-not-false (sym e))
+returns-2 : tie.Need-returns-2 Inv-loop μ-loop
+returns-2 c = look-stop _ (rw (not-true (c .before .before .before .look-before .result) (c .if2 .taken)) at (c .before .before .before .look-before .ensures .0 _ (c .before .before .before .before .before .before .loop .inv .2))) (λ e. true-not-false (sym e))
 
 add-x : tie.Need-add-x Inv-loop μ-loop
-add-x c = omega (arith, c .before .before .before .before .before .loop-test .taken, c .before .before .before .before .before .before .before .before .before .pre .0 .1)
+add-x c = omega (arith, c .before .before .before .before .before .loop-test .taken, c .before .before .before .before .before .before .before .before .before .before .pre .0 .1)
 
 loop-less : tie.Need-loop-less Inv-loop μ-loop
 loop-less c = omega (arith, c .before .before .before .before .before .loop-test .taken)
 
 loop-again : tie.Need-loop-again Inv-loop μ-loop
-loop-again c = (omega (arith, c .before .before .before .before .before .loop-test .taken), omega (arith, c .before .before .before .before .before .before .loop .inv .1), rw (not-false (c .before .before .before .look-before .result) (c .if1 .left)) at (c .before .before .before .look-before .ensures .0 _ (c .before .before .before .before .before .before .loop .inv .2)))
+loop-again c = (omega (arith, c .before .before .before .before .before .loop-test .taken), omega (arith, c .before .before .before .before .before .before .loop .inv .1), rw (not-false (c .before .before .before .look-before .result) (c .if2 .left)) at (c .before .before .before .look-before .ensures .0 _ (c .before .before .before .before .before .before .loop .inv .2)))
 
 same-length-2 : tie.Need-same-length-2 Inv-loop μ-loop
 same-length-2 c = c .before .loop .inv .2 .long
 
-returns-2 : tie.Need-returns-2 Inv-loop μ-loop
-returns-2 c = let l = c .before .loop in let e : l .x ≡ c .before .before .before .before .args .known = omega (arith, c .loop-test .left, l .inv .0) in rw e at (l .inv .2)
+returns-3 : tie.Need-returns-3 Inv-loop μ-loop
+returns-3 c = let l = c .before .loop in let e : l .x ≡ c .before .before .before .before .before .args .known = omega (arith, c .loop-test .left, l .inv .0) in rw e at (l .inv .2)
 
 pub look-back-spec : {M : Type 1} → statement M
 look-back-spec =
@@ -51,12 +57,14 @@ look-back-spec =
     (tie.spec
     Inv-loop
     μ-loop
+    add-if1
+    returns
     loop-holds
     look-before-requires
     same-length
-    returns
+    returns-2
     add-x
     loop-less
     loop-again
     same-length-2
-    returns-2)
+    returns-3)

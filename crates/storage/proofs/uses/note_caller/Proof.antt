@@ -29,6 +29,8 @@ note-caller-spec =
     (λ c. search needs)
     (λ c. search needs)
     (λ c. search needs)
+    (λ c. search needs)
+    (λ c. search needs)
     slice-write-uses-2
     (λ c. search needs)
     returns)

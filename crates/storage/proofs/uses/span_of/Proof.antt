@@ -9,7 +9,7 @@ use Rattle.storage.proofs.uses.span_of.Statement.{statement}
 use Rattle.storage.proofs.uses.span_of.Tie as tie
 
 look-back-requires : tie.Need-look-back-requires
-look-back-requires c κs = let i = c .before .before .before .before .before .before .before .before in ((i .pre .0 .0, c .before .if1 .taken, i .pre .0 .2, c .before .before .before .before .look-at-new .ensures .1 .long ∙ i .pre .0 .5), i .pre .1 .0)
+look-back-requires c κs = let i = c .before .before .before .before .before .before .before .before in ((i .pre .0 .0, i .pre .0 .1, i .pre .0 .2, c .before .before .before .before .look-at-new .ensures .1 .long ∙ i .pre .0 .5), i .pre .1 .0)
 
 same-length : tie.Need-same-length
 same-length c = c .before .before .look-back .ensures .long ∙ c .before .before .before .before .before .before .before .look-at-new .ensures .1 .long
@@ -17,7 +17,7 @@ same-length c = c .before .before .look-back .ensures .long ∙ c .before .befor
 returns : tie.Need-returns
 returns c =
     let i = c .before .before .before .before .before .before .before .before .before .before .before in
-    let b = begun (i .args .walked) (c .before .before .before .before .if1 .taken) (c .before .before .before .before .before .before .before .look-at-new .ensures .1 .lighted (c .before .before .before .before .if1 .taken)) (c .before .before .look-back .ensures) in
+    let b = begun (i .args .walked) (c .before .before .before .before .if1 .taken) (i .pre .0 .2) (c .before .before .before .before .before .before .before .look-at-new .ensures .1) (c .before .before .look-back .ensures) in
     (spans-same (b .low) (c .before .before .before .before .before .before .before .look-at-new .ensures .0), b)
 
 same-length-2 : tie.Need-same-length-2
