@@ -181,7 +181,7 @@ extern "C" {
 #define LAWHEMURI_STACK_READ 65536u
 #define LAWHEMURI_STACK_ARCHIVE 1024u
 #define LAWHEMURI_STACK_REPORT 8192u
-#define LAWHEMURI_STACK_MARK 1024u
+#define LAWHEMURI_STACK_MARK 65536u
 
 /* What a sheet says beside its rule words. */
 typedef struct lawhemuri_sheet {

@@ -17,8 +17,9 @@ use std::process::ExitCode;
 
 fn main() -> ExitCode {
     let limit = args().nth(1).map_or(5.0, |seconds| seconds.parse().expect("SECONDS is a number"));
-    let same = match args().nth(2) {
-        Some(family) => vec![runs::print_family(&family, limit)],
+    let same = match args().nth(2).as_deref() {
+        Some("marks") => vec![marks::print()],
+        Some(family) => vec![runs::print_family(family, limit)],
         None => vec![runs::print(limit), paths::print(), classes::print(), marks::print()],
     };
     ExitCode::from(u8::from(same.contains(&false)))

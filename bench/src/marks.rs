@@ -1,6 +1,7 @@
 //! Records of 63 steps over 256 rules, marked by the library and by plain rounds over sets of places. In six families every action has
 //! a rule that does nothing, one that does the step and two of 16 steps; where those are calls alone, any part of the record is any
-//! action's and the masks are full. In the ring 251 rules have 16 steps, and the limit is not kept: every gain takes a pass.
+//! action's and the masks are full. In three more nearly all rules have 16 steps, and words gain one place after another: the worst
+//! books that we know. The plain rounds take minutes over them, but their marks are known.
 
 use lawhemuri::{mark, Question, MARK_WORDS, MOST_RECORDED, MOST_RULE_WORDS, RULE_WORDS};
 use std::collections::BTreeSet;
@@ -12,7 +13,7 @@ const CALL: u16 = 768;
 const ACTIONS: u16 = 64;
 /// Rules of an action.
 const EACH: u16 = 4;
-/// Milliseconds that a marking of the six families may take.
+/// Milliseconds that a marking may take.
 const MOST: f64 = 50.0;
 
 /// The step at a place of a body of an action; `at_random` counts up.
@@ -49,12 +50,11 @@ fn rules(body: Body) -> Vec<u16> {
     words
 }
 
-const RING: &str = "ring";
-/// The action of the ring that does nothing.
+/// The action that does nothing, in the three worst books.
 const IDLE: u16 = 62;
 
 /// Every action calls the next one first, and the last, which may do nothing, calls the first and does the step: what one has gained
-/// the one before it gains a pass later, 64 passes for each place come to.
+/// the one before it gains then, 64 times for each place come to.
 fn ring() -> Vec<u16> {
     let mut words = vec![0; MOST_RULE_WORDS];
     for (r, rule) in (0..).zip(words.chunks_exact_mut(RULE_WORDS)) {
@@ -73,10 +73,47 @@ fn ring() -> Vec<u16> {
     words
 }
 
-/// The ring's marks: the idle action comes to where it begins, the others to every place from there on.
-fn ring_marks() -> Vec<BTreeSet<usize>> {
-    let to = |action, place| if action == IDLE { place } else { MOST_RECORDED };
-    (0..ACTIONS).flat_map(|action| (0..=MOST_RECORDED).map(move |place| (place..=to(action, place)).collect())).collect()
+/// Actions of the ring that is watched.
+const WATCHED: u16 = 60;
+/// An action without rules.
+const LOST: u16 = 63;
+
+/// A ring with one rule for each action, and 193 rules of 16 calls of its actions, so that each gain is seen at 50 calls. Those are of
+/// two actions more; or, if lost, of the ring's, and end in a call that comes to nothing.
+fn watched(lost: bool) -> Vec<u16> {
+    let mut words = vec![0; MOST_RULE_WORDS];
+    for (r, rule) in (0..).zip(words.chunks_exact_mut(RULE_WORDS)) {
+        rule[1] = 16;
+        rule[2..].fill(CALL + IDLE);
+        if r < WATCHED {
+            rule[0] = r;
+            rule[2] = CALL + (r + 1) % WATCHED;
+        } else if r == WATCHED {
+            rule[2..4].copy_from_slice(&[CALL + WATCHED - 1, INSERT]);
+        } else if r < WATCHED + 3 {
+            rule[..2].copy_from_slice(&[if r == WATCHED + 1 { 0 } else { IDLE }, 0]);
+            rule[2..].fill(0);
+        } else {
+            rule[0] = if lost { r % WATCHED } else { WATCHED + r % 2 };
+            for (place, step) in (0..).zip(&mut rule[2..]) {
+                *step = CALL + 7 * (16 * r + place) % WATCHED;
+            }
+            if lost {
+                rule[17] = CALL + LOST;
+            }
+        }
+    }
+    words
+}
+
+/// The marks of the worst books: the idle action comes to where it begins, these to nothing, the others to every place from there on.
+fn known(nothing: &[u16]) -> Vec<BTreeSet<usize>> {
+    let places = |action, place| match action {
+        IDLE => BTreeSet::from([place]),
+        _ if nothing.contains(&action) => BTreeSet::new(),
+        _ => (place..=MOST_RECORDED).collect(),
+    };
+    (0..ACTIONS).flat_map(|action| (0..=MOST_RECORDED).map(move |place| places(action, place))).collect()
 }
 
 /// For each action and place the places to which it comes: rounds over all rules and places until one adds nothing.
@@ -104,30 +141,39 @@ fn plain(rules: &[u16], recorded: &[u16]) -> Vec<BTreeSet<usize>> {
     }
 }
 
-/// Prints the times; whether all marks are those of the plain rounds, and no marking of the six families took too long.
+/// Prints the times; whether all marks are those of the plain rounds, and no marking took too long.
 pub fn print() -> bool {
     println!("\n{:<10}{:>8}{:>12}{:>12}", "marks", "bits", "ms", "plain ms");
-    let recorded = [INSERT; MOST_RECORDED];
+    let families = FAMILIES.map(|(name, body)| (name, rules(body), None));
+    let worst = [
+        ("ring", ring(), Some(known(&[]))),
+        ("watched", watched(false), Some(known(&[LOST]))),
+        ("lost", watched(true), Some(known(&[WATCHED, WATCHED + 1, LOST]))),
+    ];
     let mut good = true;
-    let families = FAMILIES.map(|(name, body)| (name, rules(body), MOST));
-    for (name, rules, most) in families.into_iter().chain([(RING, ring(), f64::INFINITY)]) {
-        let question = Question { fluents: 64, actions: u64::from(ACTIONS), rules: &rules, goal: &[CALL], start: 0 };
-        let mut table = vec![0; MARK_WORDS];
-        let (marked, best) = least(|| mark(&question, &recorded, &mut table));
-        // The plain rounds take minutes over the ring, whose marks are known.
-        let (found, slow) = if name == RING { (ring_marks(), f64::NAN) } else { timed(|| plain(&rules, &recorded)) };
-        let same = marked.is_ok()
-            && table.iter().zip(&found).all(|(word, places)| places.iter().map(|&p| 1u64 << p).sum::<u64>() == *word);
-        let bits: u32 = table.iter().map(|word| word.count_ones()).sum();
-        let said = if !same {
-            " DIFFERENT"
-        } else if best > most {
-            " TOO SLOW"
-        } else {
-            " same"
-        };
-        println!("{name:<10}{bits:>8}{best:>12.3}{slow:>12.3}{said}");
-        good &= same && best <= most;
+    for (name, rules, marks) in families.into_iter().chain(worst) {
+        good &= print_line(name, &rules, marks);
     }
     good
+}
+
+/// Prints the line of a book, whose marks may be known.
+fn print_line(name: &str, rules: &[u16], marks: Option<Vec<BTreeSet<usize>>>) -> bool {
+    let recorded = [INSERT; MOST_RECORDED];
+    let question = Question { fluents: 64, actions: u64::from(ACTIONS), rules, goal: &[CALL], start: 0 };
+    let mut table = vec![0; MARK_WORDS];
+    let (marked, best) = least(|| mark(&question, &recorded, &mut table));
+    let (found, slow) = marks.map_or_else(|| timed(|| plain(rules, &recorded)), |known| (known, f64::NAN));
+    let same =
+        marked.is_ok() && table.iter().zip(&found).all(|(word, places)| places.iter().map(|&p| 1u64 << p).sum::<u64>() == *word);
+    let bits: u32 = table.iter().map(|word| word.count_ones()).sum();
+    let said = if !same {
+        " DIFFERENT"
+    } else if best > MOST {
+        " TOO SLOW"
+    } else {
+        " same"
+    };
+    println!("{name:<10}{bits:>8}{best:>12.3}{slow:>12.3}{said}");
+    same && best <= MOST
 }

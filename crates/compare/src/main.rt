@@ -1,6 +1,6 @@
 // Compares reader, writer and evaluator with a separately written evaluator on sheets at random and in some dress: the words read, the text
-// written and what it reads to, ends, calls, answers, justifications, rooms, and a record's marks. The other evaluator works on the words of the book that a
-// sheet was written from.
+// written and what it reads to, ends, calls, answers, justifications, rooms, and a record's marks. The other evaluator works on the words of the
+// book that a sheet was written from.
 mod evidence;
 mod marks;
 mod records;

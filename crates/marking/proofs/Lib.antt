@@ -5,5 +5,6 @@ pub mod Marks
 pub mod Walking
 pub mod Widening
 pub mod Turning
+pub mod Gaining
 pub mod Outcomes
 pub mod Laws

@@ -82,6 +82,7 @@ module _ (q : Question) (room : ℕ) (e : refusal q room ≡ 0) where
 module _ {q : Question} {runs : ℕ} (taken : Taken q runs) where
   pub walkable-of : Walkable (q .rules)
   walkable-of = record {
+    few = taken .accepted .few-rules;
     heads = λ r l. omega (arith, taken .accepted .heads r l, taken .accepted .few-actions);
     counts = taken .accepted .counts;
     good = λ r l i h. good-word (q .fluents) (q .actions) _ (taken .accepted .few-fluents) (taken .accepted .few-actions) (rule-step (taken .accepted) r i l h);

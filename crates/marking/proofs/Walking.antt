@@ -185,6 +185,11 @@ module _ (mask : ℕ) (W : ℕ → ℕ → Type 0) where
 
 -- ---- a body, step after step
 
+pub one-more : (words : List ℕ) (k : ℕ) → k < length words → body-of (take (k + 1) words) ≡ body-of (take k words) ++ (step-of (getD words k 0) ∷ [])
+one-more words k lk =
+    let e : k + 1 ≡ suc k = omega arith in
+    ap (λ (n : ℕ). body-of (take n words)) e ∙ ap body-of (take-suc words k 0 lk) ∙ map-append step-of (take k words) (getD words k 0 ∷ [])
+
 module _ {Does : Step → ℕ → ℕ → Type 0} {A : ℕ → ℕ → ℕ → Type 0} where
   pub walk-join : {i p j : ℕ} {xs ys : Body} → Walk Does A i xs p [] → Walk Does A p ys j [] → Walk Does A i (xs ++ ys) j []
   walk-join stands v = v
@@ -217,16 +222,11 @@ module _ (steps : List ℕ) (runs : ℕ) (table : List ℕ) (lent : Lent steps r
       → Mask more (From mask (λ p. WalkTo steps runs table p (getD words k 0 ∷ []))) → Mask more (WalkTo steps runs table i (take (k + 1) words))
   walk-more {i} {k} {mask} {more} words li lk m n = record {
     only = λ j l e. let (p, lp, h, w) = n .only j l e in joined j p (m .only p lp h) w;
-    every = λ j l w. apart j l (walk-split (body-of (take k words)) (subst (λ (b : Body). Walk (Carried (body-of steps) runs) (Held table) i b j []) parts w));
+    every = λ j l w. apart j l (walk-split (body-of (take k words)) (subst (λ (b : Body). Walk (Carried (body-of steps) runs) (Held table) i b j []) (one-more words k lk) w));
   }
     where
-      parts : body-of (take (k + 1) words) ≡ body-of (take k words) ++ (step-of (getD words k 0) ∷ [])
-      parts =
-          let e : k + 1 ≡ suc k = omega arith in
-          ap (λ (n : ℕ). body-of (take n words)) e ∙ ap body-of (take-suc words k 0 lk) ∙ map-append step-of (take k words) (getD words k 0 ∷ [])
-
       joined : (j p : ℕ) → WalkTo steps runs table i (take k words) p → WalkTo steps runs table p (getD words k 0 ∷ []) j → WalkTo steps runs table i (take (k + 1) words) j
-      joined j p a b = subst (λ (b : Body). Walk (Carried (body-of steps) runs) (Held table) i b j []) (sym parts) (walk-join a b)
+      joined j p a b = subst (λ (b : Body). Walk (Carried (body-of steps) runs) (Held table) i b j []) (sym (one-more words k lk)) (walk-join a b)
 
       apart : (j : ℕ) → j < 64 → ((p : ℕ) × WalkTo steps runs table i (take k words) p × WalkTo steps runs table p (getD words k 0 ∷ []) j) → bit more j ≡ 1
       apart j l (p, a, b) = let lp = walk-below a li in n .every j l (p, lp, m .every p lp a, b)

@@ -16,11 +16,11 @@ use Rattle.steps.specs.State.{bit}
 use Rattle.steps.specs.Step.{Step, call, Body}
 use Rattle.steps.specs.Words.{is-call, step-of, body-of, head-of, words-of, rule-of, book-of}
 use Rattle.steps.proofs.Deductions.{RuleOf, rule}
-use Rattle.steps.proofs.Execution.{Ends}
+use Rattle.steps.proofs.Execution.{Runs, Ends}
 use Rattle.steps.proofs.Tables.{Walk, stands, walks, takes, walk-runs}
 use Rattle.steps.proofs.Lists.{member-at}
 use Rattle.steps.proofs.WordLaws.{word-call, rule-member}
-use Rattle.marking.specs.Masks.{Carried, carries, Held, Mask, WalkTo, Lent, Wide, total, Cleared, Grown, Walkable, NoCall, word-at, SoundMarks, ClosedRule, Fresh, Widened, Turned, Passed, Settled, AllSettled}
+use Rattle.marking.specs.Masks.{Carried, carries, Held, Mask, WalkTo, Lent, Wide, total, Cleared, Grown, Walkable, NoCall, word-at, SoundMarks, ClosedRule, Fresh, Added, Widened, Turned, Passed, Settled, AllSettled}
 use Rattle.marking.proofs.Places.{runs-up}
 use Rattle.marking.proofs.Walking.{bit-or, or-split, or-left, or-right, one-bit, walk-below}
 
@@ -78,17 +78,17 @@ no-call-words m words none b h =
     ap (bit m) g ∙ none q l c
 
 module _ (rules steps : List ℕ) (runs i : ℕ) (walkable : Walkable rules) (place : i ≤ runs) where
-  -- ---- the walk of one rule
-  module _ (r : ℕ) (count : r < length rules / 18) {before after : List ℕ} {gained : Bool} (lent : Lent steps runs before)
-      (wide : Widened rules steps runs i r before after gained) where
+  -- ---- places added to the word of a rule's head
+  module _ (r : ℕ) (count : r < length rules / 18) {mask : ℕ} {before after : List ℕ} {gained : Bool} (lent : Lent steps runs before)
+      (added : Added rules i r mask before after gained) where
     low : (head-of rules r < 64) × (i < 64) × (word-at rules i r < length before)
     low = let h = walkable .heads r count in (h, omega (arith, lent .within, lent .few), omega (arith, lent .within, lent .few, lent .room))
 
-    here : getD after (word-at rules i r) 0 ≡ bitOr (getD before (word-at rules i r) 0) (wide .mask)
-    here = ap (λ (l : List ℕ). getD l (word-at rules i r) 0) (wide .put) ∙ getD-set-same before (word-at rules i r) _ 0 (low .2)
+    here : getD after (word-at rules i r) 0 ≡ bitOr (getD before (word-at rules i r) 0) mask
+    here = ap (λ (l : List ℕ). getD l (word-at rules i r) 0) (added .put) ∙ getD-set-same before (word-at rules i r) _ 0 (low .2)
 
     there : (n : ℕ) → n ≢ word-at rules i r → getD after n 0 ≡ getD before n 0
-    there n ne = ap (λ (l : List ℕ). getD l n 0) (wide .put) ∙ getD-set-other before (word-at rules i r) n _ 0 ne
+    there n ne = ap (λ (l : List ℕ). getD l n 0) (added .put) ∙ getD-set-other before (word-at rules i r) n _ 0 ne
 
     held-up : (a p j : ℕ) → Held before a p j → Held after a p j
     held-up a p j (la, lp, lj, e) = (la, lp, lj, by (ℕ-discrete (64 * a + p) (word-at rules i r)))
@@ -96,72 +96,81 @@ module _ (rules steps : List ℕ) (runs i : ℕ) (walkable : Walkable rules) (pl
         by : Dec (64 * a + p ≡ word-at rules i r) → bit (getD after (64 * a + p) 0) j ≡ 1
         by (yes z) =
             subst (λ (n : ℕ). bit (getD after n 0) j ≡ 1) (sym z)
-            (subst (λ (w : ℕ). bit w j ≡ 1) (sym here) (or-left _ (wide .mask) j (subst (λ (n : ℕ). bit (getD before n 0) j ≡ 1) z e)))
+            (subst (λ (w : ℕ). bit w j ≡ 1) (sym here) (or-left _ mask j (subst (λ (n : ℕ). bit (getD before n 0) j ≡ 1) z e)))
         by (no n) = subst (λ (w : ℕ). bit w j ≡ 1) (sym (there (64 * a + p) n)) e
 
-    held-new : (a p j : ℕ) → Held after a p j → Held before a p j ⊎ ((a ≡ head-of rules r) × (p ≡ i) × (bit (wide .mask) j ≡ 1))
+    held-new : (a p j : ℕ) → Held after a p j → Held before a p j ⊎ ((a ≡ head-of rules r) × (p ≡ i) × (bit mask j ≡ 1))
     held-new a p j (la, lp, lj, e) = by (ℕ-discrete (64 * a + p) (word-at rules i r))
       where
-        by : Dec (64 * a + p ≡ word-at rules i r) → Held before a p j ⊎ ((a ≡ head-of rules r) × (p ≡ i) × (bit (wide .mask) j ≡ 1))
+        by : Dec (64 * a + p ≡ word-at rules i r) → Held before a p j ⊎ ((a ≡ head-of rules r) × (p ≡ i) × (bit mask j ≡ 1))
         by (yes z) =
-            let f : bit (bitOr (getD before (word-at rules i r) 0) (wide .mask)) j ≡ 1 =
+            let f : bit (bitOr (getD before (word-at rules i r) 0) mask) j ≡ 1 =
             subst (λ (w : ℕ). bit w j ≡ 1) here (subst (λ (n : ℕ). bit (getD after n 0) j ≡ 1) z e) in
             ⊎-elim (λ g. inl (la, lp, lj, subst (λ (n : ℕ). bit (getD before n 0) j ≡ 1) (sym z) g))
-            (λ g. inr (omega (arith, z, low .1), omega (arith, z, low .1), g)) (or-split _ (wide .mask) j f)
+            (λ g. inr (omega (arith, z, low .1), omega (arith, z, low .1), g)) (or-split _ mask j f)
         by (no n) = inl (la, lp, lj, subst (λ (w : ℕ). bit w j ≡ 1) (there (64 * a + p) n) e)
 
-    -- where the rule comes to is held then
-    pub widened-found : (j : ℕ) → WalkTo steps runs before i (words-of rules r) j → Held after (head-of rules r) i j
-    widened-found j w =
-        let lj : j < 64 = walk-below steps runs before lent w (low .1) in
-        (low .0, low .1, lj, subst (λ (w : ℕ). bit w j ≡ 1) (sym here) (or-right (getD before (word-at rules i r) 0) (wide .mask) j (wide .walked .every j lj w)))
-
-    pub widened-sound : SoundMarks rules steps runs before → SoundMarks rules steps runs after
-    widened-sound sound = record { each = λ a p j h. ⊎-elim (sound .each a p j) (new a p j (h .2)) (held-new a p j h) }
+    pub added-sound : ((j : ℕ) → j < 64 → bit mask j ≡ 1 → Runs (Carried (body-of steps) runs) (RuleOf (book-of rules)) i (body-of (words-of rules r)) j)
+        → SoundMarks rules steps runs before → SoundMarks rules steps runs after
+    added-sound right sound = record { each = λ a p j h. ⊎-elim (sound .each a p j) (new a p j (h .2)) (held-new a p j h) }
       where
-        new : (a p j : ℕ) → j < 64 → (a ≡ head-of rules r) × (p ≡ i) × (bit (wide .mask) j ≡ 1)
+        has : RuleOf (book-of rules) (head-of rules r) (body-of (words-of rules r))
+        has = rule (rule-of rules r) (rule-member rules r count) refl
+
+        new : (a p j : ℕ) → j < 64 → (a ≡ head-of rules r) × (p ≡ i) × (bit mask j ≡ 1)
             → (p ≤ runs) × Ends (Carried (body-of steps) runs) (RuleOf (book-of rules)) a p j
-        new a p j lj (e, f, b) =
-            let w = wide .walked .only j lj b in
-            let has : RuleOf (book-of rules) (head-of rules r) (body-of (words-of rules r)) = rule (rule-of rules r) (rule-member rules r count) refl in
-            rw (e, f)
-            (place, (body-of (words-of rules r), has, walk-runs (Carried (body-of steps) runs) (RuleOf (book-of rules)) (λ a p. p ≤ runs) (λ b p q h. sound .each b p q h .1) w))
+        new a p j lj (e, f, b) = rw (e, f) (place, (body-of (words-of rules r), has, right j lj b))
 
     -- a rule that does not call this head is walked as before, and so closed as before
-    pub widened-back : (m k : ℕ) → bit m (head-of rules r) ≡ 1 → NoCall m (words-of rules k) → (j : ℕ) → WalkTo steps runs after i (words-of rules k) j
+    pub added-back : (m k : ℕ) → bit m (head-of rules r) ≡ 1 → NoCall m (words-of rules k) → (j : ℕ) → WalkTo steps runs after i (words-of rules k) j
         → WalkTo steps runs before i (words-of rules k) j
-    widened-back m k one none j w =
+    added-back m k one none j w =
         walk-calls (λ b p q mem h. ⊎-elim (λ g. g) (λ (e, _, _). absurd (omega (arith, one, none b mem, ap (bit m) e))) (held-new b p q h)) w
 
-    pub widened-kept : (m k : ℕ) → bit m (head-of rules r) ≡ 1 → NoCall m (words-of rules k) → ClosedRule rules steps runs i before k
+    pub added-kept : (m k : ℕ) → bit m (head-of rules r) ≡ 1 → NoCall m (words-of rules k) → ClosedRule rules steps runs i before k
         → ClosedRule rules steps runs i after k
-    widened-kept m k one none closed j w = held-up _ _ j (closed j (widened-back m k one none j w))
+    added-kept m k one none closed j w = held-up _ _ j (closed j (added-back m k one none j w))
 
-    pub widened-grown : Grown i before after
-    widened-grown = record {
-      size = ap length (wide .put) ∙ length-set before (word-at rules i r) _;
+    pub added-grown : Grown i before after
+    added-grown = record {
+      size = ap length (added .put) ∙ length-set before (word-at rules i r) _;
       past = λ n l. there n (λ z. omega (arith, z, low .0, low .1));
       elsewhere = λ a p l ne. there (64 * a + p) (λ z. ne (omega (arith, z, low .1)));
       wide = λ w n. widened w n (ℕ-discrete n (word-at rules i r));
-      up = up (eqb (bitOr (getD before (word-at rules i r) 0) (wide .mask)) (getD before (word-at rules i r) 0)) refl;
+      up = up (eqb (bitOr (getD before (word-at rules i r) 0) mask) (getD before (word-at rules i r) 0)) refl;
     }
       where
         widened : Wide before → (n : ℕ) → Dec (n ≡ word-at rules i r) → getD after n 0 < 2 ^ 64
-        widened w n (yes z) = subst (λ (m : ℕ). m < 2 ^ 64) (sym (ap (λ (n : ℕ). getD after n 0) z ∙ here)) (or-lt 64 _ (wide .mask) (w (word-at rules i r)) (wide .small))
+        widened w n (yes z) = subst (λ (m : ℕ). m < 2 ^ 64) (sym (ap (λ (n : ℕ). getD after n 0) z ∙ here)) (or-lt 64 _ mask (w (word-at rules i r)) (added .small))
         widened w n (no ne) = subst (λ (m : ℕ). m < 2 ^ 64) (sym (there n ne)) (w n)
 
-        up : (b : Bool) → eqb (bitOr (getD before (word-at rules i r) 0) (wide .mask)) (getD before (word-at rules i r) 0) ≡ b → total before ≤ total after
+        up : (b : Bool) → eqb (bitOr (getD before (word-at rules i r) 0) mask) (getD before (word-at rules i r) 0) ≡ b → total before ≤ total after
         up true e =
-            let z : after ≡ before = wide .put ∙ ap (set before (word-at rules i r)) (eqb-true _ _ e) ∙ set-getD before (word-at rules i r) 0 in
+            let z : after ≡ before = added .put ∙ ap (set before (word-at rules i r)) (eqb-true _ _ e) ∙ set-getD before (word-at rules i r) 0 in
             omega (arith, ap total z)
         up false e =
-            let ne : bitOr (getD before (word-at rules i r) 0) (wide .mask) ≢ getD before (word-at rules i r) 0 = eqb-false _ _ e in
-            omega (arith, ap total (wide .put), total-set before (word-at rules i r) (bitOr (getD before (word-at rules i r) 0) (wide .mask)) (low .2) (omega (arith, or-up (getD before (word-at rules i r) 0) (wide .mask), ne)))
+            let ne : bitOr (getD before (word-at rules i r) 0) mask ≢ getD before (word-at rules i r) 0 = eqb-false _ _ e in
+            omega (arith, ap total (added .put), total-set before (word-at rules i r) (bitOr (getD before (word-at rules i r) 0) mask) (low .2) (omega (arith, or-up (getD before (word-at rules i r) 0) mask, ne)))
 
-    pub widened-same : gained ≡ false → after ≡ before
-    widened-same e = wide .put ∙ ap (set before (word-at rules i r)) (eqb-true _ _ (not-false _ (sym (wide .told) ∙ e))) ∙ set-getD before (word-at rules i r) 0
+    pub added-same : gained ≡ false → after ≡ before
+    added-same e = added .put ∙ ap (set before (word-at rules i r)) (eqb-true _ _ (not-false _ (sym (added .told) ∙ e))) ∙ set-getD before (word-at rules i r) 0
 
-    pub widened-more : gained ≡ true → total before < total after
-    widened-more e =
-        let ne : bitOr (getD before (word-at rules i r) 0) (wide .mask) ≢ getD before (word-at rules i r) 0 = eqb-false _ _ (not-true _ (sym (wide .told) ∙ e)) in
-        omega (arith, ap total (wide .put), total-set before (word-at rules i r) (bitOr (getD before (word-at rules i r) 0) (wide .mask)) (low .2) (omega (arith, or-up (getD before (word-at rules i r) 0) (wide .mask), ne)))
+    pub added-more : gained ≡ true → total before < total after
+    added-more e =
+        let ne : bitOr (getD before (word-at rules i r) 0) mask ≢ getD before (word-at rules i r) 0 = eqb-false _ _ (not-true _ (sym (added .told) ∙ e)) in
+        omega (arith, ap total (added .put), total-set before (word-at rules i r) (bitOr (getD before (word-at rules i r) 0) mask) (low .2) (omega (arith, or-up (getD before (word-at rules i r) 0) mask, ne)))
+
+  -- ---- the walk of one rule
+  module _ (r : ℕ) (count : r < length rules / 18) {before after : List ℕ} {gained : Bool} (lent : Lent steps runs before)
+      (wide : Widened rules steps runs i r before after gained) where
+    -- where the rule comes to is held then
+    pub widened-found : (j : ℕ) → WalkTo steps runs before i (words-of rules r) j → Held after (head-of rules r) i j
+    widened-found j w =
+        let (lh, li, la) = low r count lent (wide .added) in
+        let lj : j < 64 = walk-below steps runs before lent w li in
+        (lh, li, lj, subst (λ (w : ℕ). bit w j ≡ 1) (sym (here r count lent (wide .added))) (or-right (getD before (word-at rules i r) 0) (wide .mask) j (wide .walked .every j lj w)))
+
+    pub widened-sound : SoundMarks rules steps runs before → SoundMarks rules steps runs after
+    widened-sound sound =
+        added-sound r count lent (wide .added)
+        (λ j lj b. walk-runs (Carried (body-of steps) runs) (RuleOf (book-of rules)) (λ a p. p ≤ runs) (λ b p q h. sound .each b p q h .1) (wide .walked .only j lj b)) sound

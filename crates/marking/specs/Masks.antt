@@ -13,7 +13,7 @@ use Rattle.steps.specs.Step.{Step, query, call}
 use Rattle.steps.specs.Words.{is-call, body-of, head-of, count-of, words-of, book-of}
 use Rattle.steps.specs.Elementary.{on, stuck, elementary}
 use Rattle.steps.proofs.Deductions.{RuleOf}
-use Rattle.steps.proofs.Execution.{Ends}
+use Rattle.steps.proofs.Execution.{Runs, Ends}
 use Rattle.steps.proofs.Tables.{Walk}
 use Rattle.marking.specs.Marking.{left-by}
 
@@ -81,8 +81,9 @@ pub record Grown (i : ℕ) (before after : List ℕ) : Type 0 where
   pub wide : Wide before → Wide after
   pub up : total before ≤ total after
 
--- Rules that can be walked: heads below 64, at most 16 steps, good step words.
+-- Rules that can be walked: at most 256, heads below 64, at most 16 steps, good step words.
 pub record Walkable (rules : List ℕ) : Type 0 where
+  pub few : length rules / 18 ≤ 256
   pub heads : (r : ℕ) → r < length rules / 18 → head-of rules r < 64
   pub counts : (r : ℕ) → r < length rules / 18 → count-of rules r ≤ 16
   pub good : (r : ℕ) → r < length rules / 18 → GoodWords (words-of rules r)
@@ -94,6 +95,12 @@ NoCall m words = (b : ℕ) → List·Memᴰ (call b) (body-of words) → bit m b
 -- Where rule r stands in a table for place i.
 abbrev pub word-at : List ℕ → ℕ → ℕ → ℕ
 word-at rules i r = 64 * head-of rules r + i
+
+-- The places of a mask have been added to the word of rule r's head for place i; whether the word has gained.
+pub record Added (rules : List ℕ) (i r mask : ℕ) (before after : List ℕ) (gained : Bool) : Type 0 where
+  pub small : mask < 2 ^ 64
+  pub put : after ≡ set before (word-at rules i r) (bitOr (getD before (word-at rules i r) 0) mask)
+  pub told : gained ≡ not (eqb (bitOr (getD before (word-at rules i r) 0) mask) (getD before (word-at rules i r) 0))
 
 module _ (rules steps : List ℕ) (runs : ℕ) where
   -- Each bit is the end of an execution.
@@ -112,10 +119,8 @@ module _ (rules steps : List ℕ) (runs : ℕ) where
     -- Rule r has been walked, and the places to which it comes are added to its head's word; whether the word has gained.
     pub record Widened (r : ℕ) (before after : List ℕ) (gained : Bool) : Type 0 where
       pub mask : ℕ
-      pub small : mask < 2 ^ 64
       pub walked : Mask mask (WalkTo steps runs before i (words-of rules r))
-      pub put : after ≡ set before (word-at rules i r) (bitOr (getD before (word-at rules i r) 0) mask)
-      pub told : gained ≡ not (eqb (bitOr (getD before (word-at rules i r) 0) mask) (getD before (word-at rules i r) 0))
+      pub added : Added rules i r mask before after gained
 
     -- A pass has come to rule r, from one table to another: what gained in the pass before it, and what has gained in it.
     pub record Turned (gained r : ℕ) (before table : List ℕ) (more : ℕ) : Type 0 where
@@ -137,6 +142,24 @@ module _ (rules steps : List ℕ) (runs : ℕ) where
       pub grown : Grown i before after
       pub sound : SoundMarks before → SoundMarks after
       pub closed : (r : ℕ) → r < length rules / 18 → ClosedRule after r
+
+    -- An execution of the first p steps of rule r comes to each place of the mask.
+    abbrev pub Came : (r p mask : ℕ) → Type 0
+    Came r p mask =
+        (j : ℕ) → j < 64 → bit mask j ≡ 1 → Runs (Carried (body-of steps) runs) (RuleOf (book-of rules)) i (body-of (take p (words-of rules r))) j
+
+    -- Notes of places that the first p steps of rule r come to, in word 17 r + p.
+    pub record Noted (notes : List ℕ) : Type 0 where
+      pub room : 4352 ≤ length notes
+      pub each : (r p : ℕ) → p ≤ 16 → Came r p (getD notes (17 * r + p) 0)
+
+    -- What gains are followed by at the place: nothing wrong is in the table or the notes.
+    pub record Ready (table notes : List ℕ) : Type 0 where
+      pub lent : Lent steps runs table
+      pub place : i ≤ runs
+      pub walkable : Walkable rules
+      pub sound : SoundMarks table
+      pub noted : Noted notes
 
   -- The places from `left` on are settled.
   pub record AllSettled (left : ℕ) (before after : List ℕ) : Type 0 where

@@ -11,6 +11,7 @@ ghost use Rattle.steps.specs.Words.{body-of};
 ghost use Rattle.marking.specs.Marking.{question, bad-record, refusal, Outcome};
 ghost use Rattle.marking.specs.Masks.{Ran, Cleared};
 
+mod gains;
 mod masks;
 mod passes;
 

@@ -17,7 +17,7 @@ pub(crate) fn has(mask: u64, p: usize) -> bool
 }
 
 // The first place of a mask.
-fn lowest(mask: u64) -> usize
+pub(crate) fn lowest(mask: u64) -> usize
     requires { ⌜ 0 < mask ⌝ }
     ensures { λ p. ⌜ (p < 64) × (bit mask p ≡ 1) ⌝ }
 {
@@ -25,7 +25,7 @@ fn lowest(mask: u64) -> usize
 }
 
 // The places to which one step comes from place p.
-fn reach(step: u16, p: usize, runs: usize, recorded: &[u16], table: &[u64]) -> u64
+pub(crate) fn reach(step: u16, p: usize, runs: usize, recorded: &[u16], table: &[u64]) -> u64
     requires { ⌜ Lent (now recorded) runs (now table) × (p < 64) × GoodWord step ⌝ }
     ensures { λ r. ⌜ Mask r (WalkTo (now (recorded .entry)) runs (now (table .entry)) p (step ∷ [])) ⌝ }
 {
@@ -43,7 +43,7 @@ fn reach(step: u16, p: usize, runs: usize, recorded: &[u16], table: &[u64]) -> u
 }
 
 // The places to which one step comes from the places of a mask.
-fn spread(mask: u64, step: u16, runs: usize, recorded: &[u16], table: &[u64]) -> u64
+pub(crate) fn spread(mask: u64, step: u16, runs: usize, recorded: &[u16], table: &[u64]) -> u64
     requires { ⌜ Lent (now recorded) runs (now table) × GoodWord step ⌝ }
     ensures { λ r. ⌜ Mask r (λ j. (p : ℕ) × (p < 64) × (bit mask p ≡ 1)
         × WalkTo (now (recorded .entry)) runs (now (table .entry)) p (step ∷ []) j) ⌝ }

@@ -1,5 +1,6 @@
 // Passes over the rules at a place, until one adds nothing to the table; and so at every place, from the last to the first, since a body walked from
 // a place reads no word of an earlier one.
+use crate::gains;
 use crate::masks;
 use bodies;
 use steps::word;
@@ -11,7 +12,7 @@ ghost use mathlib.Core.Logic.{_≢_};
 ghost use lib.Bits.{bitOr};
 ghost use lib.ListN.{length};
 ghost use Rattle.steps.specs.State.{bit};
-ghost use Rattle.steps.specs.Words.{is-call, head-of};
+ghost use Rattle.steps.specs.Words.{is-call};
 ghost use Rattle.marking.specs.Masks.{Lent, GoodWord, GoodWords, Walkable, NoCall, SoundMarks, Widened, Turned};
 ghost use Rattle.marking.specs.Masks.{Fresh, Passed, Settled, AllSettled};
 
@@ -44,14 +45,6 @@ fn stale(body: &[u16], gained: u64, more: u64) -> bool
     false
 }
 
-// The head of rule r.
-fn head(rules: &[u16], r: usize) -> usize
-    requires { ⌜ (r < length (now rules) / 18) × Walkable (now rules) ⌝ }
-    ensures { λ a. ⌜ (a ≡ head-of (now (rules .entry)) r) × (a < 64) ⌝ }
-{
-    rules[18 * r] as usize
-}
-
 // Walks rule r at a place and adds the places to which it comes to its head's word. Says whether the word has gained one.
 fn widen(
     rules: &[u16],
@@ -65,13 +58,7 @@ fn widen(
     ensures { λ b. ⌜ Widened (now (rules .entry)) (now (recorded .entry)) runs place r (now (table .entry)) (now (table .exit)) b ⌝ }
 {
     let mask = masks::walk_mask(bodies::rule_steps(rules, r), place, runs, recorded, table);
-    let at = 64 * head(rules, r) + place;
-    let old = table[at];
-    if old | mask != old {
-        table[at] = old | mask;
-        return true;
-    }
-    false
+    gains::add(rules, r, mask, place, table)
 }
 
 // Rule r in a pass: it is walked if an action that it calls has gained in the pass before (`gained`; 0 for all) or in this one (`more`). Gives the
@@ -92,7 +79,7 @@ fn turn(
 {
     if stale(bodies::rule_steps(rules, r), gained, more) {
         if widen(rules, r, place, runs, recorded, table) {
-            return more | 1 << head(rules, r);
+            return more | 1 << gains::head(rules, r);
         }
     }
     more
@@ -132,14 +119,26 @@ fn settle(rules: &[u16], place: usize, runs: usize, recorded: &[u16], table: &mu
     }
 }
 
-// Settles every place up to `runs`, the last first.
-pub(crate) fn settle_all(rules: &[u16], runs: usize, recorded: &[u16], table: &mut [u64])
-    requires { ⌜ Lent (now recorded) runs (now table) × Walkable (now rules) × SoundMarks (now rules) (now recorded) runs (now table) ⌝ }
+// Settles every place up to `runs`, the last first. Gains are followed before the passes, which then have nothing to add.
+fn settle_places(rules: &[u16], calls: &[u16], runs: usize, recorded: &[u16], table: &mut [u64])
+    requires { ⌜ Lent (now recorded) runs (now table) × Walkable (now rules) × SoundMarks (now rules) (now recorded) runs (now table)
+        × (length (now calls) ≡ 4161) ⌝ }
     ensures { λ _. ⌜ AllSettled (now (rules .entry)) (now (recorded .entry)) runs 0 (now (table .entry)) (now (table .exit)) ⌝ }
 {
     let mut left = runs + 1;
     while 0 < left {
         left -= 1;
+        gains::gain(rules, calls, left, runs, recorded, table);
         settle(rules, left, runs, recorded, table);
     }
+}
+
+// Settles every place.
+pub(crate) fn settle_all(rules: &[u16], runs: usize, recorded: &[u16], table: &mut [u64])
+    requires { ⌜ Lent (now recorded) runs (now table) × Walkable (now rules) × SoundMarks (now rules) (now recorded) runs (now table) ⌝ }
+    ensures { λ _. ⌜ AllSettled (now (rules .entry)) (now (recorded .entry)) runs 0 (now (table .entry)) (now (table .exit)) ⌝ }
+{
+    let mut calls = [0u16; 4161];
+    gains::list_calls(rules, &mut calls);
+    settle_places(rules, &calls, runs, recorded, table);
 }

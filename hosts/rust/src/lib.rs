@@ -15,7 +15,7 @@
 //!
 //! In the functions below the caller lends all memory as slices. What each slice holds afterwards, for every
 //! refusal, is said at each function. As the header's constants say, [`evaluate`] and [`class`] need 1.75 MiB of stack, [`path`]
-//! 1.125 MiB, [`read`], [`fluent_name`], [`write`], [`merge`] and [`merged_fluent`] 64 KiB, [`store`], [`restore`] and [`mark`] 1 KiB,
+//! 1.125 MiB, [`read`], [`fluent_name`], [`write`], [`merge`], [`merged_fluent`] and [`mark`] 64 KiB, [`store`] and [`restore`] 1 KiB,
 //! [`report`] 8 KiB: a thread of the standard library has 2 MiB.
 //!
 //! ```

@@ -4,6 +4,7 @@ use mathlib.Core.Path.{sym, ap, _∙_}
 use lib.ListN.{length}
 use borrow.Author.Needs.{needs}
 use Rattle.marking.specs.Marking.{question}
+use Rattle.marking.proofs.Marks.{size-recorded}
 use Rattle.marking.proofs.Outcomes.{room-enough, taken-of, walkable-of, goal-good, lent-of, cleared-sound, refused-outcome, marked-outcome}
 use Rattle.marking.proofs.mark.Statement.{statement}
 use Rattle.marking.proofs.mark.Tie as tie
@@ -41,7 +42,8 @@ shr-yes c =
     let a = c .before .before .before .before .before .before .before .before .before .before .before .before .before .before .before .before .before .args in
     let q = question (a .fluents) (a .actions) (a .rules .now) (a .goal .now) (a .start) (a .recorded .now) in
     let e = sym (c .before .before .before .before .before .before .before .before .before .before .before .before .record-refusal .ensures) ∙ c .before .before .before .before .before .before .before .before .before .before .before .if1 .left in
-    omega (arith, taken-of q (length (a .table .now)) e (c .before .before .before .before .before .before .before .before .before .before .runs-of .ensures) .few)
+    let taken = taken-of q (length (a .table .now)) e (c .before .before .before .before .before .before .before .before .before .before .runs-of .ensures) in
+    omega (arith, taken .few, taken .ran .within, size-recorded q)
 
 same-length : tie.Need-same-length
 same-length c = c .before .before .before .before .settle-all .ensures .size ∙ c .before .before .before .before .before .before .before .before .clear .ensures .size

@@ -2,8 +2,8 @@
 use native.Mathlib.Omega.{arith}
 use mathlib.Core.Path.{refl}
 use borrow.Author.Needs.{needs}
-use Rattle.marking.proofs.passes.head.Statement.{statement}
-use Rattle.marking.proofs.passes.head.Tie as tie
+use Rattle.marking.proofs.gains.head.Statement.{statement}
+use Rattle.marking.proofs.gains.head.Tie as tie
 
 mul-result : tie.Need-mul-result
 mul-result c = search needs
