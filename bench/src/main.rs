@@ -1,5 +1,5 @@
 //! Times of the library beside plain programs that do the same; `bench/run` says what is printed. `bench [SECONDS [FAMILY]]`: the
-//! exit status is 1, after all is printed, if a result differs.
+//! exit status is 1, after all is printed, if a result differs or a marking took too long.
 
 mod book;
 mod classes;

@@ -13,7 +13,7 @@ const CALL: u16 = 768;
 const ACTIONS: u16 = 64;
 /// Rules of an action.
 const EACH: u16 = 4;
-/// Milliseconds that a marking may take.
+/// Milliseconds that the least time of a marking may be.
 const MOST: f64 = 50.0;
 
 /// The step at a place of a body of an action; `at_random` counts up.

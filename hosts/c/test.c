@@ -187,8 +187,8 @@ static void test_refused_questions(void) {
     fill(ends, WORDS(ends));
 #define RUN(f, a, rules, len, goal, goal_len, start) \
     lawhemuri_evaluate(f, a, rules, len, goal, goal_len, start, calls, 16, answers, 152, ends, 8).refusal
-    EXPECT(RUN(65, 1, RULES, 36, GOAL, 1, 0) == LAWHEMURI_BAD_COUNTS);
-    EXPECT(RUN(2, 65, RULES, 36, GOAL, 1, 0) == LAWHEMURI_BAD_COUNTS);
+    EXPECT(RUN(LAWHEMURI_MOST_FLUENTS + 1, 1, RULES, 36, GOAL, 1, 0) == LAWHEMURI_BAD_COUNTS);
+    EXPECT(RUN(2, LAWHEMURI_MOST_ACTIONS + 1, RULES, 36, GOAL, 1, 0) == LAWHEMURI_BAD_COUNTS);
     EXPECT(RUN(2, 1, RULES, 35, GOAL, 1, 0) == LAWHEMURI_BAD_LENGTH);
     EXPECT(RUN(2, 1, bad, 36, GOAL, 1, 0) == LAWHEMURI_BAD_RULE);
     EXPECT(RUN(2, 1, RULES, 36, goal, 17, 0) == LAWHEMURI_BAD_GOAL);

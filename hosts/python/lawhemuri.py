@@ -4,82 +4,151 @@
 after each end a line with a path to it: `path` and the states, or `path`, `refused` and 43 where there are more than 65,536 of them.
 """
 
+from __future__ import annotations
+
 import ctypes
 import os
 import sys
+from collections.abc import Sequence
 from fractions import Fraction
+from typing import Union
 
 U8, U16, U64, SIZE = ctypes.c_uint8, ctypes.c_uint16, ctypes.c_uint64, ctypes.c_size_t
 
+# What is taken for the bytes of a sheet; a `str` by its UTF-8.
+Text = Union[bytes, bytearray, memoryview, str]
+# Arrays that are lent: rule words, and words of 64 bits.
+Rules = ctypes.Array[ctypes.c_uint16]
+Words = ctypes.Array[ctypes.c_uint64]
 
-class Sheet(ctypes.Structure):
+# What each refusal means, in the words of the Rust host.
+MEANINGS = {
+    10: "sheet longer than 65,536 bytes",
+    11: "a byte other than TAB, LF, 33 to 126, a comment's SPACE or the CR of CR LF",
+    12: "the last line is not ended by LF",
+    13: "no record word, or one out of order",
+    14: "a missing name, or a field that is no name or step",
+    15: "a name defined before, or twice in start",
+    16: "a name undefined or of the wrong kind",
+    17: "too many fluents, actions, rules or steps",
+    18: "no start or no goal",
+    19: "too few rule words lent",
+    20: "over 64 fluents or actions",
+    21: "rule words not a multiple of 18, or over 256 rules",
+    22: "a bad rule word",
+    23: "a bad goal",
+    24: "a bit of a state at or above the fluent count",
+    25: "over 1,024 starts, or under 4 result words for each",
+    26: "results of a class that are bad, or do not fit its ends",
+    27: "the output has fewer than 2 words for each fluent and 4 more",
+    30: "the tables have too little room for the run",
+    31: "the list has fewer places than there are ends",
+    40: "a record count over its room",
+    41: "no such answer record",
+    42: "a bad call record, or an answer that is not justified",
+    43: "the list has fewer places than the path has states",
+    50: "fewer bytes lent than the text has",
+    60: "a record of over 63 steps",
+    61: "a table of under 4,096 words",
+    62: "a recorded step that is a call, or of no fluent",
+    70: "a name that is a fluent in one sheet and an action in the other",
+    80: "the output has fewer places than there are words or states",
+    81: "words that are not one per fluent for each block of 64 states",
+    82: "a bit set past the last state",
+}
+
+
+def bytes_of(text: Text) -> bytes:
+    """The bytes of a sheet. What ASCII has not, the reader refuses with 11."""
+    if isinstance(text, str):
+        return text.encode("utf-8", "surrogatepass")
+    if isinstance(text, (bytes, bytearray, memoryview)):
+        return bytes(text)
+    raise TypeError(f"a sheet is bytes, bytearray, memoryview or str, not {type(text).__name__}")
+
+
+class Shown(ctypes.Structure):
+    """A result of the library, printed with its fields."""
+
+    def __repr__(self) -> str:
+        fields = ((name, getattr(self, name)) for name, _ in self._fields_)
+        shown = (f"{name}={list(value) if isinstance(value, ctypes.Array) else value}" for name, value in fields)
+        return f"{type(self).__name__}({', '.join(shown)})"
+
+
+class Sheet(Shown):
     """What a sheet says beside its rule words."""
 
     _fields_ = [(name, U64) for name in ("refusal", "line", "fluents", "actions", "rules", "start", "goal_len")]
     _fields_ += [("goal", U16 * 16)]
 
 
-class Span(ctypes.Structure):
+class Span(Shown):
     """A part of a sheet."""
 
     _fields_ = [("at", SIZE), ("len", SIZE)]
 
 
-class Written(ctypes.Structure):
+class Written(Shown):
     """The refusal, 0 for none, its line, and the length of the text written."""
 
     _fields_ = [(name, U64) for name in ("refusal", "line", "length")]
 
 
-class Merged(ctypes.Structure):
+class Merged(Shown):
     """The refusal, 0 for none, the sheet and the line of a sheet's own fault, and the length of the text written."""
 
     _fields_ = [(name, U64) for name in ("refusal", "sheet", "line", "length")]
 
 
-class Part(ctypes.Structure):
+class Part(Shown):
     """A part of one of two sheets: 1, 2, or 0 for none."""
 
     _fields_ = [("sheet", U64), ("at", SIZE), ("len", SIZE)]
 
 
-class Run(ctypes.Structure):
+class Run(Shown):
     """The refusal, 0 for none, and the counts."""
 
     _fields_ = [(name, U64) for name in ("refusal", "ends", "calls", "answers")]
 
 
-class States(ctypes.Structure):
+class States(Shown):
     """The refusal, 0 for none, and how many states the path has."""
 
     _fields_ = [(name, U64) for name in ("refusal", "states")]
 
 
-class Archived(ctypes.Structure):
+class Archived(Shown):
     """The refusal, 0 for none, and how many words or states are written."""
 
     _fields_ = [(name, U64) for name in ("refusal", "count")]
 
 
-class Marked(ctypes.Structure):
+class Marked(Shown):
     """The refusal, 0 for none, and 1 for a yes."""
 
     _fields_ = [(name, U64) for name in ("refusal", "yes")]
 
 
 class Refused(Exception):
-    """A numbered refusal, with its line for 13 to 17, and of a merge the sheet at fault. With 31 `finished` has the run's counts, its calls and its answers."""
+    """A numbered refusal and what it means, with its line for 13 to 17, and of a merge the sheet at fault. With 31 `finished` has the
+    run's counts, its calls and its answers."""
 
-    def __init__(self, number, line=0, finished=None, sheet=0):
-        place = [f"sheet {sheet}"] * (sheet > 0) + [f"line {line}"] * (line > 0)
-        super().__init__(", ".join([f"refused {number}"] + place))
+    def __init__(self, number: int, line: int = 0, finished: tuple | None = None, sheet: int = 0):
         self.number, self.line, self.finished, self.sheet = number, line, finished, sheet
+        self.meaning = MEANINGS.get(number, "unknown")
+        place = [f"sheet {sheet}"] * (sheet > 0) + [f"line {line}"] * (line > 0)
+        super().__init__(", ".join([f"refused {number}: {self.meaning}"] + place))
+
+    def __repr__(self) -> str:
+        return f"Refused({self})"
 
 
 class Library:
     """The operations of one shared library."""
 
-    def __init__(self, path):
+    def __init__(self, path: str):
         lib = ctypes.CDLL(path)
         words, longs = ctypes.POINTER(U16), ctypes.POINTER(U64)
         self._read, self._name, self._evaluate = lib.lawhemuri_read, lib.lawhemuri_fluent_name, lib.lawhemuri_evaluate
@@ -106,41 +175,46 @@ class Library:
         self._mark, self._mark.restype = lib.lawhemuri_mark, Marked
         self._mark.argtypes = [U64, U64, words, SIZE, words, SIZE, U64, words, SIZE, longs, SIZE]
 
-    def read(self, text):
+    def read(self, text: Text) -> tuple[Sheet, Rules]:
         """The sheet and its rule words."""
+        text = bytes_of(text)
         rules = (U16 * (256 * 18))()
         sheet = self._read(text, len(text), rules, len(rules))
         if sheet.refusal:
             raise Refused(sheet.refusal, sheet.line)
         return sheet, rules
 
-    def fluent_name(self, text, fluent):
+    def fluent_name(self, text: Text, fluent: int) -> bytes:
         """The part of the sheet that defines a fluent."""
+        text = bytes_of(text)
         part = self._name(text, len(text), fluent)
         return text[part.at : part.at + part.len]
 
-    def write(self, text, room=None):
+    def write(self, text: Text, room: int | None = None) -> bytes:
         """The one fixed text of what the sheet says, in a room as long as the sheet if none is given."""
+        text = bytes_of(text)
         out = (U8 * (len(text) if room is None else room))()
         written = self._write(text, len(text), out, len(out))
         if written.refusal:
             raise Refused(written.refusal, written.line)
         return bytes(out[: written.length])
 
-    def merge(self, first, second, room=65536):
+    def merge(self, first: Text, second: Text, room: int = 65536) -> bytes:
         """The one fixed text of two sheets together."""
+        first, second = bytes_of(first), bytes_of(second)
         out = (U8 * room)()
         merged = self._merge(first, len(first), second, len(second), out, len(out))
         if merged.refusal:
             raise Refused(merged.refusal, merged.line, sheet=merged.sheet)
         return bytes(out[: merged.length])
 
-    def merged_fluent(self, first, second, fluent):
+    def merged_fluent(self, first: Text, second: Text, fluent: int) -> bytes:
         """The part of whichever sheet brought a merged fluent's name first."""
+        first, second = bytes_of(first), bytes_of(second)
         part = self._merged(first, len(first), second, len(second), fluent)
         return (second if part.sheet == 2 else first)[part.at : part.at + part.len]
 
-    def evaluate(self, sheet, rules, rooms=(512, 256, 256)):
+    def evaluate(self, sheet: Sheet, rules: Rules, rooms: tuple[int, int, int] = (512, 256, 256)) -> tuple[Run, list[int], Words, Words]:
         """The run's counts, its ends in rising order, and the tables of calls and answers."""
         calls, answers, ends = (U64 * (2 * rooms[0]))(), (U64 * (19 * rooms[1]))(), (U64 * rooms[2])()
         run = self._evaluate(
@@ -151,7 +225,9 @@ class Library:
             raise Refused(run.refusal, finished=(run, calls, answers) if run.refusal == 31 else None)
         return run, ends[: run.ends], calls, answers
 
-    def class_run(self, sheet, rules, starts, rooms=None, words=None):
+    def class_run(
+        self, sheet: Sheet, rules: Rules, starts: Sequence[int], rooms: tuple[int, int, int] | None = None, words: int | None = None
+    ) -> list[tuple[Run, list[int]]]:
         """For each start its run, whose refusal is 0 for none, and its ends in rising order. `rooms` are those of calls, answers and ends,
         512, 256 and 256 for each start if none are given; `words` is the room for the result words. The tables are not handed back."""
         if not all(0 <= start < 2**64 for start in starts):
@@ -172,7 +248,7 @@ class Library:
             used += taken
         return given
 
-    def path(self, sheet, rules, run, calls, answers, record, room=65536):
+    def path(self, sheet: Sheet, rules: Rules, run: Run, calls: Words, answers: Words, record: int, room: int = 65536) -> list[int]:
         """The states of the execution that an answer record's evidence unfolds to."""
         states = (U64 * room)()
         path = self._path(
@@ -183,7 +259,7 @@ class Library:
             raise Refused(path.refusal)
         return states[: path.states]
 
-    def store(self, fluents, states, out=None):
+    def store(self, fluents: int, states: Sequence[int], out: Words | None = None) -> list[int]:
         """The words of the states by fluent; `out` is the output lent, else one that is long enough."""
         out = (U64 * ((len(states) + 63) // 64 * fluents))() if out is None else out
         stored = self._store(fluents, (U64 * len(states))(*states), len(states), out, len(out))
@@ -191,7 +267,7 @@ class Library:
             raise Refused(stored.refusal)
         return out[: stored.count]
 
-    def restore(self, fluents, count, words, out=None):
+    def restore(self, fluents: int, count: int, words: Sequence[int], out: Words | None = None) -> list[int]:
         """The states, `count` of them, of words by fluent; `out` is the output lent, else one that is long enough."""
         out = (U64 * count)() if out is None else out
         restored = self._restore(fluents, count, (U64 * len(words))(*words), len(words), out, len(out))
@@ -199,7 +275,9 @@ class Library:
             raise Refused(restored.refusal)
         return out[: restored.count]
 
-    def report(self, fluents, results, ends, out=None):
+    def report(
+        self, fluents: int, results: Sequence[int], ends: Sequence[int], out: Words | None = None
+    ) -> tuple[list[Fraction | None], Fraction | None, Fraction | None]:
         """The share of ends in which each fluent holds, the mean number of fluents holding in an end, and the mean ends per unrefused
         start, as fractions; None stands for one over nothing. `out` is the output lent, else one that is long enough."""
         out = (U64 * (2 * fluents + 4))() if out is None else out
@@ -211,7 +289,7 @@ class Library:
         *shares, held, mean = [Fraction(n, d) if d else None for n, d in pairs]
         return shares, held, mean
 
-    def mark(self, sheet, rules, record, table=None):
+    def mark(self, sheet: Sheet, rules: Rules, record: Sequence[int], table: Words | None = None) -> tuple[bool, Words]:
         """Whether the goal's deductions carry out just the recorded steps, and the table of marks; `table` is the one lent."""
         table = (U64 * 4096)() if table is None else table
         marked = self._mark(
@@ -223,13 +301,13 @@ class Library:
         return bool(marked.yes), table
 
 
-def goal_records(run, calls, answers):
+def goal_records(run: Run, calls: Words, answers: Words) -> dict[int, int]:
     """The number of the goal's answer record for each end."""
     goals = [i for i in range(run.answers) if calls[2 * answers[19 * i]] == 64]
     return {answers[19 * i + 1]: i for i in goals}
 
 
-def print_ends(lib, text):
+def print_ends(lib: Library, text: Text) -> None:
     """Prints the ends of a sheet, each with a path to it, or the sheet's refusal."""
     try:
         sheet, rules = lib.read(text)
@@ -249,7 +327,7 @@ def print_ends(lib, text):
         print("path", *path, sep="\t")
 
 
-def main():
+def main() -> None:
     with open(sys.argv[1], "rb") as file:
         print_ends(Library(os.environ["LAWHEMURI_SO"]), file.read())
 

@@ -4,13 +4,15 @@ import contextlib
 import glob
 import io
 import os
+import re
 import unittest
 from fractions import Fraction
 from random import Random
 
 import lawhemuri
 
-SHEETS = os.path.join(os.path.dirname(os.path.abspath(__file__)), "..", "..", "sheets")
+TOP = os.path.join(os.path.dirname(os.path.abspath(__file__)), "..", "..")
+SHEETS = os.path.join(TOP, "sheets")
 LIBRARY = lawhemuri.Library(os.environ["LAWHEMURI_SO"])
 
 # The paths of drills D1 and D5, and a path of 65,537 states.
@@ -61,6 +63,48 @@ class Sheets(unittest.TestCase):
             return
         for end, path in zip(ends, paths):
             self.assertEqual((path[0], path[-1]), (str(start_of(text.decode())), end[1]))
+
+
+class Kinds(unittest.TestCase):
+    """What a sheet may be lent as, and what is printed of results and refusals."""
+
+    TEXT = b"fluent\ta\nstart\ngoal\t+a\n"
+
+    def test_texts(self):
+        for lent in (bytearray(self.TEXT), memoryview(self.TEXT), self.TEXT.decode()):
+            self.assertEqual([bytes(part) for part in LIBRARY.read(lent)], [bytes(part) for part in LIBRARY.read(self.TEXT)])
+            self.assertEqual((LIBRARY.fluent_name(lent, 0), LIBRARY.write(lent)), (b"a", self.TEXT))
+            self.assertEqual((LIBRARY.merge(lent, self.TEXT), LIBRARY.merge(self.TEXT, lent)), (self.TEXT, self.TEXT))
+            self.assertEqual(LIBRARY.merged_fluent(lent, lent, 0), b"a")
+        for text in "fluent\t\u00e9\n", "\ufeff", "\ud800":
+            with self.assertRaises(lawhemuri.Refused) as refused:
+                LIBRARY.read(text)
+            self.assertEqual(refused.exception.number, 11)
+        for text in None, 7, [102]:
+            with self.assertRaisesRegex(TypeError, "a sheet is bytes"):
+                LIBRARY.read(text)
+
+    def test_printed(self):
+        sheet, rules = LIBRARY.read(self.TEXT)
+        self.assertEqual(
+            repr(sheet),
+            f"Sheet(refusal=0, line=0, fluents=1, actions=0, rules=0, start=0, goal_len=1, goal={[256] + [0] * 15})",
+        )
+        self.assertEqual(repr(LIBRARY.evaluate(sheet, rules)[0]), "Run(refusal=0, ends=1, calls=1, answers=1)")
+        with self.assertRaises(lawhemuri.Refused) as refused:
+            LIBRARY.merge(self.TEXT, b"\n")
+        said = "refused 13: no record word, or one out of order, sheet 2, line 1"
+        self.assertEqual((str(refused.exception), repr(refused.exception)), (said, f"Refused({said})"))
+
+    def test_meanings(self):
+        """The numbers are those of the header, the words those of the Rust host."""
+        header = content(os.path.join(TOP, "include", "lawhemuri.h")).decode()
+        between = header[header.index("#define LAWHEMURI_OK 0u") : header.index("---- Words ----")]
+        self.assertEqual([0, *lawhemuri.MEANINGS], [int(number) for number in re.findall(r"#define LAWHEMURI_\w+ (\d+)u", between)])
+        rust = content(os.path.join(TOP, "hosts", "rust", "src", "refusal.rs")).decode()
+        words = dict(re.findall(r'Refusal::(\w+) => "(.*)"', rust))
+        numbers = re.findall(r"(\w+) = (\d+),", rust)
+        self.assertEqual(lawhemuri.MEANINGS, {int(number): words[name] for name, number in numbers})
 
 
 class Denial(unittest.TestCase):

@@ -1,16 +1,16 @@
 -- If the second start names nothing beyond the first's, every end of the first sheet is an end of the merged one, both runs being unrefused.
 -- Assumes nothing.
 use Prim.Native.Nat.{ℕ}
-use native.Mathlib.Omega.{arith}
-use mathlib.Core.Path.{_≡_, ap, sym, _∙_}
+use mathlib.Core.Path.{_≡_}
 use mathlib.Core.List.{List, List·Memᴰ}
 use lib.ListN.{length}
 use Rattle.steps.specs.State.{State}
 use Rattle.sheet.specs.Book as sheet
 use Rattle.writer.specs.Text.{holding}
-use Rattle.evaluator.specs.Evaluated.{Evaluated, Asked, Lent, Told, asked, EndsListed, not-accepted, no-room, short-list, ends-listed}
-use Rattle.merge.specs.Joined.{bothBooks}
-use Rattle.merge.specs.Merge.{joins, mergeOf}
+use Rattle.evaluator.specs.Evaluated.{Evaluated, Asked, Lent, Told, asked}
+use Rattle.evaluator.proofs.Determined.{tabled}
+use Rattle.merge.specs.Joined.{both-books}
+use Rattle.merge.specs.Merge.{joins, merge-of}
 use Rattle.merge.proofs.Laws.{ends-kept}
 
 -- What a book asks of the evaluator: what `read` gives and writes for the sheet of the book. For the book of two sheets this is their merged text,
@@ -22,15 +22,8 @@ asked-of b = asked (length (b .names .fluents)) (length (b .names .actions)) (sh
 abbrev pub NothingBeyond : sheet.Book → sheet.Book → Type 0
 NothingBeyond a b = (n : List ℕ) → List·Memᴰ n (holding 0 (b .start) (b .names .fluents)) → List·Memᴰ n (holding 0 (a .start) (a .names .fluents))
 
--- The ends that an unrefused run lists.
-pub listed : {q : Asked} {before after : Lent} {r : Told} → Evaluated q before after r → r .refusal ≡ 0 → EndsListed q before after
-listed (not-accepted n z u) h = absurd (n (sym (ap (λ (x : Told). x .refusal) z) ∙ h))
-listed (no-room e f z u) h = let k = ap (λ (x : Told). x .refusal) z in absurd (omega arith)
-listed (short-list e f c l z t u) h = let k = ap (λ (x : Told). x .refusal) z in absurd (omega arith)
-listed (ends-listed e f c l z t u) h = u
-
-module _ (s t : List ℕ) (a b : sheet.Book) (e : mergeOf s t ≡ joins a b) (h : NothingBeyond a b) where
+module _ (s t : List ℕ) (a b : sheet.Book) (e : merge-of s t ≡ joins a b) (h : NothingBeyond a b) where
   -- Every end that the run of the first sheet lists, the run of the merged one lists.
   pub merged-keeps-ends : {before after before′ after′ : Lent} {r r′ : Told} (E : Evaluated (asked-of a) before after r) (z : r .refusal ≡ 0)
-      (E′ : Evaluated (asked-of (bothBooks a b)) before′ after′ r′) (z′ : r′ .refusal ≡ 0) → (D : State) → List·Memᴰ D (listed E z .ends) → List·Memᴰ D (listed E′ z′ .ends)
-  merged-keeps-ends E z E′ z′ D m = listed E′ z′ .exactly D .1 (ends-kept s t a b e h D (listed E z .exactly D .0 m))
+      (E′ : Evaluated (asked-of (both-books a b)) before′ after′ r′) (z′ : r′ .refusal ≡ 0) → (D : State) → List·Memᴰ D (tabled E z .ends) → List·Memᴰ D (tabled E′ z′ .ends)
+  merged-keeps-ends E z E′ z′ D m = tabled E′ z′ .exactly .members D .1 (ends-kept s t a b e h D (tabled E z .exactly .members D .0 m))

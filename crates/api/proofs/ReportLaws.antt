@@ -9,6 +9,7 @@ use lib.Dec.{eqb}
 use lib.ListN.{length, getD, take, drop}
 use lib.Seq.{take-at, getD-take, getD-drop, getD-append-add}
 use borrow.Author.Tests.{ltb-false}
+use Rattle.refusals.specs.Refusals as refusals
 use Rattle.steps.specs.State.{State}
 use Rattle.steps.proofs.Lists.{at-member}
 use Rattle.evaluator.specs.Evaluated.{Asked, Lent, Told, asked, told}
@@ -103,14 +104,14 @@ module _ {fluents actions : ℕ} {rules goal : List ℕ} {begun : List State} {r
     results-good : bad-starts words (length (S .ends)) ≡ false
     results-good = good-starts words (length (S .ends)) (omega (arith, words-long (S .given))) (omega (arith, long, many)) few-ends sum-is
 
-    left-good : (room : ℕ) → refusal fluents (words-left begun results′) (ends-left (words-left begun results′) after) room ≢ 26
+    left-good : (room : ℕ) → refusal fluents (words-left begun results′) (ends-left (words-left begun results′) after) room ≢ refusals.bad-results
     left-good room =
         rw (ends-are, words-are)
         (never-26 fluents words (S .ends) room results-good
         (good-ends fluents (S .ends) (λ i l. class-below S (getD (S .ends) i 0) (at-member (S .ends) i 0 l))))
 
   -- The results of a class run that is not refused, words past the last start cut off, and the ends that it wrote are never refused with 26.
-  pub class-report : {r : ℕ} → Ran (asked fluents actions rules goal) begun results before results′ after r → r ≢ 25 → (room : ℕ)
-      → refusal fluents (words-left begun results′) (ends-left (words-left begun results′) after) room ≢ 26
+  pub class-report : {r : ℕ} → Ran (asked fluents actions rules goal) begun results before results′ after r → r ≢ refusals.bad-class → (room : ℕ)
+      → refusal fluents (words-left begun results′) (ends-left (words-left begun results′) after) room ≢ refusals.bad-results
   class-report (refused b e w s) ne = absurd (ne e)
   class-report (ran b e T w) ne = left-good (ltb-false _ _ (or-false _ _ b .0)) (class-shown (asked fluents actions rules goal) (ran b e T w) e)

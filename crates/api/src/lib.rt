@@ -1,15 +1,15 @@
 // The functions that a host in C, Rust or Python calls: each is one operation of the library, under a name of its own.
 ghost use mathlib.Core.Path.{_≡_};
 ghost use lib.ListN.{length};
-ghost use Rattle.sheet.specs.Reader.{readSheet};
-ghost use Rattle.sheet.specs.Result.{resultOf, rulesAfter};
-ghost use Rattle.sheet.specs.FluentName.{nameSpan};
-ghost use Rattle.writer.specs.Writer.{writtenIn, outAfter};
+ghost use Rattle.sheet.specs.Reader.{read-sheet};
+ghost use Rattle.sheet.specs.Result.{result-of, rules-after};
+ghost use Rattle.sheet.specs.FluentName.{name-span};
+ghost use Rattle.writer.specs.Writer.{written-in, out-after};
 ghost use Rattle.merge.specs.Merge as merged;
-ghost use Rattle.merge.specs.MergedName.{mergedSpan};
+ghost use Rattle.merge.specs.MergedName.{merged-span};
 ghost use Rattle.evaluator.specs.Evaluated.{Evaluated, asked, lent, told};
 ghost use Rattle.class.specs.Class.{Ran};
-ghost use Rattle.path.specs.Outcome.{Answered};
+ghost use Rattle.path.specs.Outcome.{handed, Answered};
 ghost use Rattle.archive.specs.Outcome.{Stored, Restored};
 ghost use Rattle.report.specs.Outcome.{refusal, output-after};
 ghost use Rattle.marking.specs.Marking.{question, Outcome};
@@ -25,8 +25,8 @@ pub extern "C" fn lawhemuri_version() -> u64
 // Reads a sheet: the rule words of an accepted one go to `rules`, which is unchanged past them and by a refusal.
 #[no_mangle]
 pub extern "C" fn lawhemuri_read(sheet: &[u8], rules: &mut [u16]) -> sheet::Sheet
-    ensures { λ r. ⌜ r ≡ resultOf (length (now (rules .entry))) (readSheet (now (sheet .entry))) ⌝ }
-    ensures { λ _. ⌜ now (rules .exit) ≡ rulesAfter (now (rules .entry)) (readSheet (now (sheet .entry))) ⌝ }
+    ensures { λ r. ⌜ r ≡ result-of (length (now (rules .entry))) (read-sheet (now (sheet .entry))) ⌝ }
+    ensures { λ _. ⌜ now (rules .exit) ≡ rules-after (now (rules .entry)) (read-sheet (now (sheet .entry))) ⌝ }
 {
     sheet::read(sheet, rules)
 }
@@ -34,7 +34,7 @@ pub extern "C" fn lawhemuri_read(sheet: &[u8], rules: &mut [u16]) -> sheet::Shee
 // Where a fluent's name stands in the sheet; nothing at 0 for a refused sheet or a number too high.
 #[no_mangle]
 pub extern "C" fn lawhemuri_fluent_name(sheet: &[u8], fluent: u64) -> sheet::Span
-    ensures { λ r. ⌜ r ≡ nameSpan (now (sheet .entry)) fluent ⌝ }
+    ensures { λ r. ⌜ r ≡ name-span (now (sheet .entry)) fluent ⌝ }
 {
     sheet::fluent_span(sheet, fluent)
 }
@@ -42,8 +42,8 @@ pub extern "C" fn lawhemuri_fluent_name(sheet: &[u8], fluent: u64) -> sheet::Spa
 // Writes an accepted sheet's one fixed text to `text`, which is unchanged past it and by a refusal.
 #[no_mangle]
 pub extern "C" fn lawhemuri_write(sheet: &[u8], text: &mut [u8]) -> writer::Written
-    ensures { λ r. ⌜ r ≡ writtenIn (length (now (text .entry))) (readSheet (now (sheet .entry))) ⌝ }
-    ensures { λ _. ⌜ now (text .exit) ≡ outAfter (now (text .entry)) (readSheet (now (sheet .entry))) ⌝ }
+    ensures { λ r. ⌜ r ≡ written-in (length (now (text .entry))) (read-sheet (now (sheet .entry))) ⌝ }
+    ensures { λ _. ⌜ now (text .exit) ≡ out-after (now (text .entry)) (read-sheet (now (sheet .entry))) ⌝ }
 {
     writer::write(sheet, text)
 }
@@ -55,8 +55,8 @@ pub extern "C" fn lawhemuri_merge<'a>(
     second: &'a [u8],
     text: &mut [u8],
 ) -> merge::Merged
-    ensures { λ r. ⌜ r ≡ merged.mergedIn (length (now (text .entry))) (merged.mergeOf (now (first .entry)) (now (second .entry))) ⌝ }
-    ensures { λ _. ⌜ now (text .exit) ≡ merged.outAfter (now (text .entry)) (merged.mergeOf (now (first .entry)) (now (second .entry))) ⌝ }
+    ensures { λ r. ⌜ r ≡ merged.merged-in (length (now (text .entry))) (merged.merge-of (now (first .entry)) (now (second .entry))) ⌝ }
+    ensures { λ _. ⌜ now (text .exit) ≡ merged.out-after (now (text .entry)) (merged.merge-of (now (first .entry)) (now (second .entry))) ⌝ }
 {
     merge::merge(first, second, text)
 }
@@ -68,7 +68,7 @@ pub extern "C" fn lawhemuri_merged_fluent<'a>(
     second: &'a [u8],
     fluent: u64,
 ) -> merge::Part
-    ensures { λ r. ⌜ r ≡ mergedSpan (now (first .entry)) (now (second .entry)) fluent ⌝ }
+    ensures { λ r. ⌜ r ≡ merged-span (now (first .entry)) (now (second .entry)) fluent ⌝ }
 {
     merge::merged_span(first, second, fluent)
 }
@@ -137,7 +137,9 @@ pub extern "C" fn lawhemuri_path<'a>(
     record: u64,
     states: &mut [u64],
 ) -> path::outcome::Path
-    ensures { λ r. ⌜ Answered record { fluents = fluents; actions = actions; rules = now (rules .entry); goal = now (goal .entry); calls = now (calls .entry); call-count = «call_count»; answers = now (answers .entry); answer-count = «answer_count» } «record» (now (states .entry)) (r .refusal) (r .states) (now (states .exit)) ⌝ }
+    ensures { λ r. ⌜ Answered (handed fluents actions (now (rules .entry)) (now (goal .entry)) (now (calls .entry)) «call_count»
+        (now (answers .entry)) «answer_count»)
+        «record» (now (states .entry)) (r .refusal) (r .states) (now (states .exit)) ⌝ }
 {
     path::path(
         fluents,

@@ -2,7 +2,7 @@
 use mathlib.Core.Path.{_≡_, refl}
 use mathlib.Core.List.{[], _∷_}
 use lib.ListN.{replicate}
-use Rattle.steps.specs.Acceptance.{each-below, bad-start}
+use Rattle.steps.specs.Acceptance.{each-below, bad-state}
 use Rattle.archive.specs.Archive.{tabulate, column, columns, stored, restored}
 use Rattle.archive.specs.Outcome.{bad-states, bad-bits, store-refusal, restore-refusal, after}
 
@@ -46,11 +46,11 @@ unfolding store-refusal
 store-65-fluents = refl
 
 store-bad-state : store-refusal 1 (2 ∷ []) 0 ≡ 24
-unfolding store-refusal bad-states each-below bad-start
+unfolding store-refusal bad-states each-below bad-state
 store-bad-state = refl
 
 store-short : store-refusal 2 (0 ∷ []) 1 ≡ 80
-unfolding store-refusal bad-states each-below bad-start
+unfolding store-refusal bad-states each-below bad-state
 store-short = refl
 
 restore-65-fluents : restore-refusal 65 1 [] 9 ≡ 20

@@ -10,8 +10,9 @@ use lib.ListN.{length, getD, take, drop}
 use lib.Pow.{split, pow-pos}
 use lib.Seq.{take-at}
 use borrow.Author.Tests.{eqb-true, ne-eqb, not-true, not-false, ltb-false}
+use Rattle.refusals.specs.Refusals as refusals
 use Rattle.steps.specs.State.{bit}
-use Rattle.steps.specs.Acceptance.{bad-start}
+use Rattle.steps.specs.Acceptance.{bad-state}
 use Rattle.steps.proofs.EachBelow.{each-at}
 use Rattle.steps.proofs.StateLaws.{high}
 use Rattle.archive.specs.Archive.{columns, blocks, stored, restored}
@@ -86,11 +87,11 @@ module _ (fluents : ℕ) where
   -- what `store` does not refuse
   pub store-passed : (states : List ℕ) (room : ℕ) → store-refusal fluents states room ≡ 0
       → (fluents ≤ 64) × ((i : ℕ) → i < length states → getD states i 0 < 2 ^ fluents) × (blocks (length states) * fluents ≤ room)
-  unfolding store-refusal bad-states bad-start
+  unfolding store-refusal bad-states bad-state
   store-passed states room e =
-      let p20 = pass (ltb 64 fluents) 20 _ (omega arith) e in
-      let p24 = pass (bad-states fluents states) 24 _ (omega arith) (p20 .1) in
-      let p80 = pass (ltb room (blocks (length states) * fluents)) 80 0 (omega arith) (p24 .1) in (
+      let p20 = pass (ltb 64 fluents) refusals.bad-counts _ (omega arith) e in
+      let p24 = pass (bad-states fluents states) refusals.bad-start _ (omega arith) (p20 .1) in
+      let p80 = pass (ltb room (blocks (length states) * fluents)) refusals.output-short 0 (omega arith) (p24 .1) in (
         ltb-false _ _ (p20 .0),
         (λ i l. below _ fluents (not-false _ (not-true _ (each-at _ _ (not-false _ (p24 .0)) i l)))),
         ltb-false _ _ (p80 .0),
@@ -102,10 +103,10 @@ module _ (fluents : ℕ) where
       × ((k i : ℕ) → k < fluents → 0 < count % 64 → count % 64 ≤ i → bit (getD words (fluents * (count / 64) + k) 0) i ≡ 0) × (count ≤ room)
   unfolding restore-refusal
   restore-passed count words room e =
-      let p20 = pass (ltb 64 fluents) 20 _ (omega arith) e in
-      let p81 = pass (bad-words fluents count words) 81 _ (omega arith) (p20 .1) in
-      let p82 = pass (bad-bits fluents count words) 82 _ (omega arith) (p81 .1) in
-      let p80 = pass (ltb room count) 80 0 (omega arith) (p82 .1) in (
+      let p20 = pass (ltb 64 fluents) refusals.bad-counts _ (omega arith) e in
+      let p81 = pass (bad-words fluents count words) refusals.bad-word-count _ (omega arith) (p20 .1) in
+      let p82 = pass (bad-bits fluents count words) refusals.bit-past-end _ (omega arith) (p81 .1) in
+      let p80 = pass (ltb room count) refusals.output-short 0 (omega arith) (p82 .1) in (
         ltb-false _ _ (p20 .0),
         eqb-true _ _ (not-false _ (p81 .0)),
         clear fluents count words (p82 .0),

@@ -9,7 +9,7 @@ use mathlib.Core.List.{List, _++_}
 use lib.ListN.{length, getD, take, drop, length-take, length-drop}
 use lib.Pow.{pow-mono}
 use borrow.Author.Tests.{eq-eqb, ne-eqb, le-ltb}
-use Rattle.steps.specs.Acceptance.{bad-start}
+use Rattle.steps.specs.Acceptance.{bad-state}
 use Rattle.steps.proofs.EachBelow.{each-all}
 use Rattle.archive.specs.Archive.{part, blocks, stored, restored}
 use Rattle.archive.specs.Outcome.{bad-states, bad-bits, store-refusal, restore-refusal, Stored, Restored}
@@ -48,7 +48,7 @@ module _ (fluents : ℕ) where
       rw (le-ltb 64 fluents few, eq-eqb _ _ (stored-length fluents states), clear-stored states, le-ltb room (length states) l) refl
 
   good-restored : (count : ℕ) (words : List ℕ) → bad-states fluents (restored fluents count words) ≡ false
-  unfolding bad-states bad-start
+  unfolding bad-states bad-state
   good-restored count words = ap not (each-all _ _ (λ i l.
       ap (λ b. not (not b)) (eq-eqb _ 0 (div-eq-of-lt (restored-below fluents count words i (omega (arith, restored-length fluents count words)))))))
 

@@ -5,8 +5,9 @@ use mathlib.Core.Bool.{Bool, cond, not, _&&_}
 use mathlib.Core.List.{List, _++_}
 use lib.ListN.{length, drop, getD}
 use lib.Dec.{eqb, ltb}
+use Rattle.refusals.specs.Refusals as refusals
 use Rattle.steps.specs.State.{State}
-use Rattle.steps.specs.Acceptance.{each-below, bad-start}
+use Rattle.steps.specs.Acceptance.{each-below, bad-state}
 use Rattle.archive.specs.Archive.{blocks, stored, restored}
 
 -- 20: over 64 fluents (no actions are given here)
@@ -24,23 +25,23 @@ bad-bits fluents count words =
 
 -- 24: a state with a bit at or above the fluent count
 unfoldable pub bad-states : ℕ → List State → Bool
-bad-states fluents states = not (each-below (length states) (λ i. not (bad-start fluents (getD states i 0))))
+bad-states fluents states = not (each-below (length states) (λ i. not (bad-state fluents (getD states i 0))))
 
 -- `store`: the first of 20, 24 and 80 that is met, or 0. The words are its own: no 81, no 82.
 unfoldable pub store-refusal : ℕ → List State → (room : ℕ) → ℕ
 store-refusal fluents states room =
-    cond (bad-count fluents) 20
-    (cond (bad-states fluents states) 24
-    (cond (ltb room (blocks (length states) * fluents)) 80
+    cond (bad-count fluents) refusals.bad-counts
+    (cond (bad-states fluents states) refusals.bad-start
+    (cond (ltb room (blocks (length states) * fluents)) refusals.output-short
     0))
 
 -- `restore`: the first of 20, 81, 82 and 80 that is met, or 0. The states are its own: no 24.
 unfoldable pub restore-refusal : (fluents count : ℕ) → List ℕ → (room : ℕ) → ℕ
 restore-refusal fluents count words room =
-    cond (bad-count fluents) 20
-    (cond (bad-words fluents count words) 81
-    (cond (bad-bits fluents count words) 82
-    (cond (ltb room count) 80
+    cond (bad-count fluents) refusals.bad-counts
+    (cond (bad-words fluents count words) refusals.bad-word-count
+    (cond (bad-bits fluents count words) refusals.bit-past-end
+    (cond (ltb room count) refusals.output-short
     0)))
 
 -- How many words or states are written; 0 where refused.

@@ -1,22 +1,13 @@
 // Paths by valve: states stored as one word per fluent for each block of 64 states, and restored from these words.
 //
 // Both ways are one: a word is a column of bits of a block of states, and a state is a column of bits of a block's words (`columns`).
-use steps::accept::BAD_COUNTS;
-use steps::accept::BAD_START;
+use steps::accept;
 ghost use mathlib.Core.Path.{_≡_};
 ghost use mathlib.Core.List.{_++_};
 ghost use Prim.Native.Nat.{_*_, _≤_, _<_, _^_};
 ghost use lib.ListN.{length, drop};
-ghost use Rattle.steps.specs.Acceptance.{bad-start};
 ghost use Rattle.archive.specs.Archive.{column, part, columns, blocks};
 ghost use Rattle.archive.specs.Outcome.{bad-states, bad-words, bad-bits, store-refusal, restore-refusal, Stored, Restored};
-
-// The refusals that are met here alone.
-pub const OUTPUT_SHORT: u64 = 80;
-
-pub const BAD_WORD_COUNT: u64 = 81;
-
-pub const BIT_PAST_END: u64 = 82;
 
 // What an operation gives: its refusal or 0, and how many words or states it has written, 0 where refused.
 #[repr(C)]
@@ -67,13 +58,13 @@ fn store_refusal(fluents: u64, states: &[u64], room: usize) -> u64
     ensures { λ r. ⌜ r ≡ store-refusal fluents (now (states .entry)) room ⌝ }
 {
     if 64 < fluents {
-        return BAD_COUNTS;
+        return refusals::BAD_COUNTS;
     }
     if bad_states(fluents, states) {
-        return BAD_START;
+        return refusals::BAD_START;
     }
     if (room as u64) < blocks(states.len() as u64) * fluents {
-        return OUTPUT_SHORT;
+        return refusals::OUTPUT_SHORT;
     }
     0
 }
@@ -83,16 +74,16 @@ fn restore_refusal(fluents: u64, count: u64, words: &[u64], room: usize) -> u64
     ensures { λ r. ⌜ r ≡ restore-refusal fluents count (now (words .entry)) room ⌝ }
 {
     if 64 < fluents {
-        return BAD_COUNTS;
+        return refusals::BAD_COUNTS;
     }
     if bad_words(fluents, count, words) {
-        return BAD_WORD_COUNT;
+        return refusals::BAD_WORD_COUNT;
     }
     if bad_bits(fluents, count, words) {
-        return BIT_PAST_END;
+        return refusals::BIT_PAST_END;
     }
     if (room as u64) < count {
-        return OUTPUT_SHORT;
+        return refusals::OUTPUT_SHORT;
     }
     0
 }
@@ -103,20 +94,10 @@ fn bad_states(fluents: u64, states: &[u64]) -> bool
 {
     let mut i = 0;
     while i < states.len() {
-        if bad_state(fluents, states[i]) {
+        if accept::bad_state(fluents, states[i]) {
             return true;
         }
         i += 1;
-    }
-    false
-}
-
-// Whether the state has a bit at or above the fluent count.
-fn bad_state(fluents: u64, state: u64) -> bool
-    ensures { λ b. ⌜ b ≡ bad-start fluents state ⌝ }
-{
-    if fluents < 64 {
-        return state >> fluents != 0;
     }
     false
 }

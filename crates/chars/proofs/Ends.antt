@@ -10,17 +10,17 @@ use Rattle.bytes.specs.Bytes.{indexOf}
 use native.Mathlib.Decide.{decLt}
 use borrow.Author.Tests.{le-leb, lt-leb}
 use Rattle.chars.specs.Pieces.{pieces, lines}
-use Rattle.chars.specs.Inner.{fieldsFrom, FieldEnd, LineEnd}
+use Rattle.chars.specs.Inner.{fields-from, FieldEnd, LineEnd}
 use Rattle.chars.specs.Bytes.{TAB, LF}
 use Rattle.chars.proofs.Pieces.{cut, none, ending, take-slice, drop-slice, index-le}
 
 -- the fields from p on, where p is not past the end
-pub fields-here : (s : List ℕ) (p e : ℕ) → p ≤ e → fieldsFrom p e s ≡ pieces ([] ∷ []) TAB (slice p e s)
-unfolding fieldsFrom
+pub fields-here : (s : List ℕ) (p e : ℕ) → p ≤ e → fields-from p e s ≡ pieces ([] ∷ []) TAB (slice p e s)
+unfolding fields-from
 fields-here s p e h = rw (le-leb p e h)
 
-pub fields-gone : (s : List ℕ) (p e : ℕ) → e < p → fieldsFrom p e s ≡ []
-unfolding fieldsFrom
+pub fields-gone : (s : List ℕ) (p e : ℕ) → e < p → fields-from p e s ≡ []
+unfolding fields-from
 fields-gone s p e h = rw (lt-leb p e h)
 
 ending-nonempty : (xs : List ℕ) → ending ([] ∷ []) xs ≡ xs ∷ []
@@ -28,7 +28,7 @@ ending-nonempty [] = refl
 ending-nonempty (x ∷ xs) = refl
 
 module _ (s : List ℕ) (at to : ℕ) (h : at ≤ to) (k : to ≤ length s) where
-  field-cut : (n : ℕ) → indexOf TAB (slice at to s) ≡ n → Dec (n < to - at) → fieldsFrom at to s ≡ slice at (at + n) s ∷ fieldsFrom (at + n + 1) to s
+  field-cut : (n : ℕ) → indexOf TAB (slice at to s) ≡ n → Dec (n < to - at) → fields-from at to s ≡ slice at (at + n) s ∷ fields-from (at + n + 1) to s
   field-cut n e (yes p) =
       let l = length-slice at to s k in
       let a = fields-here s at to h in

@@ -9,17 +9,17 @@ use lib.Seq.{slice}
 use Rattle.bytes.specs.Bytes.{indexOf}
 use Rattle.chars.specs.Bytes.{TAB}
 use Rattle.chars.specs.Pieces.{fields}
-use Rattle.chars.specs.Inner.{fieldsFrom, FieldEnd}
+use Rattle.chars.specs.Inner.{fields-from, FieldEnd}
 use Rattle.chars.proofs.Ends.{fields-here, fields-gone, field-end}
 
 -- a line's fields, by the first of them
-pub fields-first : (s : List ℕ) (at e q : ℕ) → at ≤ e → FieldEnd s at e q → fields (slice at e s) ≡ slice at q s ∷ fieldsFrom (q + 1) e s
+pub fields-first : (s : List ℕ) (at e q : ℕ) → at ≤ e → FieldEnd s at e q → fields (slice at e s) ≡ slice at q s ∷ fields-from (q + 1) e s
 unfolding fields
 fields-first s at e q h f = sym (fields-here s at e h) ∙ f .cut
 
 module _ (s : List ℕ) (p e : ℕ) where
   -- where there is a field, there is a part
-  pub some-field : 0 < length (fieldsFrom p e s) → p ≤ e
+  pub some-field : 0 < length (fields-from p e s) → p ≤ e
   some-field h = go (decLt e p)
     where
       go : Dec (e < p) → p ≤ e
@@ -27,13 +27,13 @@ module _ (s : List ℕ) (p e : ℕ) where
       go (no y) = omega arith
 
   -- where there is one field, it is the whole part
-  pub one-field : e ≤ length s → length (fieldsFrom p e s) ≡ 1 → fieldsFrom p e s ≡ slice p e s ∷ []
+  pub one-field : e ≤ length s → length (fields-from p e s) ≡ 1 → fields-from p e s ≡ slice p e s ∷ []
   one-field k h = last (p + indexOf TAB (slice p e s)) (field-end s p e within k) (decLt (p + indexOf TAB (slice p e s)) e)
     where
       within : p ≤ e
       within = some-field (omega arith)
 
-      last : (r : ℕ) → FieldEnd s p e r → Dec (r < e) → fieldsFrom p e s ≡ slice p e s ∷ []
+      last : (r : ℕ) → FieldEnd s p e r → Dec (r < e) → fields-from p e s ≡ slice p e s ∷ []
       last r f (yes y) =
           let x = ap length (f .cut) in
           let z = field-end s (r + 1) e (omega arith) k in

@@ -9,7 +9,7 @@ use lib.Dec.{leb, eqb}
 use lib.ListN.{length, getD, drop, drop-of-length-le}
 use lib.Seq.{slice, slice-cons, slice-empty, length-slice, drop-cons}
 use borrow.Author.Tests.{lt-leb, le-leb}
-use Rattle.chars.specs.Bytes.{all, lower, nameByte, isName}
+use Rattle.chars.specs.Bytes.{all, lower, name-byte, is-name}
 use Rattle.chars.specs.Places.{same}
 
 -- a test of all elements of a part, by its first
@@ -19,22 +19,22 @@ all-first p s i to h k = rw (add-one, slice-cons i to s 0)
 pub all-none : (p : ℕ → Bool) (s : List ℕ) (to : ℕ) → all p (slice to to s) ≡ true
 all-none p s to = ap (all p) (slice-empty to s)
 
-pub name-empty : (s : List ℕ) (to : ℕ) → isName (slice to to s) ≡ false
-unfolding isName
-name-empty s to = ap isName (slice-empty to s)
+pub name-empty : (s : List ℕ) (to : ℕ) → is-name (slice to to s) ≡ false
+unfolding is-name
+name-empty s to = ap is-name (slice-empty to s)
 
 module _ (s : List ℕ) (from to : ℕ) (h : from < to) (k : to ≤ length s) where
-  pub name-first : isName (slice from to s) ≡ (lower (getD s from 0) && (leb (to - (from + 1)) 15 && all nameByte (slice (from + 1) to s)))
-  unfolding isName
+  pub name-first : is-name (slice from to s) ≡ (lower (getD s from 0) && (leb (to - (from + 1)) 15 && all name-byte (slice (from + 1) to s)))
+  unfolding is-name
   name-first = rw (add-one, slice-cons from to s 0, length-slice (suc from) to s k)
 
-  pub name-long : 16 < to - from → isName (slice from to s) ≡ false
+  pub name-long : 16 < to - from → is-name (slice from to s) ≡ false
   name-long l = name-first ∙ rw (lt-leb (to - (from + 1)) 15 (omega arith), and-false)
 
-  pub name-start : lower (getD s from 0) ≡ false → isName (slice from to s) ≡ false
+  pub name-start : lower (getD s from 0) ≡ false → is-name (slice from to s) ≡ false
   name-start e = name-first ∙ rw e
 
-  pub name-rest : lower (getD s from 0) ≡ true → to - from ≤ 16 → isName (slice from to s) ≡ all nameByte (slice (from + 1) to s)
+  pub name-rest : lower (getD s from 0) ≡ true → to - from ≤ 16 → is-name (slice from to s) ≡ all name-byte (slice (from + 1) to s)
   name-rest e l = name-first ∙ rw (e, le-leb (to - (from + 1)) 15 (omega arith))
 
 -- two lists from i on, by their elements at i

@@ -9,7 +9,7 @@ use lib.Dec.{eqb}
 use lib.ListN.{length, take, drop}
 use lib.Seq.{slice, take-add, take-take, drop-at, drop-drop, length-take-le}
 use Rattle.bytes.specs.Bytes.{indexOf, indexAfter}
-use Rattle.chars.specs.Pieces.{pieces, pieceThen, grow}
+use Rattle.chars.specs.Pieces.{pieces, piece-then, grow}
 
 -- what is left where no separator stands
 abbrev pub ending : List (List ℕ) → List ℕ → List (List ℕ)
@@ -18,7 +18,7 @@ ending rest (x ∷ xs) = (x ∷ xs) ∷ []
 
 module _ (rest : List (List ℕ)) (b : ℕ) where
   cut-step : (x : ℕ) (xs : List ℕ) (n : ℕ) (t : Bool) → (n < length xs → pieces rest b xs ≡ take n xs ∷ pieces rest b (drop (suc n) xs))
-      → indexAfter t n < suc (length xs) → pieceThen t x (pieces rest b xs) ≡ take (indexAfter t n) (x ∷ xs) ∷ pieces rest b (drop (suc (indexAfter t n)) (x ∷ xs))
+      → indexAfter t n < suc (length xs) → piece-then t x (pieces rest b xs) ≡ take (indexAfter t n) (x ∷ xs) ∷ pieces rest b (drop (suc (indexAfter t n)) (x ∷ xs))
   unfolding indexAfter
   cut-step x xs n true ih h = refl
   cut-step x xs n false ih h = ap (grow x) (ih (le-of-suc-le-suc h))
@@ -34,7 +34,7 @@ module _ (rest : List (List ℕ)) (b : ℕ) where
   none-grow g x (y ∷ ys) = refl
 
   none-step : (g : (x : ℕ) → grow x rest ≡ (x ∷ []) ∷ []) (x : ℕ) (xs : List ℕ) (n : ℕ) (t : Bool) → (length xs ≤ n → pieces rest b xs ≡ ending rest xs)
-      → suc (length xs) ≤ indexAfter t n → pieceThen t x (pieces rest b xs) ≡ (x ∷ xs) ∷ []
+      → suc (length xs) ≤ indexAfter t n → piece-then t x (pieces rest b xs) ≡ (x ∷ xs) ∷ []
   unfolding indexAfter
   none-step g x xs n true ih h = absurd (not-suc-le-zero h)
   none-step g x xs n false ih h = ap (grow x) (ih (le-of-suc-le-suc h)) ∙ none-grow g x xs

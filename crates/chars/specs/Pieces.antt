@@ -11,14 +11,14 @@ grow x [] = (x ∷ []) ∷ []
 grow x (p ∷ ps) = (x ∷ p) ∷ ps
 
 -- A separator ends a piece, any other byte belongs to the piece behind it.
-abbrev pub pieceThen : Bool → ℕ → List (List ℕ) → List (List ℕ)
-pieceThen true x ps = [] ∷ ps
-pieceThen false x ps = grow x ps
+abbrev pub piece-then : Bool → ℕ → List (List ℕ) → List (List ℕ)
+piece-then true x ps = [] ∷ ps
+piece-then false x ps = grow x ps
 
 -- The pieces of a list before, between and after the separators b; `last` is what an empty piece after the last of them counts for.
 unfoldable pub pieces : List (List ℕ) → ℕ → List ℕ → List (List ℕ)
 pieces last b [] = last
-pieces last b (x ∷ xs) = pieceThen (eqb x b) x (pieces last b xs)
+pieces last b (x ∷ xs) = piece-then (eqb x b) x (pieces last b xs)
 
 -- Lines of text, each line ended by LF: nothing after the last LF is no line.
 unfoldable pub lines : List ℕ → List (List ℕ)

@@ -13,21 +13,21 @@ same (x ∷ xs) [] = false
 same (x ∷ xs) (y ∷ ys) = eqb x y && same xs ys
 
 -- The place of what is sought: here, or one further than its place among the rest.
-abbrev pub placeAfter : Bool → ℕ → ℕ
-placeAfter true k = 0
-placeAfter false k = suc k
+abbrev pub place-after : Bool → ℕ → ℕ
+place-after true k = 0
+place-after false k = suc k
 
 -- The place of the first f in fs, counted from 0; the length of fs where it is not there.
 unfoldable pub place : List ℕ → List (List ℕ) → ℕ
 unfolding same
 place f [] = 0
-place f (g ∷ gs) = placeAfter (same f g) (place f gs)
+place f (g ∷ gs) = place-after (same f g) (place f gs)
 
 -- f is one of fs.
 abbrev pub among : List ℕ → List (List ℕ) → Bool
 among f fs = ltb (place f fs) (length fs)
 
 -- The place of the first byte b in bs, counted from 0; the length of bs where it is not there.
-unfoldable pub byteAt : ℕ → List ℕ → ℕ
-byteAt b [] = 0
-byteAt b (x ∷ xs) = placeAfter (eqb x b) (byteAt b xs)
+unfoldable pub byte-at : ℕ → List ℕ → ℕ
+byte-at b [] = 0
+byte-at b (x ∷ xs) = place-after (eqb x b) (byte-at b xs)

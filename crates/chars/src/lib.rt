@@ -3,13 +3,13 @@ ghost use mathlib.Core.Path.{_≡_};
 ghost use Prim.Native.Nat.{_+_, _≤_, _<_};
 ghost use lib.ListN.{length, getD, drop};
 ghost use lib.Seq.{slice};
-ghost use Rattle.chars.specs.Bytes.{HASH, sheetByte, begins, mayStand, clean, lower, nameByte, isName};
+ghost use Rattle.chars.specs.Bytes.{HASH, sheet-byte, begins, may-stand, clean, lower, name-byte, is-name};
 ghost use Rattle.chars.specs.Places.{same};
 ghost use Rattle.chars.specs.Inner.{LineEnd, BareEnd, FieldEnd};
 
 // Whether a byte may stand in a sheet: TAB, LF or 33 to 126.
 fn in_sheet(b: u8) -> bool
-    ensures { λ r. ⌜ r ≡ sheetByte b ⌝ }
+    ensures { λ r. ⌜ r ≡ sheet-byte b ⌝ }
 {
     (b == b'\t') | (b == b'\n') | ((33 <= b) & (b <= 126))
 }
@@ -23,7 +23,7 @@ fn is_lower(b: u8) -> bool
 
 // Whether a byte may stand in a name after its first: a lowercase letter, a digit or `_`.
 fn in_name(b: u8) -> bool
-    ensures { λ r. ⌜ r ≡ nameByte b ⌝ }
+    ensures { λ r. ⌜ r ≡ name-byte b ⌝ }
 {
     is_lower(b) | ((48 <= b) & (b <= 57)) | (b == b'_')
 }
@@ -41,7 +41,7 @@ fn begins(s: &[u8], at: usize, b: u8) -> bool
 // Whether byte i may stand where it does, in a comment line or another.
 fn may_stand(s: &[u8], i: usize, comment: bool) -> bool
     requires { ⌜ i < length (now s) ⌝ }
-    ensures { λ r. ⌜ r ≡ mayStand comment (getD (now (s .entry)) i 0) (drop (i + 1) (now (s .entry))) ⌝ }
+    ensures { λ r. ⌜ r ≡ may-stand comment (getD (now (s .entry)) i 0) (drop (i + 1) (now (s .entry))) ⌝ }
 {
     let b = s[i];
     in_sheet(b) | ((comment & (b == b' ')) | ((b == b'\r') & begins(s, i + 1, b'\n')))
@@ -68,7 +68,7 @@ pub fn is_clean(s: &[u8]) -> bool
 // Whether the bytes from `from` up to, not including, `to` are a name.
 pub fn is_name(s: &[u8], from: usize, to: usize) -> bool
     requires { ⌜ (from ≤ to) × (to ≤ length (now s)) ⌝ }
-    ensures { λ r. ⌜ r ≡ isName (slice from to (now (s .entry))) ⌝ }
+    ensures { λ r. ⌜ r ≡ is-name (slice from to (now (s .entry))) ⌝ }
 {
     if from == to {
         return false;

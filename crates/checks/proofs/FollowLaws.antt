@@ -13,7 +13,7 @@ use Rattle.steps.specs.Words.{step-of, body-of, is-call}
 use Rattle.steps.specs.Acceptance.{each-below}
 use Rattle.steps.specs.Elementary.{Onward, on, stuck, elementary}
 use Rattle.steps.proofs.WordLaws.{call-word, no-call}
-use Rattle.tabling.specs.Records.{Calls, Answers, follow, follows}
+use Rattle.records.specs.Records.{Calls, Answers, follow, follows}
 
 module _ (calls : Calls) (answers : Answers) (n : ℕ) where
   -- a call takes the named answer

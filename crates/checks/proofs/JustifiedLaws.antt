@@ -9,9 +9,9 @@ use borrow.Author.Tests.{lt-ltb, le-ltb}
 use Rattle.steps.specs.Words.{body-of}
 use Rattle.steps.specs.Acceptance.{each-below}
 use Rattle.steps.proofs.EachBelow.{each-at}
-use Rattle.tabling.specs.Records.{Calls, Answers, Bodies, calls-in, answers-in, follows, justified}
-use Rattle.tabling.proofs.Growth.{tables}
-use Rattle.tabling.proofs.Justification.{justified-out}
+use Rattle.records.specs.Records.{Calls, Answers, Bodies, follows, justified, call-table, answer-table, call-width, answer-width}
+use Rattle.records.proofs.Growth.{tables}
+use Rattle.records.proofs.Justification.{justified-out}
 use Rattle.checks.specs.Readable.{Readable}
 
 module _ (calls : Calls) (answers : Answers) (n : ℕ) (bodies : Bodies) where
@@ -30,11 +30,11 @@ module _ (calls : Calls) (answers : Answers) (n : ℕ) (bodies : Bodies) where
     by-walk e w = rw (lt-ltb _ _ exists, e) w
 
 -- justified records name call records that stand
-pub readable : (calls : List ℕ) (k : ℕ) (answers : List ℕ) (m : ℕ) (bodies : Bodies) (n : ℕ) → 2 * k ≤ length calls → n ≤ 65536 → 19 * n ≤ length answers
-    → each-below n (λ x. justified (calls-in 2 calls k) (answers-in 19 answers m) x bodies) ≡ true → Readable calls answers n
+pub readable : (calls : List ℕ) (k : ℕ) (answers : List ℕ) (m : ℕ) (bodies : Bodies) (n : ℕ) → call-width * k ≤ length calls → n ≤ 65536 → answer-width * n ≤ length answers
+    → each-below n (λ x. justified (call-table calls k) (answer-table answers m) x bodies) ≡ true → Readable calls answers n
 readable calls k answers m bodies n fits most long all =
     record {
       most = most;
       long = long;
-      called = λ x l. omega (arith, justified-out {bodies = bodies} {t = tables (calls-in 2 calls k) (answers-in 19 answers m)} {n = x} (each-at (λ x. justified (calls-in 2 calls k) (answers-in 19 answers m) x bodies) n all x l) .exists);
+      called = λ x l. omega (arith, justified-out {bodies = bodies} {t = tables (call-table calls k) (answer-table answers m)} {n = x} (each-at (λ x. justified (call-table calls k) (answer-table answers m) x bodies) n all x l) .exists);
     }

@@ -7,9 +7,9 @@ use mathlib.Core.Logic.{_⊎_, inl, inr}
 use lib.Dec.{eqb, ltb}
 use borrow.Author.Tests.{eq-eqb, lt-ltb}
 use Rattle.steps.specs.Run.{Goal}
-use Rattle.steps.specs.Acceptance.{bad-start}
+use Rattle.steps.specs.Acceptance.{bad-state}
 use Rattle.steps.proofs.EachBelow.{each-all}
-use Rattle.tabling.specs.Records.{Calls, Answers, Bodies, justified}
+use Rattle.records.specs.Records.{Calls, Answers, Bodies, justified}
 use Rattle.checks.specs.Checks.{good-call, good-calls, all-justified, bad-records}
 
 -- A call record of the goal or of an action below the count, in a state of the fluents counted.
@@ -17,11 +17,11 @@ pub record Proper (fluents actions : ℕ) (calls : Calls) (i : ℕ) : Type 0 whe
   pub action : (calls .action i ≡ Goal) ⊎ (calls .action i < actions)
   pub state : calls .state i < 2 ^ fluents
 
-within : (fluents s : ℕ) → s < 2 ^ fluents → bad-start fluents s ≡ false
-unfolding bad-start
+within : (fluents s : ℕ) → s < 2 ^ fluents → bad-state fluents s ≡ false
+unfolding bad-state
 within fluents s l = rw (div-eq-of-lt l) refl
 
-either : (actions a : ℕ) → ((a ≡ Goal) ⊎ (a < actions)) → (eqb a Goal || ltb a actions) ≡ true
+pub either : (actions a : ℕ) → ((a ≡ Goal) ⊎ (a < actions)) → (eqb a Goal || ltb a actions) ≡ true
 either actions a (inl e) = rw (eq-eqb a Goal e) refl
 either actions a (inr l) = by (eqb a Goal)
   where

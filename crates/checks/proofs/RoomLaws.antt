@@ -10,16 +10,16 @@ use borrow.Author.Tests.{ltb-false}
 use Rattle.steps.specs.Acceptance.{words-refusal}
 use Rattle.steps.proofs.EachBelow.{true-not-false}
 use Rattle.steps.proofs.AcceptanceLaws.{accepted}
-use Rattle.tabling.specs.Records.{room}
+use Rattle.records.specs.Records.{room, call-width, answer-width}
 use Rattle.checks.specs.Checks.{over-room}
-use Rattle.bodies.specs.Short.{Short}
-use Rattle.bodies.proofs.Laws.{short-of}
+use Rattle.records.specs.Bodies.{Short}
+use Rattle.records.proofs.BodyLaws.{short-of}
 
 -- Both counts are of records that stand.
 pub record Within (calls : List ℕ) (call-count : ℕ) (answers : List ℕ) (answer-count : ℕ) : Type 0 where
-  pub calls-fit : 2 * call-count ≤ length calls
+  pub calls-fit : call-width * call-count ≤ length calls
   pub calls-most : call-count ≤ 65536
-  pub answers-fit : 19 * answer-count ≤ length answers
+  pub answers-fit : answer-width * answer-count ≤ length answers
   pub answers-most : answer-count ≤ 65536
 
 neither : (a b : Bool) → (a || b) ≡ false → (a ≡ false) × (b ≡ false)
@@ -29,9 +29,9 @@ neither false b e = (refl, e)
 pub within : (calls : List ℕ) (k : ℕ) (answers : List ℕ) (m : ℕ) → over-room calls k answers m ≡ false → Within calls k answers m
 unfolding over-room
 within calls k answers m e =
-    let (c, a) = neither (ltb (room 2 (length calls)) k) _ e in
-    let l = ltb-false (room 2 (length calls)) k c in
-    let h = ltb-false (room 19 (length answers)) m a in
+    let (c, a) = neither (ltb (room call-width (length calls)) k) _ e in
+    let l = ltb-false (room call-width (length calls)) k c in
+    let h = ltb-false (room answer-width (length answers)) m a in
     record { calls-fit = omega arith; calls-most = omega arith; answers-fit = omega arith; answers-most = omega arith }
 
 pub short : (fluents actions : ℕ) (rules goal : List ℕ) → words-refusal fluents actions rules goal ≡ 0 → Short rules goal

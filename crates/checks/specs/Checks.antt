@@ -5,16 +5,17 @@ use mathlib.Core.List.{List}
 use lib.ListN.{length}
 use lib.Dec.{eqb, ltb}
 use Rattle.steps.specs.Run.{Goal}
-use Rattle.steps.specs.Acceptance.{each-below, bad-start}
-use Rattle.tabling.specs.Records.{Calls, Answers, Bodies, room, justified}
+use Rattle.steps.specs.Acceptance.{each-below, bad-state}
+use Rattle.records.specs.Records.{Calls, Answers, Bodies, room, justified, call-width, answer-width}
 
 -- 40: a record count over its room
 unfoldable pub over-room : List ℕ → ℕ → List ℕ → ℕ → Bool
-over-room calls call-count answers answer-count = ltb (room 2 (length calls)) call-count || ltb (room 19 (length answers)) answer-count
+over-room calls call-count answers answer-count = ltb (room call-width (length calls)) call-count
+    || ltb (room answer-width (length answers)) answer-count
 
 -- A good call record: its action is 64 or below the count, and no state bit is at or above the fluent count.
 unfoldable pub good-call : ℕ → ℕ → Calls → ℕ → Bool
-good-call fluents actions calls i = (eqb (calls .action i) Goal || ltb (calls .action i) actions) && not (bad-start fluents (calls .state i))
+good-call fluents actions calls i = (eqb (calls .action i) Goal || ltb (calls .action i) actions) && not (bad-state fluents (calls .state i))
 
 -- Every call record is good.
 unfoldable pub good-calls : ℕ → ℕ → Calls → Bool

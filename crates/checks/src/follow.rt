@@ -1,4 +1,5 @@
 // One step of an answer record's walk.
+use records::tables;
 use steps::state::State;
 use steps::word::Next;
 use steps::word::elementary;
@@ -11,17 +12,18 @@ ghost use lib.ListN.{length, getD};
 ghost use lib.Dec.{eqb};
 ghost use Rattle.steps.specs.Elementary.{on, stuck};
 ghost use Rattle.steps.specs.Next.{onward};
-ghost use Rattle.checks.specs.Readable.{Readable, Leads};
+ghost use Rattle.records.specs.Records.{call-width, answer-width};
+ghost use Rattle.checks.specs.Readable.{Readable, taken, Leads};
 
 // The state after a call of an action that takes the named answer: that answer's call must be this action at this state.
 fn take(action: u64, state: State, named: usize, calls: &[u64], answers: &[u64]) -> Next
-    requires { ⌜ (19 * named + 19 ≤ length (now answers)) × (named ≤ 65536) × (2 * getD (now answers) (19 * named) 0 + 2 ≤ length (now calls)) ⌝ }
-    ensures { λ r. ⌜ onward r ≡ cond (eqb (getD (now (calls .entry)) (2 * getD (now (answers .entry)) (19 * named) 0) 0) action && eqb (getD (now (calls .entry)) (2 * getD (now (answers .entry)) (19 * named) 0 + 1) 0) (state .0)) (on (getD (now (answers .entry)) (19 * named + 1) 0)) stuck ⌝ }
+    requires { ⌜ Readable (now calls) (now answers) (named + 1) ⌝ }
+    ensures { λ r. ⌜ onward r ≡ taken (now (calls .entry)) (now (answers .entry)) action (state .0) named ⌝ }
 {
-    let call = answers[19 * named] as usize;
-    if calls[2 * call] == action {
-        if calls[2 * call + 1] == state.0 {
-            return Next::On(State::of(answers[19 * named + 1]));
+    let call = tables::call_of(answers, named) as usize;
+    if tables::action_of(calls, call) == action {
+        if tables::state_of(calls, call).0 == state.0 {
+            return Next::On(tables::final_of(answers, named));
         }
     }
     Next::Stuck

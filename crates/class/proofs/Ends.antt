@@ -8,9 +8,10 @@ use lib.ListN.{length, take, drop, length-append}
 use lib.Seq.{take-at, drop-at, drop-drop}
 use Rattle.steps.specs.State.{State}
 use Rattle.steps.specs.Run.{End}
+use Rattle.steps.specs.Counting.{Rising}
 use Rattle.steps.proofs.Counting.{rising-unique}
-use Rattle.evaluator.specs.Evaluated.{Asked, Lent, Told, refused-with, run-asked, EndsListed}
-use Rattle.evaluator.proofs.Determined.{Listing, as-it-was, with-ends, listing, accepted, most-ends}
+use Rattle.evaluator.specs.Evaluated.{Asked, Lent, Told, refused-with, run-asked, Tabled}
+use Rattle.evaluator.proofs.Determined.{Listing, as-it-was, with-ends, listing, tabled, in-rooms}
 use Rattle.class.specs.Class.{places, written, handed-on, together, Turns, over, turn}
 use Rattle.class.specs.Shown.{InTurn, none, without, with-ends as in-turn-more}
 use Rattle.class.proofs.Turns.{places-none, places-ends}
@@ -38,17 +39,18 @@ module _ (ask : State → Asked) where
       }
 
   -- any other
-  ends-with : {start : State} {later : List State} {before left last : Lent} {r : Told} {rs : List Told} → r .refusal ≡ 0 → (L : EndsListed (ask start) before left)
-      → length (L .ends) ≡ r .ends → EndsWritten later (handed-on (places r) left) last rs → EndsWritten (start ∷ later) before (together (places r) left last) (r ∷ rs)
+  ends-with : {start : State} {later : List State} {before left last : Lent} {r : Told} {rs : List Told} → r .refusal ≡ 0 → (t : Tabled (ask start) before left r)
+      → Rising (t .ends) → left .ends ≡ t .ends ++ drop (r .ends) (before .ends) → EndsWritten later (handed-on (places r) left) last rs → EndsWritten (start ∷ later) before (together (places r) left last) (r ∷ rs)
   unfolding written
-  ends-with {before = before} {left = left} {last = last} {r = r} {rs = rs} z L c W =
-      let p : length (L .ends) ≡ places r = c ∙ sym (places-ends r z) in
-      let own : take (places r) (left .ends) ≡ L .ends = ap (take (places r)) (L .list) ∙ take-at (L .ends) (drop (length (L .ends)) (before .ends)) (places r) p in
+  ends-with {before = before} {left = left} {last = last} {r = r} {rs = rs} z L up is W =
+      let c = places-ends r z in
+      let p : length (L .ends) ≡ places r = L .counted ∙ sym c in
+      let own : take (places r) (left .ends) ≡ L .ends = ap (take (places r)) is ∙ take-at (L .ends) (drop (r .ends) (before .ends)) (places r) p in
       let past : drop (places r) (left .ends) ≡ drop (places r) (before .ends) =
-      ap (drop (places r)) (L .list) ∙ drop-at (L .ends) (drop (length (L .ends)) (before .ends)) (places r) p ∙ ap (λ (k : ℕ). drop k (before .ends)) p in
+      ap (drop (places r)) is ∙ drop-at (L .ends) (drop (r .ends) (before .ends)) (places r) p ∙ ap (λ (k : ℕ). drop k (before .ends)) (sym c) in
       record {
         ends = L .ends ++ W .ends;
-        in-turn = in-turn-more z (L .rising) (L .exactly) c (W .in-turn);
+        in-turn = in-turn-more z up (L .exactly) (L .counted) (W .in-turn);
         many = length-append (L .ends) (W .ends) ∙ omega (arith, p, W .many);
         list = ap₂ _++_ own (W .list ∙ ap (λ (xs : List ℕ). W .ends ++ drop (written rs) xs) past) ∙ sym (append-assoc (L .ends) (W .ends) _)
             ∙ ap (λ (xs : List ℕ). L .ends ++ W .ends ++ xs) (drop-drop (written rs) (places r) (before .ends));
@@ -61,7 +63,7 @@ module _ (ask : State → Asked) where
     where
       go : Listing (ask start) before left r → EndsWritten later (handed-on (places r) left) last rs → EndsWritten (start ∷ later) before (together (places r) left last) (r ∷ rs)
       go (as-it-was n s) = ends-without n s
-      go (with-ends z L c l) = ends-with z L c
+      go (with-ends z L l up is) = ends-with z L up is
 
   -- What is told determines the ends.
   pub in-turn-unique : {starts : List State} {rs : List Told} {xs ys : List State} → InTurn ask starts rs xs → InTurn ask starts rs ys → xs ≡ ys
@@ -70,7 +72,7 @@ module _ (ask : State → Asked) where
   in-turn-unique (without n I) (in-turn-more z up e c J) = absurd (n z)
   in-turn-unique (in-turn-more z up e c I) (without m J) = absurd (m z)
   in-turn-unique (in-turn-more z up e c I) (in-turn-more z′ up′ e′ c′ J) =
-      ap₂ _++_ (rising-unique up up′ (λ D m. e′ D .1 (e D .0 m)) (λ D m. e D .1 (e′ D .0 m))) (in-turn-unique I J)
+      ap₂ _++_ (rising-unique up up′ (λ D m. e′ .members D .1 (e .members D .0 m)) (λ D m. e .members D .1 (e′ .members D .0 m))) (in-turn-unique I J)
 
   -- what is told determines the list
   pub same-list : {starts : List State} {b₁ b₂ l₁ l₂ : Lent} {rs₁ rs₂ : List Told} → rs₁ ≡ rs₂ → b₁ .ends ≡ b₂ .ends
@@ -85,7 +87,7 @@ module _ {ask : State → Asked} where
   pub ends-most : {starts : List State} {before last : Lent} {rs : List Told} → Turns ask starts before last rs
       → (r : Told) → List·Memᴰ r rs → r .refusal ≡ 0 → r .ends ≤ 65536
   ends-most over r m z = absurd (List·Memᴰ·not-nil m)
-  ends-most (turn {start = start} E T) r m z = ⊎-elim (λ e. rw e (most-ends (ask start) E (rw e at z))) (λ k. ends-most T r k z) (List·Memᴰ·cases-cons m)
+  ends-most (turn {start = start} E T) r m z = ⊎-elim (λ e. rw e (omega (arith, in-rooms (ask start) E .ends, in-rooms (ask start) E .answers))) (λ k. ends-most T r k z) (List·Memᴰ·cases-cons m)
 
   -- Each end is one of an accepted start of the class.
   pub ends-of-starts : {starts : List State} {before last : Lent} {rs : List Told} {ends : List State} → Turns ask starts before last rs → InTurn ask starts rs ends
@@ -94,6 +96,6 @@ module _ {ask : State → Asked} where
   ends-of-starts (turn E T) (without n I) D m = let (start, among, ok, d) = ends-of-starts T I D m in (start, List·Memᴰ·tail among, ok, d)
   ends-of-starts (turn {start = start} E T) (in-turn-more {own = own} z up e c I) D m =
       ⊎-elim
-      (λ k. (start, List·Memᴰ·head refl, accepted E z, e D .0 k))
+      (λ k. (start, List·Memᴰ·head refl, tabled E z .accepted, e .members D .0 k))
       (λ k. let (begun, among, ok, d) = ends-of-starts T I D k in (begun, List·Memᴰ·tail among, ok, d))
       (List·Memᴰ·append-cases own m)

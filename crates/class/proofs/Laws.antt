@@ -8,7 +8,7 @@ use mathlib.Core.List.{List, [], _++_, List·Memᴰ}
 use lib.ListN.{length, take, drop}
 use borrow.Author.Tests.{eq-eqb}
 use Rattle.steps.specs.State.{State}
-use Rattle.steps.specs.Acceptance.{bad-start}
+use Rattle.steps.specs.Acceptance.{bad-state}
 use Rattle.steps.proofs.AcceptanceLaws.{accepted-below}
 use Rattle.steps.proofs.EachBelow.{true-not-false}
 use Rattle.evaluator.specs.Evaluated.{Asked, Lent, Told, asked}
@@ -53,8 +53,8 @@ class-determined ask starts results results₁ results₂ b₁ b₂ a₁ a₂ r�
 
 -- No end written has a bit at or above the fluent count.
 pub class-below : {fluents actions : ℕ} {rules goal : List ℕ} {starts : List State} {results results′ : List ℕ} {before after : Lent}
-    (S : Shown (asked fluents actions rules goal) starts results before results′ after) (D : State) → List·Memᴰ D (S .ends) → bad-start fluents D ≡ false
-unfolding bad-start
+    (S : Shown (asked fluents actions rules goal) starts results before results′ after) (D : State) → List·Memᴰ D (S .ends) → bad-state fluents D ≡ false
+unfolding bad-state
 class-below {fluents} {actions} {rules} {goal} S D m =
     let (start, among, ok, d) = S .of-starts D m in
     rw (eq-eqb _ _ (div-eq-of-lt (accepted-below fluents actions rules goal start ok D [] d)))

@@ -7,7 +7,7 @@ use lib.ListN.{length, getD, take, drop, length-drop}
 use lib.Seq.{drop-drop, take-append-le, drop-append-le}
 use Rattle.steps.specs.State.{State}
 use Rattle.evaluator.specs.Evaluated.{Asked, Lent, Told, told, Evaluated}
-use Rattle.evaluator.proofs.Determined.{told-unique, list-kept, tables-kept}
+use Rattle.evaluator.proofs.Determined.{one-result, list-kept, tables-kept}
 use Rattle.class.specs.Class.{four, places, written, result-words, handed-on, Turns, over, turn}
 use Rattle.class.specs.Shown.{SameRoom}
 use Rattle.class.proofs.Running.{words-long}
@@ -26,7 +26,7 @@ module _ {ask : State → Asked} where
   pub turns-unique : {starts : List State} {b₁ b₂ l₁ l₂ : Lent} {rs₁ rs₂ : List Told} → SameRoom b₁ b₂ → Turns ask starts b₁ l₁ rs₁ → Turns ask starts b₂ l₂ rs₂ → rs₁ ≡ rs₂
   turns-unique s over over = refl
   turns-unique {b₁ = b₁} {b₂ = b₂} s (turn {start = start} E T) (turn F U) =
-      let e = told-unique (ask start) b₁ b₂ (s .calls) (s .answers) (s .ends) E F in
+      let e = one-result (ask start) b₁ b₂ (s .calls) (s .answers) (s .ends) E F in
       ap₂ _∷_ e (turns-unique (handed-room e s E F) T U)
 
   -- Start i is told what any single evaluation of it tells, in tables of these lengths and a list of the places left.
@@ -34,7 +34,7 @@ module _ {ask : State → Asked} where
       → SameRoom b (handed-on (written (take i rs)) before) → Evaluated (ask (getD starts i 0)) b a r → getD rs i (told 0 0 0 0) ≡ r
   unfolding written
   start-single i l over s E = absurd (omega arith)
-  start-single {before = before} {b = b} zero l (turn {start = start} F T) s E = sym (told-unique (ask start) b before (s .calls) (s .answers) (s .ends) E F)
+  start-single {before = before} {b = b} zero l (turn {start = start} F T) s E = sym (one-result (ask start) b before (s .calls) (s .answers) (s .ends) E F)
   start-single {before = before} {b = b} (suc i) l (turn {left = left} {r = r} {rs = rs} F T) s E =
       start-single i (omega arith) T (record {
         calls = s .calls ∙ sym (tables-kept F .0);

@@ -21,5 +21,5 @@ module _ (ask : State → Asked) where
       go (of-last earlier e ok rest c a F d f) E = of-last (start ∷ earlier) (ap (λ (xs : List State). start ∷ xs) e) ok rest (c ∙ tables-kept E .0) (a ∙ tables-kept E .1) F d f
       go (untouched rest c a) (not-accepted n z s) = untouched (all n rest) (c ∙ ap (λ (l : Lent). l .calls) s) (a ∙ ap (λ (l : Lent). l .answers) s)
       go (untouched rest c a) (no-room ok f z s) = of-last [] refl ok rest refl refl E c a
-      go (untouched rest c a) (short-list ok f n l z t s) = of-last [] refl ok rest refl refl E c a
-      go (untouched rest c a) (ends-listed ok f n l z t s) = of-last [] refl ok rest refl refl E c a
+      go (untouched rest c a) (short-list z t l s) = of-last [] refl (t .accepted) rest refl refl E c a
+      go (untouched rest c a) (ends-listed z t l up s) = of-last [] refl (t .accepted) rest refl refl E c a

@@ -27,7 +27,7 @@ module _ {q : Asked} {before left : Lent} {r : Told} (E : Evaluated q before lef
     where
       go : Listing q before left r → places r ≤ length (left .ends)
       go (as-it-was n s) = rw (places-none r n) (omega arith)
-      go (with-ends z L c l) = rw (places-ends r z) (omega (arith, list-kept E))
+      go (with-ends z L l up is) = rw (places-ends r z) (omega (arith, list-kept E))
 
 -- ---- lists in two parts
 

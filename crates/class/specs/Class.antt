@@ -5,10 +5,11 @@ use mathlib.Core.Bool.{Bool, true, false, cond, _||_}
 use mathlib.Core.List.{List, [], _∷_, _++_}
 use lib.ListN.{length, take, drop}
 use lib.Dec.{eqb, ltb}
+use Rattle.refusals.specs.Refusals as refusals
 use Rattle.steps.specs.State.{State}
 use Rattle.evaluator.specs.Evaluated.{Asked, Lent, Told, lent, Evaluated}
 
--- "For each, 4 words are written: refusal number or 0, ends, calls, answers."
+-- For each start "4 words are written": "refusal number or 0, ends, calls, answers".
 abbrev pub four : Told → List ℕ
 four r = r .refusal ∷ r .ends ∷ r .calls ∷ r .answers ∷ []
 
@@ -51,6 +52,7 @@ bad-class starts results = ltb 1024 (length starts) || ltb (length results) (4 *
 -- last start are unchanged".
 pub data Ran (ask : State → Asked) (starts : List State)
     (results : List ℕ) (before : Lent) (results′ : List ℕ) (after : Lent) (r : ℕ) : Type 0 where
-  refused : bad-class starts results ≡ true → r ≡ 25 → results′ ≡ results → after ≡ before → Ran ask starts results before results′ after r
+  refused : bad-class starts results ≡ true → r ≡ refusals.bad-class → results′ ≡ results → after ≡ before
+      → Ran ask starts results before results′ after r
   ran : {rs : List Told} → bad-class starts results ≡ false → r ≡ 0 → Turns ask starts before after rs
       → results′ ≡ result-words rs ++ drop (4 * length starts) results → Ran ask starts results before results′ after r

@@ -2,11 +2,11 @@
 use Prim.Native.Nat.{ℕ, _*_, _<_, _≤_}
 use mathlib.Core.Path.{_≡_}
 use mathlib.Core.List.{List, [], _∷_, _++_, List·Memᴰ}
-use mathlib.Core.Logic.{_↔_, _≢_}
+use mathlib.Core.Logic.{_≢_}
 use lib.ListN.{length, getD, take, drop}
 use Rattle.steps.specs.State.{State}
 use Rattle.steps.specs.Run.{End}
-use Rattle.steps.specs.Counting.{Rising}
+use Rattle.steps.specs.Counting.{Exactly, Rising}
 use Rattle.evaluator.specs.Evaluated.{Asked, Lent, Told, refused-with, run-asked, Evaluated}
 use Rattle.class.specs.Class.{four, written, result-words, handed-on, Ran}
 
@@ -23,7 +23,7 @@ module _ (ask : State → Asked) where
     without : {start : State} {later : List State} {r : Told} {rs : List Told} {ends : List State}
         → r .refusal ≢ 0 → InTurn later rs ends → InTurn (start ∷ later) (r ∷ rs) ends
     with-ends : {start : State} {later : List State} {r : Told} {rs : List Told} {own ends : List State}
-        → r .refusal ≡ 0 → Rising own → ((D : State) → List·Memᴰ D own ↔ End (run-asked (ask start)) D) → length own ≡ r .ends
+        → r .refusal ≡ 0 → Rising own → Exactly (End (run-asked (ask start))) own → length own ≡ r .ends
         → InTurn later rs ends → InTurn (start ∷ later) (r ∷ rs) (own ++ ends)
 
   -- Every start is refused with one of 20 to 24.

@@ -7,9 +7,6 @@ ghost use lib.ListN.{length, take, drop};
 ghost use Rattle.evaluator.specs.Evaluated.{asked, lent, told};
 ghost use Rattle.class.specs.Class.{four, places, Ran};
 
-// Over 1,024 starts, or under 4 result words for each.
-pub const BAD_CLASS: u64 = 25;
-
 // Runs the goal from each start in turn. The four words of a start stand in `results` in the starts' order; the ends of unrefused starts follow
 // one another in `ends`; the tables are those of the last start that was refused with none of 20 to 24. The result is 0, or 25 and nothing done.
 pub fn class<'a>(
@@ -28,10 +25,10 @@ pub fn class<'a>(
         (now (results .exit)) (lent (now (calls .exit)) (now (answers .exit)) (now (ends .exit))) r ⌝ }
 {
     if 1024 < starts.len() {
-        return BAD_CLASS;
+        return refusals::BAD_CLASS;
     }
     if results.len() < 4 * starts.len() {
-        return BAD_CLASS;
+        return refusals::BAD_CLASS;
     }
     let mut used = 0;
     let mut i = 0;

@@ -1,21 +1,24 @@
 // Compares reader, writer and evaluator with a separately written evaluator on sheets at random and in some dress: the words read, the text
-// written and what it reads to, ends, calls, answers, justifications, rooms, and a record's marks. The other evaluator works on the words of the
-// book that a sheet was written from.
+// written and what it reads to, ends, calls, answers, justifications, rooms, and a record's marks. The other evaluator works on the words of a
+// book of three fluents, from which a sheet of 64 was written.
 mod evidence;
 mod marks;
-mod records;
 mod rooms;
 mod sheets;
 mod spans;
+mod spread;
+mod tables;
 mod text;
 mod words;
 
 use evaluator::Run;
 use relation::Found;
 use relation::random;
+use sheet::Sheet;
 
 // What was seen: sheets; their comment lines and lines ended by CR LF; rules that call their own action first; sheets in which two actions
-// call each other first; ends, calls and answers; recorded steps that can run, records that are the goal's, marks. Then the sheets that differ.
+// call each other first; ends, calls and answers; sheets in which an action called has an answer; recorded steps that can run, records that
+// are the goal's, marks. Then the sheets that differ.
 struct Tally {
     sheets: u64,
     comments: u64,
@@ -25,6 +28,7 @@ struct Tally {
     ends: u64,
     calls: u64,
     answers: u64,
+    inner: u64,
     runs: u64,
     yes: u64,
     marks: u64,
@@ -53,6 +57,7 @@ fn plus(a: Tally, b: Tally) -> Tally {
         ends: sum(a.ends, b.ends),
         calls: sum(a.calls, b.calls),
         answers: sum(a.answers, b.answers),
+        inner: sum(a.inner, b.inner),
         runs: sum(a.runs, b.runs),
         yes: sum(a.yes, b.yes),
         marks: sum(a.marks, b.marks),
@@ -78,6 +83,7 @@ fn none() -> Tally {
         ends: 0,
         calls: 0,
         answers: 0,
+        inner: 0,
         runs: 0,
         yes: 0,
         marks: 0,
@@ -149,7 +155,7 @@ fn same_ends(run: Run, set: u64, ends: &[u64]) -> bool {
     if run.ends != relation::ones(set) {
         return false;
     }
-    records::same_ends(ends, set)
+    tables::same_ends(ends, set)
 }
 
 fn same_calls(run: Run, found: Found, calls: &[u64], called: &[u64; 4], start: u64) -> bool {
@@ -160,7 +166,7 @@ fn same_calls(run: Run, found: Found, calls: &[u64], called: &[u64; 4], start: u
     if !words::all_from(calls, (n % 41) as usize * 2, 0) {
         return false;
     }
-    records::same_calls(calls, n, called, start)
+    tables::same_calls(calls, n, called, start)
 }
 
 fn same_answers(
@@ -179,14 +185,30 @@ fn same_answers(
     if !words::all_from(answers, (m % 301) as usize * 19, 0) {
         return false;
     }
-    records::same_answers(calls, run.calls, answers, m, rel, called, found.ends, start)
+    tables::same_answers(calls, run.calls, answers, m, rel, called, found.ends, start)
 }
 
 // Compares the marks of a record over what is read from the sheet.
-fn marked(book: &[u16; 126], start: u64, dress: u64) -> marks::Seen {
+fn marked(book: &[u16; 126], wide: &[u16; 126], start: u64, base: u64, dress: u64) -> marks::Seen {
     let mut rules = [0u16; 108];
-    let read = sheets::read(book, start, dress, &mut rules);
-    marks::compare(book, read, &rules, dress)
+    let read = sheets::read(wide, spread::state(start, base), dress, &mut rules);
+    marks::compare(book, start, base, read, &rules, dress)
+}
+
+// Evaluates what was read; the states then stand in the buffers as the book's own.
+fn evaluated(
+    read: Sheet,
+    rules: &[u16],
+    base: u64,
+    calls: &mut [u64],
+    answers: &mut [u64],
+    ends: &mut [u64],
+) -> Run {
+    let run = rooms::evaluate(read, rules, calls, answers, ends);
+    spread::put_all_back(calls, 2, 1, run.calls, base);
+    spread::put_all_back(answers, 19, 1, run.answers, base);
+    spread::put_all_back(ends, 1, 0, run.ends, base);
+    run
 }
 
 // Compares the sheet of one book from one state in a dress.
@@ -194,30 +216,34 @@ fn compared(book: &[u16; 126], start: u64, dress: u64) -> Tally {
     let mut rel = [0u64; 32];
     let mut called = [0u64; 4];
     let found = relation::run(book, 6, start, &mut rel, &mut called);
+    let base = random::pick(random::next(dress), 22);
+    let wide = spread::book(book, base);
+    let from = spread::state(start, base);
     let mut rules = [0u16; 108];
-    let read = sheets::read(book, start, dress, &mut rules);
+    let read = sheets::read(&wide, from, dress, &mut rules);
     let mut calls = [words::MARK; 80];
     let mut answers = [words::MARK; 5700];
     let mut ends = [words::MARK; 10];
-    let run = rooms::evaluate(read, &rules, &mut calls, &mut answers, &mut ends);
+    let run = evaluated(read, &rules, base, &mut calls, &mut answers, &mut ends);
     let good_rooms = rooms::exact(read, &rules, run);
-    let good_words = sheets::as_written(book, start, read, &rules);
-    let good_text = sheets::same_text(book, start, dress);
-    let good_again = sheets::same_again(book, start, dress);
+    let good_words = sheets::as_written(&wide, from, read, &rules);
+    let good_text = sheets::same_text(&wide, from, dress);
+    let good_again = sheets::same_again(&wide, from, dress);
     let good_ends = same_ends(run, found.ends, &ends);
     let good_calls = same_calls(run, found, &calls, &called, start);
     let good_answers = same_answers(run, found, &calls, &answers, &rel, &called, start);
     let good_evidence = evidence::all_justified(book, &calls, run.calls, &answers, run.answers);
-    let seen = marked(book, start, dress);
+    let seen = marked(book, &wide, start, base, dress);
     Tally {
         sheets: 1,
-        comments: sheets::count(book, start, dress, b'#'),
-        returns: sheets::count(book, start, dress, b'\r'),
+        comments: sheets::count(&wide, from, dress, b'#'),
+        returns: sheets::count(&wide, from, dress, b'\r'),
         own: own_first(book),
         mutual: mutual_first(book),
         ends: run.ends,
         calls: run.calls,
         answers: run.answers,
+        inner: failed(run.answers == run.ends),
         runs: seen.runs,
         yes: seen.yes,
         marks: seen.marks,
@@ -233,22 +259,22 @@ fn compared(book: &[u16; 126], start: u64, dress: u64) -> Tally {
     }
 }
 
-// Writes a book at random over zeros: its first rules are base rules, so many as said; the generator's next number.
-fn random_book(seed: u64, book: &mut [u16; 126], bases: usize) -> u64 {
+// Writes a book at random over zeros: rule 0 to a last one are base rules; the generator's next number.
+fn random_book(seed: u64, book: &mut [u16; 126], last: usize) -> u64 {
     let mut x = seed;
     for rule in 0..7usize {
-        x = random::record(book, rule, x, rule < bases);
+        x = random::record(book, rule, x, rule <= last);
     }
     random::next(x)
 }
 
-// Compares so many sheets. In turn they have no, one, two and three base rules.
+// Compares so many sheets. In turn they have one to five base rules.
 fn compare(sheets: u64, from: u64) -> Tally {
     let mut tally = none();
     let mut seed = from;
     for k in 0..sheets {
         let mut book = [0u16; 126];
-        seed = random_book(seed, &mut book, (k % 4) as usize);
+        seed = random_book(seed, &mut book, (k % 5) as usize);
         let dress = random::pick(random::next(seed), 32768);
         tally = plus(tally, compared(&book, random::pick(seed, 8) % 8, dress));
     }
@@ -271,6 +297,7 @@ fn print_seen(t: Tally) {
     line(b"ends", t.ends);
     line(b"calls", t.calls);
     line(b"answers", t.answers);
+    line(b"sheets with answers of inner calls", t.inner);
     line(b"recorded steps that can run", t.runs);
     line(b"records that are the goal's", t.yes);
     line(b"marks", t.marks);

@@ -1,6 +1,7 @@
 // Records at random, marked by the library and by the parts found otherwise.
 
 use crate::spans;
+use crate::spread;
 use crate::words;
 use marking::Marked;
 use relation::has;
@@ -150,11 +151,19 @@ fn compared(read: Sheet, rules: &[u16], record: &[u16], yes: u64, found: &[u64; 
     same_marks(given, yes, &table, found)
 }
 
-// Compares the marks of a record at random over what was read from a sheet.
-pub fn compare(book: &[u16; 126], read: Sheet, rules: &[u16], seed: u64) -> Seen {
+// Compares the marks of a record at random over what was read from the sheet of a book with a start, by its base.
+pub fn compare(
+    book: &[u16; 126],
+    start: u64,
+    base: u64,
+    read: Sheet,
+    rules: &[u16],
+    seed: u64,
+) -> Seen {
     let steps = random_steps(book, seed);
+    let wide = spread::steps(&steps, base);
     let len = random::pick(random::next(seed), 8) % 8;
-    let runs = spans::runs(&steps, len, read.start);
+    let runs = spans::runs(&steps, len, start);
     let mut found = [0u64; 32];
     spans::solve(book, &steps, runs, &mut found);
     let yes = is_yes(book, &steps, len, runs, &found);
@@ -162,6 +171,6 @@ pub fn compare(book: &[u16; 126], read: Sheet, rules: &[u16], seed: u64) -> Seen
         runs: runs,
         yes: yes,
         marks: parts(&found),
-        same: compared(read, rules, first(&steps, len as usize), yes, &found),
+        same: compared(read, rules, first(&wide, len as usize), yes, &found),
     }
 }

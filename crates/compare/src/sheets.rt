@@ -8,26 +8,26 @@ const MARK: u8 = 7;
 
 // What the reader makes of a book's sheet, which has at most 800 bytes. The rule words go to a list that just serves.
 pub fn read(book: &[u16; 126], start: u64, dress: u64, rules: &mut [u16]) -> Sheet {
-    let mut bytes = [0u8; 1024];
-    let end = text::write(&mut bytes, book, start, dress) % 1025;
+    let mut bytes = [0u8; 3072];
+    let end = text::write(&mut bytes, book, start, dress) % 3073;
     sheet::read(&bytes[..end], rules)
 }
 
 // What the writer makes of it.
 fn write(book: &[u16; 126], start: u64, dress: u64, out: &mut [u8]) -> Written {
-    let mut bytes = [0u8; 1024];
-    let end = text::write(&mut bytes, book, start, dress) % 1025;
+    let mut bytes = [0u8; 3072];
+    let end = text::write(&mut bytes, book, start, dress) % 3073;
     writer::write(&bytes[..end], out)
 }
 
 // How often a byte stands in it.
 pub fn count(book: &[u16; 126], start: u64, dress: u64, byte: u8) -> u64 {
-    let mut bytes = [0u8; 1024];
+    let mut bytes = [0u8; 3072];
     text::write(&mut bytes, book, start, dress);
     let mut n: u64 = 0;
-    for i in 0..1024usize {
+    for i in 0..3072usize {
         if bytes[i] == byte {
-            n = n % 1024 + 1;
+            n = n % 3072 + 1;
         }
     }
     n
@@ -38,7 +38,7 @@ fn same_counts(book: &[u16; 126], start: u64, read: Sheet) -> bool {
     if read.refusal != 0 {
         return false;
     }
-    if read.fluents != 3 {
+    if read.fluents != 64 {
         return false;
     }
     if read.actions != 4 {
@@ -80,8 +80,8 @@ pub fn as_written(book: &[u16; 126], start: u64, read: Sheet, rules: &[u16; 108]
 }
 
 // Whether two buffers hold the same bytes.
-fn same_bytes(a: &[u8; 512], b: &[u8; 512]) -> bool {
-    for i in 0..512usize {
+fn same_bytes(a: &[u8; 1280], b: &[u8; 1280]) -> bool {
+    for i in 0..1280usize {
         if a[i] != b[i] {
             return false;
         }
@@ -91,9 +91,9 @@ fn same_bytes(a: &[u8; 512], b: &[u8; 512]) -> bool {
 
 // Whether a room of one byte less than the text has is refused with 50 and left as it was.
 fn refused_short(book: &[u16; 126], start: u64, dress: u64, length: usize) -> bool {
-    let marks = [MARK; 512];
-    let mut out = [MARK; 512];
-    let from = (513 - length % 513) % 513;
+    let marks = [MARK; 1280];
+    let mut out = [MARK; 1280];
+    let from = (1281 - length % 1281) % 1281;
     let r = write(book, start, dress, &mut out[from..]);
     if r.refusal != 50 {
         return false;
@@ -104,11 +104,11 @@ fn refused_short(book: &[u16; 126], start: u64, dress: u64, length: usize) -> bo
     same_bytes(&marks, &out)
 }
 
-// Whether the sheet is written as the book's plain text, of at most 458 bytes, and what was lent past it stays.
+// Whether the sheet is written as the book's plain text, of at most 1,186 bytes, and what was lent past it stays.
 pub fn same_text(book: &[u16; 126], start: u64, dress: u64) -> bool {
-    let mut plain = [MARK; 512];
+    let mut plain = [MARK; 1280];
     let length = text::write(&mut plain, book, start, 0);
-    let mut out = [MARK; 512];
+    let mut out = [MARK; 1280];
     let r = write(book, start, dress, &mut out);
     if r.refusal != 0 {
         return false;
@@ -124,9 +124,9 @@ pub fn same_text(book: &[u16; 126], start: u64, dress: u64) -> bool {
 
 // Whether what was written is read as the book.
 pub fn same_again(book: &[u16; 126], start: u64, dress: u64) -> bool {
-    let mut out = [MARK; 512];
+    let mut out = [MARK; 1280];
     let r = write(book, start, dress, &mut out);
-    let end = (r.length % 513) as usize;
+    let end = (r.length % 1281) as usize;
     let mut rules = [0u16; 108];
     let read = sheet::read(&out[..end], &mut rules);
     as_written(book, start, read, &rules)

@@ -97,9 +97,9 @@ pub fn beginnings(
 ) -> u64 {
     let mut set: u64 = 1 << (j % 8);
     let count = word_at(book, rule, 1) as usize;
-    for k in 0..4usize {
-        if 3 - k < count {
-            set = before(word_at(book, rule, 5 - k), set, steps, runs, spans);
+    for k in 0..16usize {
+        if 15 - k < count {
+            set = before(word_at(book, rule, 17 - k), set, steps, runs, spans);
         }
     }
     set

@@ -1,4 +1,4 @@
-// A book written as the text of a sheet. Fluents 0 to 2 have the names a, b, c, actions 0 to 3 the names p, q, r, s. In dress 0 the text is
+// A book written as the text of a sheet. Fluents 0 to 63 have the names aa to hh, actions 0 to 3 the names p, q, r, s. In dress 0 the text is
 // the plain one that the library writes; any other dress adds comment lines and CR LF at random and has the names of `start` in some order.
 use relation::random;
 
@@ -51,9 +51,13 @@ fn put_top(text: &mut [u8], dress: u64) -> usize {
     put(text, 0, b"# boiler 7\r\n")
 }
 
-// A fluent's name.
-fn fluent(index: u16) -> u8 {
-    b'a' + (index % 3) as u8
+// The field of a fluent's name, after a byte; the place after it.
+fn put_name(text: &mut [u8], at: usize, mark: u8, index: u16) -> usize {
+    put(
+        text,
+        at,
+        &[mark, b'a' + (index / 8 % 8) as u8, b'a' + (index % 8) as u8],
+    )
 }
 
 // An action's name.
@@ -61,15 +65,15 @@ fn action(index: u16) -> u8 {
     b'p' + (index % 4) as u8
 }
 
-// A field with a step; the place after it.
+// A step; the place after it.
 fn put_step(text: &mut [u8], at: usize, word: u16) -> usize {
     let index = word % 256;
     match word / 256 {
-        0 => put(text, at, &[b'\t', b'?', fluent(index)]),
-        1 => put(text, at, &[b'\t', b'+', fluent(index)]),
-        2 => put(text, at, &[b'\t', b'-', fluent(index)]),
-        4 => put(text, at, &[b'\t', b'~', fluent(index)]),
-        _ => put(text, at, &[b'\t', b'!', action(index)]),
+        0 => put_name(text, at, b'?', index),
+        1 => put_name(text, at, b'+', index),
+        2 => put_name(text, at, b'-', index),
+        4 => put_name(text, at, b'~', index),
+        _ => put(text, at, &[b'!', action(index)]),
     }
 }
 
@@ -78,6 +82,7 @@ fn put_steps(text: &mut [u8], from: usize, book: &[u16; 126], rule: usize, dress
     let count = relation::word_at(book, rule, 1);
     let mut at = from;
     for k in 0..count {
+        at = put(text, at, b"\t");
         at = put_step(
             text,
             at,
@@ -88,10 +93,14 @@ fn put_steps(text: &mut [u8], from: usize, book: &[u16; 126], rule: usize, dress
 }
 
 // The lines of the fluents; the place after them.
-fn put_fluents(text: &mut [u8], at: usize, dress: u64) -> usize {
-    let a = put_line(text, at, b"fluent\ta", dress);
-    let b = put_line(text, a, b"fluent\tb", dress);
-    put_line(text, b, b"fluent\tc", dress)
+fn put_fluents(text: &mut [u8], from: usize, dress: u64) -> usize {
+    let mut at = from;
+    for k in 0..64u16 {
+        at = put(text, at, b"fluent");
+        at = put_name(text, at, b'\t', k);
+        at = put_end(text, at, dress);
+    }
+    at
 }
 
 // The lines of the actions; the place after them.
@@ -113,22 +122,22 @@ fn put_rules(text: &mut [u8], from: usize, book: &[u16; 126], dress: u64) -> usi
     at
 }
 
-// The fluent at place k of `start`: each of the six orders of three fluents is that of some dress, and in dress 0 it is the fluents' own.
+// The fluent at place k of 64 in `start`: each of the six orders of three fluents is that of some dress, and in dress 0 it is the fluents' own.
 fn at_place(dress: u64, k: u64) -> u16 {
-    let turned = dress / 4 % 3;
+    let turned = dress / 4 % 64;
     if dress % 4 < 2 {
-        return ((k % 3 + turned) % 3) as u16;
+        return ((k % 64 + turned) % 64) as u16;
     }
-    ((2 - k % 3 + turned) % 3) as u16
+    ((63 - k % 64 + turned) % 64) as u16
 }
 
 // The start line; the place after it.
 fn put_start(text: &mut [u8], from: usize, start: u64, dress: u64) -> usize {
     let mut at = put(text, from, b"start");
-    for k in 0..3u64 {
+    for k in 0..64u64 {
         let f = at_place(dress, k);
         if relation::has(start, f as u64) {
-            at = put(text, at, &[b'\t', fluent(f)]);
+            at = put_name(text, at, b'\t', f);
         }
     }
     put_end(text, at, dress)

@@ -14,11 +14,11 @@ fn field(n: u64) {
     io::print_decimal(1, n);
 }
 
-// Notes where the name of each fluent stands in the sheet: reading a sheet once for each name printed would be slow.
+// Notes where the name of each fluent stands in an accepted sheet: to find them again for each end would be slow.
 fn find_names(sheet: &[u8], at: &mut [usize; 64], len: &mut [usize; 64]) {
     let mut k: usize = 0;
     while k < 64 {
-        let name = sheet::fluent_span(sheet, k as u64);
+        let name = sheet::name_in(sheet, k as u64);
         at[k] = name.at;
         len[k] = name.len;
         if name.len == 0 {
@@ -82,8 +82,18 @@ fn print_run(sheet: &[u8]) {
     print_ends(sheet, &ends, run.ends);
 }
 
+// Whether standard input, of which no byte came, cannot be read: it has not just ended.
+fn unreadable() -> bool {
+    let mut more = [0u8; 1];
+    libc::read(0, &mut more) < 0
+}
+
 fn main() {
     let mut sheet = [0u8; 65537];
     let n = io::read_full(0, &mut sheet);
+    if n == 0 && unreadable() {
+        io::write_all(2, b"ends: standard input cannot be read\n");
+        return;
+    }
     print_run(&sheet[..n]);
 }

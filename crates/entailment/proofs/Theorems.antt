@@ -35,5 +35,5 @@ pub ends-entailed : {run : Run} {D′ : State} → End run D′ ↔ Transforms (
 ends-entailed = final-entailed
 
 -- and its answers are each call with each state that it may transform its state into.
-pub answers-entailed : {run : Run} {a : ℕ} {D D′ : State} → Answer run a D D′ ↔ (Call run a D × Transforms (run .book) D (body-of-call run a) D′)
+pub answers-entailed : {run : Run} {a : ℕ} {D D′ : State} → Answer run (a, D, D′) ↔ (Call run (a, D) × Transforms (run .book) D (body-of-call run a) D′)
 answers-entailed = (λ (c, d). (c, final-entailed .0 d), λ (c, t). (c, final-entailed .1 t))

@@ -6,27 +6,28 @@ use mathlib.Core.List.{List}
 use mathlib.Core.Logic.{_↔_, ⊎-elim}
 use lib.ListN.{length}
 use Rattle.steps.specs.State.{State}
-use Rattle.steps.specs.Run.{Run, Goal, End}
+use Rattle.steps.specs.Run.{Run, Goal, Call, Answer, End}
 use Rattle.steps.specs.Words.{run-of}
-use Rattle.steps.specs.Counting.{Counts}
+use Rattle.steps.specs.Counting.{Exactly}
 use Rattle.steps.proofs.AcceptanceLaws.{AcceptedWords}
-use Rattle.steps.proofs.Counting.{counts-map, counts-outnumbers}
-use Rattle.steps.proofs.Rows.{table-counts}
+use Rattle.steps.proofs.Counting.{exactly-map}
+use Rattle.steps.proofs.Rows.{table-exactly, rows-outnumber}
 use Rattle.steps.proofs.Exactness.{Exact}
-use Rattle.tabling.specs.Records.{bodies-of, room}
-use Rattle.tabling.proofs.Storage.{CallAt, HeldAnswer}
-use Rattle.tabling.proofs.Growth.{Tables, row-once}
-use Rattle.tabling.proofs.Justification.{justified-in}
+use Rattle.records.specs.Records.{bodies-of, room, call-width, answer-width}
+use Rattle.records.specs.Full.{Full}
+use Rattle.records.specs.Finished.{Finished}
+use Rattle.records.specs.Storage.{CallAt, HeldAnswer}
+use Rattle.records.proofs.Growth.{Tables, row-once}
+use Rattle.records.proofs.Justification.{justified-in}
 use Rattle.tabling.proofs.Evidence.{Among, inside-of}
 use Rattle.tabling.proofs.Adding.{calls-apart, answers-apart}
-use Rattle.tabling.proofs.Numbers.{proper-of}
-use Rattle.tabling.proofs.Rounds.{Whole, C, A, exact-of}
-use Rattle.tabling.proofs.Going.{Kept, in-words}
+use Rattle.records.proofs.Numbers.{proper-of}
+use Rattle.tabling.proofs.Closed.{Whole}
+use Rattle.tabling.proofs.Closed.{C, A, exact-of}
+use Rattle.loops.proofs.Going.{Kept, in-words}
 use Rattle.tabling.proofs.RunTables.{the-root, exact-run}
-use Rattle.tabling.proofs.Finals.{finals-below}
-use Rattle.tabling.proofs.FinalsLaws.{finals-counted}
-use Rattle.evaluator.specs.Full.{Calls, Answers, Full}
-use Rattle.evaluator.specs.Finished.{Finished}
+use Rattle.evaluator.specs.Finals.{finals-below}
+use Rattle.evaluator.proofs.FinalsLaws.{finals-exactly}
 
 module _ {fluents actions : ℕ} (rules goal : List ℕ) (start : State) (acc : AcceptedWords fluents actions rules goal) (calls : List ℕ) (n : ℕ) (answers : List ℕ) (m : ℕ)
     (kept : Kept calls n answers m)
@@ -44,17 +45,19 @@ module _ {fluents actions : ℕ} (rules goal : List ℕ) (start : State) (acc : 
   held-answer : {a : ℕ} {D D′ : State} (x : ℕ) → x < m → t .calls .action (t .answers .call x) ≡ a → t .calls .state (t .answers .call x) ≡ D → t .answers .final x ≡ D′ → A t a D D′
   held-answer x l e f g = (x, record { below = l; action = e; state = f }, g)
 
+  -- what a record stands for
+  abbrev call-at : ℕ → ℕ × State
+  call-at i = (t .calls .action i, t .calls .state i)
+
+  abbrev answer-at : ℕ → ℕ × State × State
+  answer-at x = (t .calls .action (t .answers .call x), t .calls .state (t .answers .call x), t .answers .final x)
+
   pub finished : Finished rules goal start calls answers n m
   finished = record {
-    calls-counted = table-counts (λ i. (t .calls .action i, t .calls .state i)) (Calls run) n (calls-apart (R .valid)) (λ i l. exact .calls _ _ .0 (i, l, record { has-action = refl; has-state = refl }))
+    calls-held = table-exactly call-at (Call run) n (calls-apart (R .valid)) (λ i l. exact .calls _ _ .0 (i, l, record { has-action = refl; has-state = refl }))
         (λ (a, D) c. let (i, l, h) = exact .calls a D .1 c in (i, l, λ k. (sym (h .has-action) k, sym (h .has-state) k)));
-    answers-counted = table-counts (λ x. (t .calls .action (t .answers .call x), t .calls .state (t .answers .call x), t .answers .final x)) (Answers run) m (answers-apart (R .valid))
-        (λ x l. exact .answers _ _ _ .0 (held-answer x l refl refl refl))
+    answers-held = table-exactly answer-at (Answer run) m (answers-apart (R .valid)) (λ x l. exact .answers _ _ _ .0 (held-answer x l refl refl refl))
         (λ (a, D, D′) c. let (x, o, f) = exact .answers a D D′ .1 c in (x, o .below, λ k. (sym (o .action) k, sym (o .state) k, sym f k)));
-    calls-held = λ a D. (λ c. let (i, l, h) = exact .calls a D .1 c in (i, l, h .has-action, h .has-state), λ (i, l, e, f). exact .calls a D .0 (i, l, record { has-action = e; has-state = f }));
-    calls-once = λ i j l h e f. R .valid .calls-once i j _ _ l h (record { has-action = e; has-state = f }) (record { has-action = refl; has-state = refl });
-    answers-held = λ a D D′. (λ c. let (x, o, f) = exact .answers a D D′ .1 c in (x, o .below, o .action, o .state, f), λ (x, l, e, f, g). exact .answers a D D′ .0 (held-answer x l e f g));
-    answers-once = λ x y l h e f. R .valid .answers-once x y _ _ l h (record { has-call = e; has-final = f }) (record { has-call = refl; has-final = refl });
     justified = λ x l. justified-in (proper-of rules goal acc) (R .valid .justified x l);
     calls-past = kept .calls-stored .past;
     answers-past = kept .answers-stored .past;
@@ -63,8 +66,8 @@ module _ {fluents actions : ℕ} (rules goal : List ℕ) (start : State) (acc : 
   -- they fit
   pub not-full : ¬ Full run (length calls) (length answers)
   not-full f = ⊎-elim
-      (λ o. omega (arith, counts-outnumbers (Calls run) n (room 2 (length calls)) (finished .calls-counted) .0 o, kept .calls-stored .fits, kept .calls-stored .most))
-      (λ o. omega (arith, counts-outnumbers (Answers run) m (room 19 (length answers)) (finished .answers-counted) .0 o, kept .answers-stored .fits, kept .answers-stored .most))
+      (λ o. omega (arith, rows-outnumber call-at n (finished .calls-held) (room call-width (length calls)) .0 o, kept .calls-stored .fits, kept .calls-stored .most))
+      (λ o. omega (arith, rows-outnumber answer-at m (finished .answers-held) (room answer-width (length answers)) .0 o, kept .answers-stored .fits, kept .answers-stored .most))
       f
 
   -- the answers of the goal's call record are the ends
@@ -76,5 +79,5 @@ module _ {fluents actions : ℕ} (rules goal : List ℕ) (start : State) (acc : 
           (x, o .below, record { has-call = row-once (t .calls) (R .valid .calls-once) _ row Goal start (inside-of (R .valid) x (o .below)) l (record { has-action = o .action; has-state = o .state }) k; has-final = f }),
     )
 
-    pub ends-counted : Counts (End run) (length (finals-below (t .answers) row m))
-    ends-counted = counts-map (length (finals-below (t .answers) row m)) goal-ends (finals-counted (t .answers) row (R .valid .answers-once))
+    pub ends-exactly : Exactly (End run) (finals-below (t .answers) row m)
+    ends-exactly = exactly-map goal-ends (finals-exactly (t .answers) row (R .valid .answers-once))

@@ -1,4 +1,5 @@
 -- Laws for this crate's proofs.
+pub mod FinalsLaws
 pub mod Listing
 pub mod Finishing
 pub mod Outcomes

@@ -8,10 +8,10 @@ use lib.ListN.{length, getD, take, drop, set, length-append, length-drop, take-a
 use lib.Seq.{drop-cons, set-append-seam, take-at, drop-at, length-take-le, getD-take}
 use Rattle.sorting.specs.Sorted.{Sorted}
 use Rattle.sorting.proofs.SortedLaws.{members, strictly-rising}
-use Rattle.tabling.specs.Records.{Answers}
-use Rattle.tabling.proofs.Growth.{AnswersOnce}
-use Rattle.tabling.proofs.Finals.{finals-below, Listed}
-use Rattle.tabling.proofs.FinalsLaws.{rising-by, finals-none, finals-more, finals-same, finals-in, in-finals, finals-differ}
+use Rattle.records.specs.Records.{Answers}
+use Rattle.records.proofs.Growth.{AnswersOnce}
+use Rattle.evaluator.specs.Finals.{finals-below, FinalsListed}
+use Rattle.evaluator.proofs.FinalsLaws.{rising-by, finals-none, finals-more, finals-same, finals-in, in-finals, finals-differ}
 
 module _ (answers : Answers) (row : ℕ) where
   -- The final states of the first x records stand at the head of the list.
@@ -60,7 +60,7 @@ module _ (answers : Answers) (row : ℕ) {list list′ list″ : List ℕ} {n : 
   at : (i : ℕ) → i < n → getD list′ i 0 ≡ getD xs i 0
   at i l = ap (λ ys. getD ys i 0) (g .is) ∙ List·getD-append xs (drop n list) 0 i (omega (arith, g .counted))
 
-  pub listed : AnswersOnce answers → Listed answers row list list″
+  pub listed : AnswersOnce answers → FinalsListed answers row list list″
   listed once =
       record {
         finals = take n list″;

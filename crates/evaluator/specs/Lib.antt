@@ -1,4 +1,3 @@
--- Evaluated: what `evaluate` gives and leaves. Full and Finished: when the tables are full, and what they hold otherwise.
-pub mod Full
-pub mod Finished
+-- Finals: the final states of a call record, for the proofs. Evaluated: what `evaluate` gives and leaves.
+pub mod Finals
 pub mod Evaluated

@@ -3,7 +3,7 @@ use Prim.Native.Nat.{ℕ}
 use mathlib.Core.Path.{_≡_, sym, ap, subst, _∙_}
 use mathlib.Core.List.{List, _++_, map-append, List·Memᴰ}
 use mathlib.Core.Logic.{_↔_}
-use lib.ListN.{length, take, drop, take-append-drop}
+use lib.ListN.{take, drop, take-append-drop}
 use lib.Seq.{take-at}
 use Rattle.steps.specs.State.{State}
 use Rattle.steps.specs.Step.{Body}
@@ -36,10 +36,10 @@ ends-cut q k D′ =
 -- a result without refusal counts places that hold just the ends
 lists : {q : Asked} {before after : Lent} {r : Told} → Listing q before after r → r .refusal ≡ 0 → (D : State) → List·Memᴰ D (take (r .ends) (after .ends)) ↔ End (run-asked q) D
 lists (as-it-was n s) z D = absurd (n z)
-lists {q} {before} {after} {r} (with-ends z L c l) _ D =
+lists {q} {before} {after} {r} (with-ends z t l up is) _ D =
     subst (λ (xs : List ℕ). List·Memᴰ D xs ↔ End (run-asked q) D)
-    (sym (ap (take (r .ends)) (L .list) ∙ take-at (L .ends) (drop (length (L .ends)) (before .ends)) (r .ends) c))
-    (L .exactly D)
+    (sym (ap (take (r .ends)) is ∙ take-at (t .ends) (drop (r .ends) (before .ends)) (r .ends) (t .counted)))
+    (t .exactly .members D)
 
 -- An unrefused evaluation lists just the ends.
 pub lists-ends : {q : Asked} (u : Unrefused q) (D : State) → Listed u D ↔ End (run-asked q) D

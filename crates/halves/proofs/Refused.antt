@@ -10,11 +10,12 @@ use lib.ListN.{length, getD, take, drop, length-take, length-drop}
 use lib.Seq.{getD-take, getD-drop}
 use lib.Dec.{eqb}
 use borrow.Author.Tests.{eqb-true, eq-eqb, le-ltb}
+use Rattle.refusals.specs.Refusals as refusals
 use Rattle.steps.specs.State.{State}
 use Rattle.steps.specs.Run.{End}
-use Rattle.steps.specs.Acceptance.{good-step, bad-counts, bad-length, bad-rules, bad-goal, bad-start, words-refusal, refusal-of}
+use Rattle.steps.specs.Acceptance.{good-step, bad-counts, bad-length, bad-rules, bad-goal, bad-state, words-refusal, refusal-of}
 use Rattle.steps.proofs.EachBelow.{each-all}
-use Rattle.steps.proofs.AcceptanceLaws.{AcceptedWords, accepted, start-accepted, accepted-below}
+use Rattle.steps.proofs.AcceptanceLaws.{AcceptedWords, accepted, words-accepted, start-accepted, accepted-below}
 use Rattle.evaluator.specs.Evaluated.{Asked, Told, refused-with, run-asked, not-accepted, no-room, short-list, ends-listed}
 use Rattle.halves.specs.Cut.{first-half, second-half, HalvesAccepted, OnlyRoom, HalvesRefused}
 
@@ -24,25 +25,15 @@ module _ (fluents actions : ℕ) (rules : List ℕ) where
   unfolding words-refusal
   other-goal goal part e good = rw good (by (bad-counts fluents actions) (bad-length rules) (bad-rules fluents actions rules) (bad-goal fluents actions goal) e)
     where
-      by : (c l r g : Bool) → _≡_ {A = ℕ} (cond c 20 (cond l 21 (cond r 22 (cond g 23 0)))) 0 → _≡_ {A = ℕ} (cond c 20 (cond l 21 (cond r 22 0))) 0
+      by : (c l r g : Bool) → _≡_ {A = ℕ} (cond c refusals.bad-counts (cond l refusals.bad-length (cond r refusals.bad-rule (cond g refusals.bad-goal 0)))) 0 → _≡_ {A = ℕ} (cond c refusals.bad-counts (cond l refusals.bad-length (cond r refusals.bad-rule 0))) 0
       by true l r g e = e
       by false true r g e = e
       by false false true g e = e
       by false false false g e = refl
 
-  -- none of 20 to 24: none of 20 to 23
-  words-accepted : (goal : List ℕ) (start : State) → refusal-of fluents actions rules goal start ≡ 0 → words-refusal fluents actions rules goal ≡ 0
-  unfolding refusal-of
-  words-accepted goal start e = by (eqb (words-refusal fluents actions rules goal) 0) refl e
-    where
-      by : (b : Bool) → eqb (words-refusal fluents actions rules goal) 0 ≡ b
-          → cond b (cond (bad-start fluents start) 24 0) (words-refusal fluents actions rules goal) ≡ 0 → words-refusal fluents actions rules goal ≡ 0
-      by true z e = eqb-true (words-refusal fluents actions rules goal) 0 z
-      by false z e = e
-
-  -- and back, for a start below 2 ^ fluents
+  -- none of 20 to 23, and a start below 2 ^ fluents: none of 20 to 24
   with-start : (goal : List ℕ) (start : State) → words-refusal fluents actions rules goal ≡ 0 → start < 2 ^ fluents → refusal-of fluents actions rules goal start ≡ 0
-  unfolding refusal-of bad-start
+  unfolding refusal-of bad-state
   with-start goal start e l = rw (e, eq-eqb (start / 2 ^ fluents) 0 (div-eq-of-lt l)) refl
 
   -- a goal of good steps, not too long
@@ -94,8 +85,8 @@ halves-accepted q k e = (first q k e, second q k e)
 only-room : (q : Asked) → refused-with q ≡ 0 → OnlyRoom q
 only-room q ok before after r (not-accepted n z s) = absurd (n ok)
 only-room q ok before after r (no-room a f z s) = inr (inl (ap (λ (r : Told). r .refusal) z))
-only-room q ok before after r (short-list a f c l z t s) = inr (inr (ap (λ (r : Told). r .refusal) z))
-only-room q ok before after r (ends-listed a f c l z t L) = inl (ap (λ (r : Told). r .refusal) z)
+only-room q ok before after r (short-list z t l s) = inr (inr z)
+only-room q ok before after r (ends-listed z t l up s) = inl z
 
 pub halves-refused : HalvesRefused
 halves-refused q k e =

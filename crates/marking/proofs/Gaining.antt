@@ -12,7 +12,7 @@ use lib.Seq.{getD-set-same, getD-set-other, take-all}
 use borrow.Author.Tests.{eqb-true}
 use Rattle.steps.specs.State.{bit, holds}
 use Rattle.steps.specs.Step.{Body}
-use Rattle.steps.specs.Words.{body-of, words-of, book-of}
+use Rattle.steps.specs.Words.{body-of, words-of, book-of, rule-width}
 use Rattle.steps.proofs.Deductions.{RuleOf}
 use Rattle.steps.proofs.Execution.{Runs, ended, runs-join}
 use Rattle.steps.proofs.StateLaws.{no-bit}
@@ -95,7 +95,7 @@ module _ (rules steps : List ℕ) (runs i : ℕ) where
 
   -- ---- what is added
 
-  pub ready-added : {table notes after : List ℕ} (r : ℕ) {mask : ℕ} {b : Bool} → Ready rules steps runs i table notes → r < length rules / 18
+  pub ready-added : {table notes after : List ℕ} (r : ℕ) {mask : ℕ} {b : Bool} → Ready rules steps runs i table notes → r < length rules / rule-width
       → Added rules i r mask table after b → ((j : ℕ) → j < 64 → bit mask j ≡ 1 → Runs (Carried (body-of steps) runs) (RuleOf (book-of rules)) i (body-of (words-of rules r)) j)
       → Grown i table after × Ready rules steps runs i after notes
   ready-added r ready count added right =

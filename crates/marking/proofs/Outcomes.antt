@@ -8,9 +8,10 @@ use mathlib.Core.Logic.{_↔_, _≢_}
 use lib.Dec.{eqb, ltb}
 use lib.ListN.{getD, length}
 use borrow.Author.Tests.{eqb-true, ltb-true, ltb-false, not-true, not-false}
+use Rattle.refusals.specs.Refusals as refusals
 use Rattle.steps.specs.State.{bit}
 use Rattle.steps.specs.Step.{Body, Rule}
-use Rattle.steps.specs.Words.{is-call, body-of, head-of, words-of, rule-of, book-of}
+use Rattle.steps.specs.Words.{is-call, body-of, head-of, words-of, rule-of, book-of, rule-width}
 use Rattle.steps.specs.Acceptance.{each-below, good-step, refusal-of}
 use Rattle.steps.proofs.AcceptanceLaws.{AcceptedWords, start-accepted, rule-step}
 use Rattle.steps.proofs.Deductions.{RuleOf, rule}
@@ -41,7 +42,7 @@ good-word fluents actions w f a e =
 module _ (q : Question) (room : ℕ) (e : refusal q room ≡ 0) where
   -- the refusals met here alone
   abbrev later : ℕ
-  later = cond (ltb 63 (length (q .words))) 60 (cond (ltb room 4096) 61 (cond (bad-record (q .fluents) (q .actions) (q .words)) 62 0))
+  later = cond (ltb 63 (length (q .words))) refusals.long-record (cond (ltb room 4096) refusals.marks-short (cond (bad-record (q .fluents) (q .actions) (q .words)) refusals.bad-recorded-step 0))
 
   tests : (refusal-of (q .fluents) (q .actions) (q .rules) (q .goal) (q .start) ≡ 0) × (length (q .words) ≤ 63) × (4096 ≤ room)
       × (bad-record (q .fluents) (q .actions) (q .words) ≡ false)
@@ -51,9 +52,9 @@ module _ (q : Question) (room : ℕ) (e : refusal q room ≡ 0) where
       rest : later ≡ 0
           → (length (q .words) ≤ 63) × (4096 ≤ room) × (bad-record (q .fluents) (q .actions) (q .words) ≡ false)
       rest f =
-          let (a, g) = passed (ltb 63 (length (q .words))) 60 _ (λ z. omega arith) f in
-          let (b, h) = passed (ltb room 4096) 61 _ (λ z. omega arith) g in
-          let (c, _) = passed (bad-record (q .fluents) (q .actions) (q .words)) 62 0 (λ z. omega arith) h in
+          let (a, g) = passed (ltb 63 (length (q .words))) refusals.long-record _ (λ z. omega arith) f in
+          let (b, h) = passed (ltb room 4096) refusals.marks-short _ (λ z. omega arith) g in
+          let (c, _) = passed (bad-record (q .fluents) (q .actions) (q .words)) refusals.bad-recorded-step 0 (λ z. omega arith) h in
           (ltb-false 63 _ a, ltb-false room 4096 b, c)
 
       by : (b : Bool) → eqb (refusal-of (q .fluents) (q .actions) (q .rules) (q .goal) (q .start)) 0 ≡ b
@@ -107,7 +108,7 @@ module _ {q : Question} {runs : ℕ} (taken : Taken q runs) where
     where
       closed : (a i j : ℕ) (body : Body) → i ≤ runs → RuleOf (book-of (q .rules)) a body → Walk (Carried (body-of (q .words)) runs) (Held table) i body j [] → Held table a i j
       closed a i j body l (rule r m e) w =
-          let (k, lk, f) = book-member (q .rules) 0 (length (q .rules) / 18) r m in
+          let (k, lk, f) = book-member (q .rules) 0 (length (q .rules) / rule-width) r m in
           let head : head-of (q .rules) k ≡ a = ap (λ (r : Rule). r .head) (sym f) ∙ e in
           let walk : WalkTo (q .words) runs table i (words-of (q .rules) k) j = subst (λ (b : Body). Walk (Carried (body-of (q .words)) runs) (Held table) i b j []) (ap (λ (r : Rule). r .body) f) w in
           subst (λ (a : ℕ). Held table a i j) head (all .closed i (omega arith) l k (omega arith) j walk)

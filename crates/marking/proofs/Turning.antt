@@ -13,7 +13,7 @@ use borrow.Author.Count.{below-more}
 use borrow.Author.Tests.{eq-eqb, ne-eqb}
 use Rattle.steps.specs.State.{bit}
 use Rattle.steps.specs.Step.{Body}
-use Rattle.steps.specs.Words.{body-of, head-of, words-of}
+use Rattle.steps.specs.Words.{body-of, head-of, words-of, rule-width}
 use Rattle.steps.proofs.StateLaws.{no-bit}
 use Rattle.steps.proofs.Tables.{Walk, stands, walks, takes}
 use Rattle.marking.specs.Masks.{Carried, carries, Held, WalkTo, Lent, Wide, total, Grown, Walkable, NoCall, SoundMarks, ClosedRule, Fresh, Widened, Turned, Passed, Settled, AllSettled}
@@ -33,7 +33,7 @@ module _ (rules steps : List ℕ) (runs i : ℕ) (walkable : Walkable rules) (pl
     gains = λ ne. absurd (ne refl);
   }
 
-  module _ {gained r more : ℕ} {before table : List ℕ} (count : r < length rules / 18) (t : Turned rules steps runs i gained r before table more) where
+  module _ {gained r more : ℕ} {before table : List ℕ} (count : r < length rules / rule-width) (t : Turned rules steps runs i gained r before table more) where
     -- a rule that calls nothing that has gained
     pub turned-skip : gained ≢ 0 → NoCall (bitOr gained more) (words-of rules r) → Turned rules steps runs i gained (r + 1) before table more
     turned-skip ne none = record {
@@ -84,7 +84,7 @@ module _ (rules steps : List ℕ) (runs i : ℕ) (walkable : Walkable rules) (pl
           this none j walk =
               widened-found rules steps runs i walkable place r count lent w j (added-back rules steps runs i walkable place r count lent (w .added) (bitOr more (2 ^ head-of rules r)) r one none j walk)
 
-  pub turned-all : {gained r more : ℕ} {before table : List ℕ} → length rules / 18 ≤ r → Turned rules steps runs i gained r before table more → Passed rules steps runs i before table more
+  pub turned-all : {gained r more : ℕ} {before table : List ℕ} → length rules / rule-width ≤ r → Turned rules steps runs i gained r before table more → Passed rules steps runs i before table more
   turned-all {r = r} l t = record { grown = t .grown; sound = t .sound; fresh = λ k h. t .early k (omega arith); gains = t .gains }
 
   -- ---- passes at the place
@@ -143,7 +143,7 @@ module _ (rules steps : List ℕ) (runs : ℕ) where
       closed = λ i l m. closed i l m (ℕ-discrete i left);
     }
       where
-        closed : (i : ℕ) → left ≤ i → i ≤ runs → Dec (i ≡ left) → (r : ℕ) → r < length rules / 18 → ClosedRule rules steps runs i after r
+        closed : (i : ℕ) → left ≤ i → i ≤ runs → Dec (i ≡ left) → (r : ℕ) → r < length rules / rule-width → ClosedRule rules steps runs i after r
         closed i l m (yes z) r h = subst (λ (i : ℕ). ClosedRule rules steps runs i after r) (sym z) (settled .closed r h)
         closed i l m (no n) r h = λ j w.
             let (la, li, lj, e) = all .closed i (omega arith) m r h j (walk-above w (omega arith)) in

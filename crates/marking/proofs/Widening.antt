@@ -14,7 +14,7 @@ use lib.Seq.{getD-set-same, getD-set-other, set-getD}
 use borrow.Author.Tests.{eqb-true, eqb-false, not-true, not-false}
 use Rattle.steps.specs.State.{bit}
 use Rattle.steps.specs.Step.{Step, call, Body}
-use Rattle.steps.specs.Words.{is-call, step-of, body-of, head-of, words-of, rule-of, book-of}
+use Rattle.steps.specs.Words.{is-call, step-of, body-of, head-of, words-of, rule-of, book-of, rule-width}
 use Rattle.steps.proofs.Deductions.{RuleOf, rule}
 use Rattle.steps.proofs.Execution.{Runs, Ends}
 use Rattle.steps.proofs.Tables.{Walk, stands, walks, takes, walk-runs}
@@ -79,7 +79,7 @@ no-call-words m words none b h =
 
 module _ (rules steps : List ℕ) (runs i : ℕ) (walkable : Walkable rules) (place : i ≤ runs) where
   -- ---- places added to the word of a rule's head
-  module _ (r : ℕ) (count : r < length rules / 18) {mask : ℕ} {before after : List ℕ} {gained : Bool} (lent : Lent steps runs before)
+  module _ (r : ℕ) (count : r < length rules / rule-width) {mask : ℕ} {before after : List ℕ} {gained : Bool} (lent : Lent steps runs before)
       (added : Added rules i r mask before after gained) where
     low : (head-of rules r < 64) × (i < 64) × (word-at rules i r < length before)
     low = let h = walkable .heads r count in (h, omega (arith, lent .within, lent .few), omega (arith, lent .within, lent .few, lent .room))
@@ -161,7 +161,7 @@ module _ (rules steps : List ℕ) (runs i : ℕ) (walkable : Walkable rules) (pl
         omega (arith, ap total (added .put), total-set before (word-at rules i r) (bitOr (getD before (word-at rules i r) 0) mask) (low .2) (omega (arith, or-up (getD before (word-at rules i r) 0) mask, ne)))
 
   -- ---- the walk of one rule
-  module _ (r : ℕ) (count : r < length rules / 18) {before after : List ℕ} {gained : Bool} (lent : Lent steps runs before)
+  module _ (r : ℕ) (count : r < length rules / rule-width) {before after : List ℕ} {gained : Bool} (lent : Lent steps runs before)
       (wide : Widened rules steps runs i r before after gained) where
     -- where the rule comes to is held then
     pub widened-found : (j : ℕ) → WalkTo steps runs before i (words-of rules r) j → Held after (head-of rules r) i j

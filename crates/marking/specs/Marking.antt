@@ -6,6 +6,7 @@ use mathlib.Core.List.{List, [], _∷_, _++_}
 use mathlib.Core.Logic.{_↔_, _≢_}
 use lib.ListN.{getD, length, take, drop}
 use lib.Dec.{eqb, ltb}
+use Rattle.refusals.specs.Refusals as refusals
 use Rattle.steps.specs.State.{State, bit}
 use Rattle.steps.specs.Step.{Step, query, insert, delete, call, deny, Body, Book}
 use Rattle.steps.specs.Deduction.{Sequent, Move, queries, inserts, deletes, calls, denies, Deduction, done, move, Final}
@@ -28,7 +29,7 @@ module _ {book : Book} where
   steps-of done = []
   steps-of (move m d) = move-step m ++ steps-of d
 
--- "Some complete deduction of the body from D carries out those steps, in that order and no others."
+-- Some complete deduction of the body from D "carries out those steps, in that order and no others".
 abbrev pub CarriesOut : Book → State → Body → List Step → Type 0
 CarriesOut book D body steps = (D′ : State) × (d : Final book D body D′) × (steps-of d ≡ steps)
 
@@ -64,9 +65,9 @@ bad-record fluents actions words =
 unfoldable pub refusal : Question → (room : ℕ) → ℕ
 refusal q room =
     cond (eqb (refusal-of (q .fluents) (q .actions) (q .rules) (q .goal) (q .start)) 0)
-    (cond (ltb 63 (length (q .words))) 60
-    (cond (ltb room 4096) 61
-    (cond (bad-record (q .fluents) (q .actions) (q .words)) 62
+    (cond (ltb 63 (length (q .words))) refusals.long-record
+    (cond (ltb room 4096) refusals.marks-short
+    (cond (bad-record (q .fluents) (q .actions) (q .words)) refusals.bad-recorded-step
     0)))
     (refusal-of (q .fluents) (q .actions) (q .rules) (q .goal) (q .start))
 

@@ -10,7 +10,7 @@ use lib.Dec.{eqb}
 use lib.ListN.{getD, length, take, set}
 use Rattle.steps.specs.State.{State, bit}
 use Rattle.steps.specs.Step.{Step, query, call}
-use Rattle.steps.specs.Words.{is-call, body-of, head-of, count-of, words-of, book-of}
+use Rattle.steps.specs.Words.{is-call, body-of, head-of, count-of, words-of, book-of, rule-width}
 use Rattle.steps.specs.Elementary.{on, stuck, elementary}
 use Rattle.steps.proofs.Deductions.{RuleOf}
 use Rattle.steps.proofs.Execution.{Runs, Ends}
@@ -83,10 +83,10 @@ pub record Grown (i : ℕ) (before after : List ℕ) : Type 0 where
 
 -- Rules that can be walked: at most 256, heads below 64, at most 16 steps, good step words.
 pub record Walkable (rules : List ℕ) : Type 0 where
-  pub few : length rules / 18 ≤ 256
-  pub heads : (r : ℕ) → r < length rules / 18 → head-of rules r < 64
-  pub counts : (r : ℕ) → r < length rules / 18 → count-of rules r ≤ 16
-  pub good : (r : ℕ) → r < length rules / 18 → GoodWords (words-of rules r)
+  pub few : length rules / rule-width ≤ 256
+  pub heads : (r : ℕ) → r < length rules / rule-width → head-of rules r < 64
+  pub counts : (r : ℕ) → r < length rules / rule-width → count-of rules r ≤ 16
+  pub good : (r : ℕ) → r < length rules / rule-width → GoodWords (words-of rules r)
 
 -- The words call no action of the mask.
 abbrev pub NoCall : ℕ → List ℕ → Type 0
@@ -114,7 +114,7 @@ module _ (rules steps : List ℕ) (runs : ℕ) where
 
     -- No rule that calls no action of the mask adds anything.
     abbrev pub Fresh : ℕ → List ℕ → Type 0
-    Fresh m table = (r : ℕ) → r < length rules / 18 → NoCall m (words-of rules r) → ClosedRule table r
+    Fresh m table = (r : ℕ) → r < length rules / rule-width → NoCall m (words-of rules r) → ClosedRule table r
 
     -- Rule r has been walked, and the places to which it comes are added to its head's word; whether the word has gained.
     pub record Widened (r : ℕ) (before after : List ℕ) (gained : Bool) : Type 0 where
@@ -127,7 +127,7 @@ module _ (rules steps : List ℕ) (runs : ℕ) where
       pub grown : Grown i before table
       pub sound : SoundMarks before → SoundMarks table
       pub early : (k : ℕ) → k < r → NoCall more (words-of rules k) → ClosedRule table k
-      pub late : gained ≢ 0 → (k : ℕ) → r ≤ k → k < length rules / 18 → NoCall (bitOr gained more) (words-of rules k) → ClosedRule table k
+      pub late : gained ≢ 0 → (k : ℕ) → r ≤ k → k < length rules / rule-width → NoCall (bitOr gained more) (words-of rules k) → ClosedRule table k
       pub gains : more ≢ 0 → total before < total table
 
     -- A pass is over: what has gained in it.
@@ -141,7 +141,7 @@ module _ (rules steps : List ℕ) (runs : ℕ) where
     pub record Settled (before after : List ℕ) : Type 0 where
       pub grown : Grown i before after
       pub sound : SoundMarks before → SoundMarks after
-      pub closed : (r : ℕ) → r < length rules / 18 → ClosedRule after r
+      pub closed : (r : ℕ) → r < length rules / rule-width → ClosedRule after r
 
     -- An execution of the first p steps of rule r comes to each place of the mask.
     abbrev pub Came : (r p mask : ℕ) → Type 0
@@ -166,4 +166,4 @@ module _ (rules steps : List ℕ) (runs : ℕ) where
     pub size : length after ≡ length before
     pub past : (n : ℕ) → 4096 ≤ n → getD after n 0 ≡ getD before n 0
     pub sound : SoundMarks after
-    pub closed : (i : ℕ) → left ≤ i → i ≤ runs → (r : ℕ) → r < length rules / 18 → ClosedRule i after r
+    pub closed : (i : ℕ) → left ≤ i → i ≤ runs → (r : ℕ) → r < length rules / rule-width → ClosedRule i after r

@@ -2,14 +2,14 @@
 // calls of it looked at, from which only places that are new there are walked on. So a place is walked on once from a step. All that is added is
 // right; that nothing is missing is left to the passes, and they find nothing to add.
 use crate::masks;
-use bodies;
+use records::bodies;
 use steps::word;
 ghost use Prim.Native.Nat.{ℕ, _+_, _*_, _/_, _%_, _<_, _≤_};
 ghost use mathlib.Core.Path.{_≡_};
 ghost use lib.Bits.{bitOr};
 ghost use lib.ListN.{getD, length, set};
 ghost use Rattle.steps.specs.State.{bit};
-ghost use Rattle.steps.specs.Words.{head-of};
+ghost use Rattle.steps.specs.Words.{head-of, rule-width};
 ghost use Rattle.marking.specs.Masks.{GoodWord, Walkable, SoundMarks, Added, Grown, Lent, Came, Ready};
 
 // ---- the calls of each action: word 65 + n of `calls` has the number of the n-th, those of an action together, from word `action` up to the next
@@ -34,7 +34,7 @@ fn list_step(step: u16, number: usize, action: usize, listed: usize, calls: &mut
 }
 
 fn list_rule(rules: &[u16], r: usize, action: usize, from: usize, calls: &mut [u16]) -> usize
-    requires { ⌜ (r < length (now rules) / 18) × Walkable (now rules) × (from ≤ 4096) × (length (now calls) ≡ 4161) ⌝ }
+    requires { ⌜ (r < length (now rules) / rule-width) × Walkable (now rules) × (from ≤ 4096) × (length (now calls) ≡ 4161) ⌝ }
     ensures { λ n. ⌜ n ≤ 4096 ⌝ }
 {
     let body = bodies::rule_steps(rules, r);
@@ -51,7 +51,7 @@ fn list_action(rules: &[u16], action: usize, from: usize, calls: &mut [u16]) -> 
     requires { ⌜ Walkable (now rules) × (from ≤ 4096) × (length (now calls) ≡ 4161) ⌝ }
     ensures { λ n. ⌜ n ≤ 4096 ⌝ }
 {
-    let count = rules.len() / 18;
+    let count = rules.len() / steps::word::RULE_WORDS;
     let mut listed = from;
     let mut r = 0;
     while r < count {
@@ -79,15 +79,15 @@ pub(crate) fn list_calls(rules: &[u16], calls: &mut [u16])
 
 // The head of rule r.
 pub(crate) fn head(rules: &[u16], r: usize) -> usize
-    requires { ⌜ (r < length (now rules) / 18) × Walkable (now rules) ⌝ }
+    requires { ⌜ (r < length (now rules) / rule-width) × Walkable (now rules) ⌝ }
     ensures { λ a. ⌜ (a ≡ head-of (now (rules .entry)) r) × (a < 64) ⌝ }
 {
-    rules[18 * r] as usize
+    rules[steps::word::RULE_WORDS * r] as usize
 }
 
 // Adds the places of a mask to the word of rule r's head at a place. Says whether the word has gained one.
 pub(crate) fn add(rules: &[u16], r: usize, mask: u64, place: usize, table: &mut [u64]) -> bool
-    requires { ⌜ (r < length (now rules) / 18) × Walkable (now rules) × (place < 64) × (4096 ≤ length (now table)) ⌝ }
+    requires { ⌜ (r < length (now rules) / rule-width) × Walkable (now rules) × (place < 64) × (4096 ≤ length (now table)) ⌝ }
     ensures { λ b. ⌜ Added (now (rules .entry)) place r mask (now (table .entry)) (now (table .exit)) b ⌝ }
 {
     let at = 64 * head(rules, r) + place;
@@ -122,7 +122,7 @@ fn walk_on(
     table: &mut [u64],
     notes: &mut [u64],
 ) -> u64
-    requires { ⌜ Ready (now rules) (now recorded) runs place (now table) (now notes) × (r < length (now rules) / 18) × (from ≤ 16)
+    requires { ⌜ Ready (now rules) (now recorded) runs place (now table) (now notes) × (r < length (now rules) / rule-width) × (from ≤ 16)
         × Came (now rules) (now recorded) runs place r from found ⌝ }
     ensures { λ _. ⌜ Grown place (now (table .entry)) (now (table .exit))
         × Ready (now (rules .entry)) (now (recorded .entry)) runs place (now (table .exit)) (now (notes .exit)) ⌝ }
@@ -168,7 +168,7 @@ fn walk_behind(
         return 0;
     }
     let r = number / 17;
-    if rules.len() / 18 <= r {
+    if rules.len() / steps::word::RULE_WORDS <= r {
         return 0;
     }
     let body = bodies::rule_steps(rules, r);
@@ -226,7 +226,7 @@ fn walk_all(
     ensures { λ _. ⌜ Grown place (now (table .entry)) (now (table .exit))
         × Ready (now (rules .entry)) (now (recorded .entry)) runs place (now (table .exit)) (now (notes .exit)) ⌝ }
 {
-    let count = rules.len() / 18;
+    let count = rules.len() / steps::word::RULE_WORDS;
     let mut more: u64 = 0;
     let mut r = 0;
     while r < count {

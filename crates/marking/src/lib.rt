@@ -15,13 +15,6 @@ mod gains;
 mod masks;
 mod passes;
 
-// The refusals that are met here alone.
-pub const LONG_RECORD: u64 = 60;
-
-pub const MARKS_SHORT: u64 = 61;
-
-pub const BAD_RECORDED_STEP: u64 = 62;
-
 // What marking gives: its refusal or 0, and 1 for a yes, else 0.
 #[repr(C)]
 pub struct Marked {
@@ -77,13 +70,13 @@ fn record_refusal(
         return words;
     }
     if 63 < recorded.len() {
-        return LONG_RECORD;
+        return refusals::LONG_RECORD;
     }
     if room < 4096 {
-        return MARKS_SHORT;
+        return refusals::MARKS_SHORT;
     }
     if bad_record(fluents, actions, recorded) {
-        return BAD_RECORDED_STEP;
+        return refusals::BAD_RECORDED_STEP;
     }
     0
 }

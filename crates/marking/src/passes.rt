@@ -2,7 +2,7 @@
 // a place reads no word of an earlier one.
 use crate::gains;
 use crate::masks;
-use bodies;
+use records::bodies;
 use steps::word;
 ghost use Prim.Native.Nat.{ℕ, _+_, _*_, _/_, _%_, _<_, _≤_};
 ghost use mathlib.Core.Path.{_≡_};
@@ -12,9 +12,8 @@ ghost use mathlib.Core.Logic.{_≢_};
 ghost use lib.Bits.{bitOr};
 ghost use lib.ListN.{length};
 ghost use Rattle.steps.specs.State.{bit};
-ghost use Rattle.steps.specs.Words.{is-call};
-ghost use Rattle.marking.specs.Masks.{Lent, GoodWord, GoodWords, Walkable, NoCall, SoundMarks, Widened, Turned};
-ghost use Rattle.marking.specs.Masks.{Fresh, Passed, Settled, AllSettled};
+ghost use Rattle.steps.specs.Words.{is-call, rule-width};
+ghost use Rattle.marking.specs.Masks.{Lent, GoodWord, GoodWords, Walkable, NoCall, SoundMarks, Widened, Turned, Fresh, Passed, Settled, AllSettled};
 
 // Whether a step calls one of these actions.
 fn calls(step: u16, actions: u64) -> bool
@@ -54,7 +53,7 @@ fn widen(
     recorded: &[u16],
     table: &mut [u64],
 ) -> bool
-    requires { ⌜ Lent (now recorded) runs (now table) × (place ≤ runs) × (r < length (now rules) / 18) × Walkable (now rules) ⌝ }
+    requires { ⌜ Lent (now recorded) runs (now table) × (place ≤ runs) × (r < length (now rules) / rule-width) × Walkable (now rules) ⌝ }
     ensures { λ b. ⌜ Widened (now (rules .entry)) (now (recorded .entry)) runs place r (now (table .entry)) (now (table .exit)) b ⌝ }
 {
     let mask = masks::walk_mask(bodies::rule_steps(rules, r), place, runs, recorded, table);
@@ -73,7 +72,7 @@ fn turn(
     gained: u64,
     more: u64,
 ) -> u64
-    requires { ⌜ Lent (now recorded) runs (now table) × (place ≤ runs) × (r < length (now rules) / 18) × Walkable (now rules) ⌝ }
+    requires { ⌜ Lent (now recorded) runs (now table) × (place ≤ runs) × (r < length (now rules) / rule-width) × Walkable (now rules) ⌝ }
     ensures { λ m. ⌜ ((before : List ℕ) → Turned (now (rules .entry)) (now (recorded .entry)) runs place gained r before (now (table .entry)) more
         → Turned (now (rules .entry)) (now (recorded .entry)) runs place gained (r + 1) before (now (table .exit)) m) ⌝ }
 {
@@ -98,7 +97,7 @@ fn pass(
         × (gained ≢ 0 → Fresh (now rules) (now recorded) runs place gained (now table)) ⌝ }
     ensures { λ m. ⌜ Passed (now (rules .entry)) (now (recorded .entry)) runs place (now (table .entry)) (now (table .exit)) m ⌝ }
 {
-    let count = rules.len() / 18;
+    let count = rules.len() / steps::word::RULE_WORDS;
     let mut more: u64 = 0;
     let mut r = 0;
     while r < count {

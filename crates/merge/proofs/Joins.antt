@@ -7,12 +7,13 @@ use lib.ListN.{length}
 use lib.Dec.{ltb}
 use native.Mathlib.Omega.{arith}
 use borrow.Author.Tests.{ltb-false}
+use Rattle.refusals.specs.Refusals as refusals
 use Rattle.sheet.specs.Book.{Book}
-use Rattle.sheet.specs.Reader.{Outcome, readSheet, refused, written}
-use Rattle.writer.specs.Text.{textOf}
-use Rattle.merge.specs.Joined.{bothNames, bookOver, bothBooks, crossed, meets}
+use Rattle.sheet.specs.Reader.{Outcome, read-sheet, refused, written}
+use Rattle.writer.specs.Text.{text-of}
+use Rattle.merge.specs.Joined.{both-names, book-over, both-books, crossed, meets}
 use Rattle.merge.specs.Merge as merge
-use Rattle.merge.specs.Merge.{faulty, joins, mergeOf, judge, overfull}
+use Rattle.merge.specs.Merge.{faulty, joins, merge-of, judge, overfull}
 use Rattle.merge.proofs.Together.{or-first}
 
 pub not-joins : (k n l : ℕ) (a b : Book) → faulty k n l ≡ joins a b → ⊥
@@ -27,40 +28,40 @@ joins-second e = cc
 -- two books that the judge lets through
 pub record Fits (a b : Book) : Type 0 where
   pub apart : crossed (a .names) (b .names) ≡ false
-  pub room : overfull (bothBooks a b) ≡ false
-  pub short : length (textOf (bothBooks a b)) ≤ 65536
+  pub room : overfull (both-books a b) ≡ false
+  pub short : length (text-of (both-books a b)) ≤ 65536
 
 fits : (a b c d : Book) → judge a b ≡ joins c d → Fits a b
 unfolding judge
-fits a b c d = by (crossed (a .names) (b .names)) refl (overfull (bothBooks a b)) refl (ltb 65536 (length (textOf (bothBooks a b)))) refl
+fits a b c d = by (crossed (a .names) (b .names)) refl (overfull (both-books a b)) refl (ltb 65536 (length (text-of (both-books a b)))) refl
   where
-    by : (t : Bool) → crossed (a .names) (b .names) ≡ t → (u : Bool) → overfull (bothBooks a b) ≡ u → (v : Bool) → ltb 65536 (length (textOf (bothBooks a b))) ≡ v
-        → cond t (faulty 70 0 0) (cond u (faulty 17 0 0) (cond v (faulty 10 0 0) (joins a b))) ≡ joins c d → Fits a b
-    by true e u f v g h = absurd (not-joins 70 0 0 c d h)
-    by false e true f v g h = absurd (not-joins 17 0 0 c d h)
-    by false e false f true g h = absurd (not-joins 10 0 0 c d h)
-    by false e false f false g h = record { apart = e; room = f; short = ltb-false 65536 (length (textOf (bothBooks a b))) g }
+    by : (t : Bool) → crossed (a .names) (b .names) ≡ t → (u : Bool) → overfull (both-books a b) ≡ u → (v : Bool) → ltb 65536 (length (text-of (both-books a b))) ≡ v
+        → cond t (faulty refusals.both-kinds 0 0) (cond u (faulty refusals.too-many 0 0) (cond v (faulty refusals.too-long 0 0) (joins a b))) ≡ joins c d → Fits a b
+    by true e u f v g h = absurd (not-joins refusals.both-kinds 0 0 c d h)
+    by false e true f v g h = absurd (not-joins refusals.too-many 0 0 c d h)
+    by false e false f true g h = absurd (not-joins refusals.too-long 0 0 c d h)
+    by false e false f false g h = record { apart = e; room = f; short = ltb-false 65536 (length (text-of (both-books a b))) g }
 
 judged-same : (a b c d : Book) → judge a b ≡ joins c d → (a ≡ c) × (b ≡ d)
 unfolding judge
-judged-same a b c d = by (crossed (a .names) (b .names)) (overfull (bothBooks a b)) (ltb 65536 (length (textOf (bothBooks a b))))
+judged-same a b c d = by (crossed (a .names) (b .names)) (overfull (both-books a b)) (ltb 65536 (length (text-of (both-books a b))))
   where
-    by : (t u v : Bool) → cond t (faulty 70 0 0) (cond u (faulty 17 0 0) (cond v (faulty 10 0 0) (joins a b))) ≡ joins c d → (a ≡ c) × (b ≡ d)
-    by true u v h = absurd (not-joins 70 0 0 c d h)
-    by false true v h = absurd (not-joins 17 0 0 c d h)
-    by false false true h = absurd (not-joins 10 0 0 c d h)
+    by : (t u v : Bool) → cond t (faulty refusals.both-kinds 0 0) (cond u (faulty refusals.too-many 0 0) (cond v (faulty refusals.too-long 0 0) (joins a b))) ≡ joins c d → (a ≡ c) × (b ≡ d)
+    by true u v h = absurd (not-joins refusals.both-kinds 0 0 c d h)
+    by false true v h = absurd (not-joins refusals.too-many 0 0 c d h)
+    by false false true h = absurd (not-joins refusals.too-long 0 0 c d h)
     by false false false h = (joins-first h, joins-second h)
 
 pub record Joins (s t : List ℕ) (a b : Book) : Type 0 where
-  pub first : readSheet s ≡ written a
-  pub second : readSheet t ≡ written b
+  pub first : read-sheet s ≡ written a
+  pub second : read-sheet t ≡ written b
   pub fits : Fits a b
 
-pub joins-told : (s t : List ℕ) (a b : Book) → mergeOf s t ≡ joins a b → Joins s t a b
-unfolding mergeOf
-joins-told s t a b = by (readSheet s) refl
+pub joins-told : (s t : List ℕ) (a b : Book) → merge-of s t ≡ joins a b → Joins s t a b
+unfolding merge-of
+joins-told s t a b = by (read-sheet s) refl
   where
-    after : (c : Book) → readSheet s ≡ written c → (o : Outcome) → readSheet t ≡ o → elim o [ refused number line ↦ faulty number 2 line | written d ↦ judge c d ] ≡ joins a b → Joins s t a b
+    after : (c : Book) → read-sheet s ≡ written c → (o : Outcome) → read-sheet t ≡ o → elim o [ refused number line ↦ faulty number 2 line | written d ↦ judge c d ] ≡ joins a b → Joins s t a b
     after c e (refused k n) f h = absurd (not-joins k 2 n a b h)
     after c e (written d) f h =
         let (p, q) = judged-same c d a b h in
@@ -70,10 +71,10 @@ joins-told s t a b = by (readSheet s) refl
           fits = subst (λ (x : Book). Fits x b) p (subst (λ (x : Book). Fits c x) q (fits c d a b h));
         }
 
-    by : (o : Outcome) → readSheet s ≡ o
-        → elim o [ refused number line ↦ faulty number 1 line | written c ↦ elim (readSheet t) [ refused number line ↦ faulty number 2 line | written d ↦ judge c d ] ] ≡ joins a b → Joins s t a b
+    by : (o : Outcome) → read-sheet s ≡ o
+        → elim o [ refused number line ↦ faulty number 1 line | written c ↦ elim (read-sheet t) [ refused number line ↦ faulty number 2 line | written d ↦ judge c d ] ] ≡ joins a b → Joins s t a b
     by (refused k n) e h = absurd (not-joins k 1 n a b h)
-    by (written c) e h = after c e (readSheet t) refl h
+    by (written c) e h = after c e (read-sheet t) refl h
 
 -- the limits
 pub record Within (m : Book) : Type 0 where
@@ -90,12 +91,12 @@ within m h =
 -- two books whose names fit: no name of both kinds, and not too many
 pub record NamesFit (a b : Book) : Type 0 where
   pub apart : crossed (a .names) (b .names) ≡ false
-  pub few-fluents : length (bothNames (a .names) (b .names) .fluents) ≤ 64
-  pub few-actions : length (bothNames (a .names) (b .names) .actions) ≤ 64
+  pub few-fluents : length (both-names (a .names) (b .names) .fluents) ≤ 64
+  pub few-actions : length (both-names (a .names) (b .names) .actions) ≤ 64
 
 pub names-fit : (a b : Book) → Fits a b → NamesFit a b
-unfolding bookOver
-names-fit a b f = let w = within (bothBooks a b) (f .room) in record { apart = f .apart; few-fluents = w .few-fluents; few-actions = w .few-actions }
+unfolding book-over
+names-fit a b f = let w = within (both-books a b) (f .room) in record { apart = f .apart; few-fluents = w .few-fluents; few-actions = w .few-actions }
 
 pub uncrossed : (a b : Book) → crossed (a .names) (b .names) ≡ false → (meets (a .names .fluents) (b .names .actions) ≡ false) × (meets (a .names .actions) (b .names .fluents) ≡ false)
 unfolding crossed

@@ -15,18 +15,18 @@ use Rattle.steps.proofs.Lists.{at-member}
 use Rattle.chars.specs.Places.{place}
 use Rattle.sheet.specs.Book as sheet
 use Rattle.sheet.specs.Book.{joined}
-use Rattle.sheet.specs.Reader.{readSheet, written}
-use Rattle.sheet.specs.FluentName.{nameSpan}
+use Rattle.sheet.specs.Reader.{read-sheet, written}
+use Rattle.sheet.specs.FluentName.{name-span}
 use Rattle.sheet.proofs.FluentNames.{name-is}
-use Rattle.writer.specs.Text.{textOf, holding}
+use Rattle.writer.specs.Text.{text-of, holding}
 use Rattle.writer.proofs.NamesApart.{adds-place}
 use Rattle.writer.proofs.Undoing.{place-is}
 use Rattle.writer.proofs.ProperSheets.{sheet-proper}
 use Rattle.writer.proofs.Forward.{reads-proper}
 use Rattle.merge.specs.declared.Part.{Part}
-use Rattle.merge.specs.Joined.{together, bothNames, ruleIn, bookOver, bothBooks}
-use Rattle.merge.specs.Merge.{Outcome, faulty, joins, mergeOf}
-use Rattle.merge.specs.MergedName.{partIn, nonePart, broughtBy, mergedSpan, partOfTwo}
+use Rattle.merge.specs.Joined.{together, both-names, rule-in, book-over, both-books}
+use Rattle.merge.specs.Merge.{Outcome, faulty, joins, merge-of}
+use Rattle.merge.specs.MergedName.{part-in, none-part, brought-by, merged-span, part-of-two}
 use Rattle.merge.proofs.Together.{member-below, together-more, together-out, together-place}
 use Rattle.merge.proofs.Joins.{Joins, joins-told, within, names-fit}
 use Rattle.merge.proofs.ProperBoth.{fluents-first, both-named, both-proper}
@@ -40,22 +40,22 @@ EndOf b D = End (run-of (joined (b .rules)) (b .goal) (b .start)) D
 
 -- The merged text reads to the two books together.
 abbrev pub ReadsBack : Type 0
-ReadsBack = (s t : List ℕ) (a b : sheet.Book) → mergeOf s t ≡ joins a b → readSheet (textOf (bothBooks a b)) ≡ written (bothBooks a b)
+ReadsBack = (s t : List ℕ) (a b : sheet.Book) → merge-of s t ≡ joins a b → read-sheet (text-of (both-books a b)) ≡ written (both-books a b)
 
 -- "If the second start names nothing beyond the first's, every end of the first sheet is an end of the merged one."
 abbrev pub EndsKept : Type 0
-EndsKept = (s t : List ℕ) (a b : sheet.Book) → mergeOf s t ≡ joins a b
+EndsKept = (s t : List ℕ) (a b : sheet.Book) → merge-of s t ≡ joins a b
     → ((n : List ℕ) → List·Memᴰ n (holding 0 (b .start) (b .names .fluents)) → List·Memᴰ n (holding 0 (a .start) (a .names .fluents)))
-    → (D : State) → EndOf a D → EndOf (bothBooks a b) D
+    → (D : State) → EndOf a D → EndOf (both-books a b) D
 
 -- The part handed back is the merged fluent's name.
 abbrev pub NameIs : Type 0
-NameIs = (s t : List ℕ) (a b : sheet.Book) (k : ℕ) → mergeOf s t ≡ joins a b → k < length (bothBooks a b .names .fluents)
-    → partOfTwo s t (mergedSpan s t k) ≡ getD (bothBooks a b .names .fluents) k []
+NameIs = (s t : List ℕ) (a b : sheet.Book) (k : ℕ) → merge-of s t ≡ joins a b → k < length (both-books a b .names .fluents)
+    → part-of-two s t (merged-span s t k) ≡ getD (both-books a b .names .fluents) k []
 
 -- A sheet merged with itself is the book that it says.
 abbrev pub Itself : Type 0
-Itself = (s : List ℕ) (a : sheet.Book) → readSheet s ≡ written a → bothBooks a a ≡ a
+Itself = (s : List ℕ) (a : sheet.Book) → read-sheet s ≡ written a → both-books a a ≡ a
 
 pub itself : Itself
 itself s a e = with-itself a (sheet-proper s a e)
@@ -63,24 +63,24 @@ itself s a e = with-itself a (sheet-proper s a e)
 pub reads-back : ReadsBack
 reads-back s t a b e =
     let j = joins-told s t a b e in
-    reads-proper (bothBooks a b) (both-proper a b (sheet-proper s a (j .first)) (sheet-proper t b (j .second)) (names-fit a b (j .fits)) (within (bothBooks a b) (j .fits .room) .few-rules)) (j .fits .short)
+    reads-proper (both-books a b) (both-proper a b (sheet-proper s a (j .first)) (sheet-proper t b (j .second)) (names-fit a b (j .fits)) (within (both-books a b) (j .fits .room) .few-rules)) (j .fits .short)
 
 pub ends-kept : EndsKept
-unfolding bookOver
+unfolding book-over
 ends-kept s t a b e h D d =
     let j = joins-told s t a b e in
     let p = sheet-proper s a (j .first) in
-    let st : bothBooks a b .start ≡ a .start = start-kept (a .names .fluents) (b .names .fluents) (a .start) (b .start) (fluents-first (a .names) (p .named)) h in
-    let (more, f) = together-more (a .rules) (map (ruleIn (bothNames (a .names) (b .names)) (b .names)) (b .rules)) in
+    let st : both-books a b .start ≡ a .start = start-kept (a .names .fluents) (b .names .fluents) (a .start) (b .start) (fluents-first (a .names) (p .named)) h in
+    let (more, f) = together-more (a .rules) (map (rule-in (both-names (a .names) (b .names)) (b .names)) (b .rules)) in
     let x = deduction-more (rules-kept (length (a .names .fluents)) (length (a .names .actions)) (a .rules) more (p .valid .rules)) d in
-    subst⁻¹ (λ (z : State). End (run-of (joined (bothBooks a b .rules)) (a .goal) z) D) st (subst⁻¹ (λ (rs : List (List ℕ)). End (run-of (joined rs) (a .goal) (a .start)) D) f x)
+    subst⁻¹ (λ (z : State). End (run-of (joined (both-books a b .rules)) (a .goal) z) D) st (subst⁻¹ (λ (rs : List (List ℕ)). End (run-of (joined rs) (a .goal) (a .start)) D) f x)
 
-module _ (s t : List ℕ) (a b : sheet.Book) (k : ℕ) (e : mergeOf s t ≡ joins a b) (l : k < length (bothBooks a b .names .fluents)) where
-  span-is : mergedSpan s t k ≡ broughtBy s t k a b
-  unfolding mergedSpan
+module _ (s t : List ℕ) (a b : sheet.Book) (k : ℕ) (e : merge-of s t ≡ joins a b) (l : k < length (both-books a b .names .fluents)) where
+  span-is : merged-span s t k ≡ brought-by s t k a b
+  unfolding merged-span
   span-is =
-      ap (λ (o : Outcome). elim o [ faulty number sheet line ↦ nonePart | joins a b ↦ cond (ltb k (length (bothBooks a b .names .fluents))) (broughtBy s t k a b) nonePart ]) e
-      ∙ ap (λ (v : Bool). cond v (broughtBy s t k a b) nonePart) (lt-ltb k (length (bothBooks a b .names .fluents)) l)
+      ap (λ (o : Outcome). elim o [ faulty number sheet line ↦ none-part | joins a b ↦ cond (ltb k (length (both-books a b .names .fluents))) (brought-by s t k a b) none-part ]) e
+      ∙ ap (λ (v : Bool). cond v (brought-by s t k a b) none-part) (lt-ltb k (length (both-books a b .names .fluents)) l)
 
   abbrev j : Joins s t a b
   j = joins-told s t a b e
@@ -98,18 +98,18 @@ module _ (s t : List ℕ) (a b : sheet.Book) (k : ℕ) (e : mergeOf s t ≡ join
       by (inr m) = m
       by (inl m) =
           let named = both-named a b (sheet-proper s a (j .first)) (sheet-proper t b (j .second)) (names-fit a b (j .fits)) in
-          let here = adds-place [] (together (a .names .fluents) (b .names .fluents)) (fluents-first (bothNames (a .names) (b .names)) named) k u in
+          let here = adds-place [] (together (a .names .fluents) (b .names .fluents)) (fluents-first (both-names (a .names) (b .names)) named) k u in
           let there = together-place name (a .names .fluents) (b .names .fluents) m in
           let low = member-below name (a .names .fluents) m in
           absurd (omega arith)
 
   brought : k < length (together (a .names .fluents) (b .names .fluents)) → (v : Bool) → ltb k (length (a .names .fluents)) ≡ v
-      → partOfTwo s t (cond v (partIn 1 (nameSpan s k)) (partIn 2 (nameSpan t (place name (b .names .fluents))))) ≡ name
+      → part-of-two s t (cond v (part-in 1 (name-span s k)) (part-in 2 (name-span t (place name (b .names .fluents))))) ≡ name
   brought u true h = let low = ltb-true k (length (a .names .fluents)) h in name-is s a k (j .first) low ∙ of-first low
   brought u false h =
       let low = member-below name (b .names .fluents) (of-second u (ltb-false k (length (a .names .fluents)) h)) in
       name-is t b (place name (b .names .fluents)) (j .second) low ∙ place-is name (b .names .fluents) low
 
 pub name-told : NameIs
-unfolding bookOver
-name-told s t a b k e l = ap (partOfTwo s t) (span-is s t a b k e l) ∙ brought s t a b k e l l (ltb k (length (a .names .fluents))) refl
+unfolding book-over
+name-told s t a b k e l = ap (part-of-two s t) (span-is s t a b k e l) ∙ brought s t a b k e l l (ltb k (length (a .names .fluents))) refl

@@ -10,7 +10,7 @@ use Rattle.chars.specs.Pieces.{lines}
 use Rattle.merge.specs.declared.Word.{Word}
 use Rattle.merge.specs.declared.Layout.{Layout}
 use Rattle.merge.specs.Joined.{together}
-use Rattle.merge.specs.Inner.{Inside, Grows, partsFrom, section, fresh, news, wrapped, startParts, textParts, Holds, Adds, Few, Laid}
+use Rattle.merge.specs.Inner.{Inside, Grows, parts-from, section, fresh, news, wrapped, start-parts, text-parts, Holds, Adds, Few, Laid}
 use Rattle.merge.proofs.PartLists.{grows-none, grows-as, grows-then, grows-range}
 use Rattle.merge.proofs.News.{together-news}
 use Rattle.merge.proofs.Turns.{fresh-size}
@@ -37,21 +37,21 @@ module _ (cut : ℕ) (u : List ℕ) where
       }
 
   module _ (l l₁ l₂ l₃ : List ℕ) (w : Word) (A B : List (List ℕ)) (G₁ : Grows cut u l (w .lo) l₁ (w .own) B) (G₂ : Grows cut u l₁ (w .own) l₂ (w .new) A) where
-    pub their-parts : partsFrom u l₂ (w .lo) (w .own - w .lo) ≡ B
+    pub their-parts : parts-from u l₂ (w .lo) (w .own - w .lo) ≡ B
     their-parts =
         let a = G₁ .longer in
         let e : w .own - w .lo ≡ length B = omega arith in
-        ap (partsFrom u l₂ (w .lo)) e ∙ G₂ .kept (w .lo) (length B) (omega arith) ∙ G₁ .new
+        ap (parts-from u l₂ (w .lo)) e ∙ G₂ .kept (w .lo) (length B) (omega arith) ∙ G₁ .new
 
-    pub our-parts : partsFrom u l₂ (w .own) (w .new - w .own) ≡ A
+    pub our-parts : parts-from u l₂ (w .own) (w .new - w .own) ≡ A
     our-parts =
         let a = G₂ .longer in
         let e : w .new - w .own ≡ length A = omega arith in
-        ap (partsFrom u l₂ (w .own)) e ∙ G₂ .new
+        ap (parts-from u l₂ (w .own)) e ∙ G₂ .new
 
-    pub laid-word : Grows cut u l₂ (w .new) l₃ (w .end) (news (partsFrom u l₂ (w .own) (w .new - w .own)) (partsFrom u l₂ (w .lo) (w .own - w .lo))) → Adds cut u l (w .lo) l₃ w A B
+    pub laid-word : Grows cut u l₂ (w .new) l₃ (w .end) (news (parts-from u l₂ (w .own) (w .new - w .own)) (parts-from u l₂ (w .lo) (w .own - w .lo))) → Adds cut u l (w .lo) l₃ w A B
     laid-word G =
-        let G₃ = grows-as cut u l₂ l₃ (w .new) (w .end) _ _ (ap (λ (x : List (List ℕ)). news x (partsFrom u l₂ (w .lo) (w .own - w .lo))) our-parts ∙ ap (news A) their-parts) G in
+        let G₃ = grows-as cut u l₂ l₃ (w .new) (w .end) _ _ (ap (λ (x : List (List ℕ)). news x (parts-from u l₂ (w .lo) (w .own - w .lo))) our-parts ∙ ap (news A) their-parts) G in
         let a = G₁ .longer in
         let b = G₂ .longer in
         let c = G₃ .longer in
@@ -105,13 +105,13 @@ module _ (s t l₀ l₁ l₂ l₃ l₄ : List ℕ) (f c r : Word) (end : ℕ) wh
         fluents = holds-kept k u l₃ l₄ (r .end) end _ f _ _ (omega arith) G (holds-kept k u l₂ l₃ (c .end) (r .end) _ f _ _ (omega arith) (R .grows) (holds-kept k u l₁ l₂ (f .end) (c .end) _ f _ _ (omega arith) (C .grows) (F .holds)));
         actions = holds-kept k u l₃ l₄ (r .end) end _ c _ _ (omega arith) G (holds-kept k u l₂ l₃ (c .end) (r .end) _ c _ _ (omega arith) (R .grows) (C .holds));
         rules = holds-kept k u l₃ l₄ (r .end) end _ r _ _ (omega arith) G (R .holds);
-        goal = ap (partsFrom u l₄ (r .end)) g ∙ G .new;
+        goal = ap (parts-from u l₄ (r .end)) g ∙ G .new;
         inside = G .inside (R .grows .inside (C .grows .inside (F .grows .inside i)));
         order = (omega arith, omega arith, omega arith, omega arith);
       }
 
 -- ---- the text's size
-pub text-length : (F C R H G : List (List ℕ)) → length (textParts F C R H G)
+pub text-length : (F C R H G : List (List ℕ)) → length (text-parts F C R H G)
     ≡ length (wrapped (text "fluent") (LF ∷ []) F) + (length (wrapped (text "action") (LF ∷ []) C) + (length (wrapped (text "rule") (LF ∷ []) R) + ((6 + length (wrapped [] [] H)) + length (wrapped (text "goal") (LF ∷ []) G))))
 text-length F C R H G =
     let f = wrapped (text "fluent") (LF ∷ []) F in
@@ -119,10 +119,10 @@ text-length F C R H G =
     let r = wrapped (text "rule") (LF ∷ []) R in
     let h = wrapped [] [] H in
     let g = wrapped (text "goal") (LF ∷ []) G in
-    let a = length-append f (c ++ (r ++ (startParts H ++ g))) in
-    let b = length-append c (r ++ (startParts H ++ g)) in
-    let d = length-append r (startParts H ++ g) in
-    let e = length-append (startParts H) g in
+    let a = length-append f (c ++ (r ++ (start-parts H ++ g))) in
+    let b = length-append c (r ++ (start-parts H ++ g)) in
+    let d = length-append r (start-parts H ++ g) in
+    let e = length-append (start-parts H) g in
     let i = length-append (text "start" ++ h) (LF ∷ []) in
     let j = length-append (text "start") h in
     omega arith

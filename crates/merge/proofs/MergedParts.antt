@@ -14,26 +14,26 @@ use Rattle.steps.specs.Acceptance.{good-step}
 use Rattle.steps.proofs.EachBelow.{both}
 use Rattle.steps.proofs.Lists.{at-member, member-at}
 use Rattle.chars.specs.Bytes.{text, LF}
-use Rattle.chars.specs.Places.{same, place, placeAfter, among}
-use Rattle.sheet.specs.Book.{Symbols, Book, ruleWords, joined}
-use Rattle.sheet.specs.Field.{marks, namesOf}
+use Rattle.chars.specs.Places.{same, place, place-after, among}
+use Rattle.sheet.specs.Book.{Symbols, Book, rule-words, joined}
+use Rattle.sheet.specs.Field.{marks, names-of}
 use Rattle.sheet.specs.Verdict.{accept}
-use Rattle.sheet.specs.Line.{line}
+use Rattle.sheet.specs.Line.{Reading, line}
 use Rattle.sheet.proofs.Verdicts.{same-value}
 use Rattle.sheet.proofs.Valid.{GoodSteps, GoodRule, rule-more}
-use Rattle.writer.specs.Text.{tabbed, lineText, stepText, ruleFields, holding, textOf}
+use Rattle.writer.specs.Text.{tabbed, line-text, step-text, rule-fields, holding, text-of}
 use Rattle.writer.proofs.StepsBack.{Named, names-count}
 use Rattle.writer.proofs.NamesApart.{Adds, adds-named}
 use Rattle.writer.proofs.Undoing.{place-is}
 use Rattle.writer.proofs.LinesBack.{rule-back}
-use Rattle.writer.proofs.TextLines.{ruleLine}
+use Rattle.writer.proofs.TextLines.{rule-line}
 use Rattle.writer.proofs.Proper.{Proper}
-use Rattle.merge.specs.Joined.{together, bothNames, stepIn, ruleIn, startIn, bookOver, bothBooks}
-use Rattle.merge.specs.Inner.{insertedIn, wrapped, textParts}
-use Rattle.merge.proofs.Together.{withOne, among-member, member-among, not-member, no-member, member-below, together-more, together-right}
+use Rattle.merge.specs.Joined.{together, both-names, step-in, rule-in, start-in, book-over, both-books}
+use Rattle.merge.specs.Inner.{inserted-in, wrapped, text-parts}
+use Rattle.merge.proofs.Together.{with-one, among-member, member-among, not-member, no-member, member-below, together-more, together-right}
 use Rattle.merge.proofs.Joins.{NamesFit}
-use Rattle.merge.proofs.ProperBoth.{fluents-first, actions-alone, both-named, place-of, in-kind, low, rule-words, member-good}
-use Rattle.merge.proofs.SheetParts.{tab, ruleTail}
+use Rattle.merge.proofs.ProperBoth.{fluents-first, actions-alone, both-named, place-of, in-kind, low, rule-in-words, member-good}
+use Rattle.merge.proofs.SheetParts.{tab, rule-tail}
 
 -- ---- lists together under a map that keeps members apart
 module _ (f : List ℕ → List ℕ) where
@@ -59,14 +59,14 @@ module _ (f : List ℕ → List ℕ) where
         by false e =
             not-member (f y) (map f xs) (λ m. let (x, k, i) = out-of (f y) xs m in no-member y xs e (subst⁻¹ (λ (z : List ℕ). List·Memᴰ z xs) (apart y x p (h x k) i) k)) ∙ sym e
 
-    map-one : (y : List ℕ) (xs : List (List ℕ)) → P y → ((x : List ℕ) → List·Memᴰ x xs → P x) → map f (withOne xs y) ≡ withOne (map f xs) (f y)
+    map-one : (y : List ℕ) (xs : List (List ℕ)) → P y → ((x : List ℕ) → List·Memᴰ x xs → P x) → map f (with-one xs y) ≡ with-one (map f xs) (f y)
     map-one y xs p h = by (among y xs) ∙ ap (λ (v : Bool). cond v (map f xs) (map f xs ++ (f y ∷ []))) (sym (among-map y xs p h))
       where
         by : (v : Bool) → map f (cond v xs (xs ++ (y ∷ []))) ≡ cond v (map f xs) (map f xs ++ (f y ∷ []))
         by true = refl
         by false = map-snoc xs y
 
-    still : (y : List ℕ) (xs : List (List ℕ)) → P y → ((x : List ℕ) → List·Memᴰ x xs → P x) → (x : List ℕ) → List·Memᴰ x (withOne xs y) → P x
+    still : (y : List ℕ) (xs : List (List ℕ)) → P y → ((x : List ℕ) → List·Memᴰ x xs → P x) → (x : List ℕ) → List·Memᴰ x (with-one xs y) → P x
     still y xs p h x = by (among y xs)
       where
         either : List·Memᴰ x xs ⊎ List·Memᴰ x (y ∷ []) → P x
@@ -82,7 +82,7 @@ module _ (f : List ℕ → List ℕ) where
     map-together xs [] h k = refl
     map-together xs (y ∷ ys) h k =
         let p = k y (List·Memᴰ·head refl) in
-        map-together (withOne xs y) ys (still y xs p h) (λ x m. k x (List·Memᴰ·tail m)) ∙ ap (λ (l : List (List ℕ)). together l (map f ys)) (map-one y xs p h)
+        map-together (with-one xs y) ys (still y xs p h) (λ x m. k x (List·Memᴰ·tail m)) ∙ ap (λ (l : List (List ℕ)). together l (map f ys)) (map-one y xs p h)
 
 -- ---- names behind tabs
 pub tabs-together : (xs ys : List (List ℕ)) → map tab (together xs ys) ≡ together (map tab xs) (map tab ys)
@@ -91,7 +91,7 @@ tabs-together xs ys = map-together tab (λ _. Unit {0}) (λ x y p q e. ap (drop 
 pub place-tab : (n : List ℕ) (ns : List (List ℕ)) → place (tab n) (map tab ns) ≡ place n ns
 unfolding place same
 place-tab n [] = refl
-place-tab n (m ∷ ns) = ap (placeAfter (same n m)) (place-tab n ns)
+place-tab n (m ∷ ns) = ap (place-after (same n m)) (place-tab n ns)
 
 pub held-tabs : (k : ℕ) (st : State) (ns : List (List ℕ)) → holding k st (map tab ns) ≡ map tab (holding k st ns)
 unfolding holding
@@ -104,11 +104,11 @@ held-tabs k st (n ∷ ns) = by (held-tabs (suc k) st ns) (holds st k)
 
 -- the start, by the code's form
 pub start-tabs : (all : List (List ℕ)) → length all ≤ 64 → (k : ℕ) (s : State) (ns : List (List ℕ)) (to : State) → ((n : List ℕ) → List·Memᴰ n ns → List·Memᴰ n all)
-    → insertedIn (map tab all) k s (map tab ns) to ≡ startIn all k s ns to
-unfolding insertedIn startIn
+    → inserted-in (map tab all) k s (map tab ns) to ≡ start-in all k s ns to
+unfolding inserted-in start-in
 start-tabs all l k s [] to h = refl
 start-tabs all l k s (n ∷ ns) to h =
-    ap (λ (x : State). insertedIn (map tab all) (suc k) s (map tab ns) (cond (holds s k) x to)) one ∙ start-tabs all l (suc k) s ns (cond (holds s k) (added to (place n all)) to) (λ x m. h x (List·Memᴰ·tail m))
+    ap (λ (x : State). inserted-in (map tab all) (suc k) s (map tab ns) (cond (holds s k) x to)) one ∙ start-tabs all l (suc k) s ns (cond (holds s k) (added to (place n all)) to) (λ x m. h x (List·Memᴰ·tail m))
   where
     one : inserted to (place (tab n) (map tab all)) ≡ added to (place n all)
     one =
@@ -118,22 +118,22 @@ start-tabs all l k s (n ∷ ns) to h =
 -- ---- rules
 -- equal lines of good rules are of equal rules
 module _ (y : Symbols) (fluents : Named (y .fluents)) (actions : Named (y .actions)) where
-  abbrev blank : Book
-  blank = record { stage = 2; names = y; rules = []; started = false; start = 0; goal = [] }
+  abbrev blank : Reading
+  blank = record { book = record { names = y; rules = []; start = 0; goal = [] }; stage = 2; started = false }
 
-  read-one : (r : List ℕ) → GoodRule (length (y .fluents)) (length (y .actions)) r → line blank (ruleLine y r) ≡ accept (record { stage = 2; names = y; rules = r ∷ []; started = false; start = 0; goal = [] })
+  read-one : (r : List ℕ) → GoodRule (length (y .fluents)) (length (y .actions)) r → line blank (rule-line y r) ≡ accept (record { book = record { names = y; rules = r ∷ []; start = 0; goal = [] }; stage = 2; started = false })
   read-one r g =
-      ap (λ (r : List ℕ). line blank (ruleLine y r)) (g .is)
+      ap (λ (r : List ℕ). line blank (rule-line y r)) (g .is)
       ∙ rule-back y fluents actions blank refl (g .head) (g .steps) (omega arith) (omega arith) (g .action) (g .good)
-      ∙ ap (λ (r : List ℕ). accept (record { stage = 2; names = y; rules = r ∷ []; started = false; start = 0; goal = [] })) (sym (g .is))
+      ∙ ap (λ (r : List ℕ). accept (record { book = record { names = y; rules = r ∷ []; start = 0; goal = [] }; stage = 2; started = false })) (sym (g .is))
 
-  pub rules-apart : (r t : List ℕ) → GoodRule (length (y .fluents)) (length (y .actions)) r → GoodRule (length (y .fluents)) (length (y .actions)) t → ruleTail y r ≡ ruleTail y t → r ≡ t
+  pub rules-apart : (r t : List ℕ) → GoodRule (length (y .fluents)) (length (y .actions)) r → GoodRule (length (y .fluents)) (length (y .actions)) t → rule-tail y r ≡ rule-tail y t → r ≡ t
   rules-apart r t g h e =
-      ap (λ (b : Book). getD (b .rules) 0 []) (same-value (sym (read-one r g) ∙ ap (λ (x : List ℕ). line blank (text "rule" ++ x)) e ∙ read-one t h))
+      ap (λ (b : Reading). getD (b .book .rules) 0 []) (same-value (sym (read-one r g) ∙ ap (λ (x : List ℕ). line blank (text "rule" ++ x)) e ∙ read-one t h))
 
 -- a rule's fields, from its words
-rule-fields : (y : Symbols) (head : ℕ) (steps : List ℕ) → ruleFields y (ruleWords head steps) ≡ getD (y .actions) head [] ∷ map (stepText y) steps
-rule-fields y head steps = ap (λ (ws : List ℕ). getD (y .actions) head [] ∷ map (stepText y) ws) (take-append-seam steps _)
+rule-fields-are : (y : Symbols) (head : ℕ) (steps : List ℕ) → rule-fields y (rule-words head steps) ≡ getD (y .actions) head [] ∷ map (step-text y) steps
+rule-fields-are y head steps = ap (λ (ws : List ℕ). getD (y .actions) head [] ∷ map (step-text y) ws) (take-append-seam steps _)
 
 -- a name of the first list
 name-kept : (xs ys : List (List ℕ)) (k : ℕ) → k < length xs → getD (together xs ys) k [] ≡ getD xs k []
@@ -149,7 +149,7 @@ map-twice f h (x ∷ xs) = ap (λ (l : List (List ℕ)). f (h x) ∷ l) (map-twi
 
 module _ (a b : Book) (p : Proper a) (q : Proper b) (f : NamesFit a b) where
   abbrev m : Symbols
-  m = bothNames (a .names) (b .names)
+  m = both-names (a .names) (b .names)
 
   named-fluents : Named (m .fluents)
   named-fluents = adds-named [] (m .fluents) (fluents-first m (both-named a b p q f))
@@ -158,7 +158,7 @@ module _ (a b : Book) (p : Proper a) (q : Proper b) (f : NamesFit a b) where
   named-actions = adds-named [] (m .actions) (actions-alone m (both-named a b p q f))
 
   -- ---- the first's steps and rules
-  step-first : (w : ℕ) → good-step (length (a .names .fluents)) (length (a .names .actions)) w ≡ true → stepText m w ≡ stepText (a .names) w
+  step-first : (w : ℕ) → good-step (length (a .names .fluents)) (length (a .names .actions)) w ≡ true → step-text m w ≡ step-text (a .names) w
   unfolding good-step
   step-first w g =
       let (k, i) = both (ltb (w / 256) 5) (ltb (w % 256) (cond (eqb (w / 256) 3) (length (a .names .actions)) (length (a .names .fluents)))) g in
@@ -168,64 +168,64 @@ module _ (a b : Book) (p : Proper a) (q : Proper b) (f : NamesFit a b) where
       by true l = name-kept (a .names .actions) (b .names .actions) (w % 256) l
       by false l = name-kept (a .names .fluents) (b .names .fluents) (w % 256) l
 
-  steps-first : (ws : List ℕ) → ((i : ℕ) → i < length ws → good-step (length (a .names .fluents)) (length (a .names .actions)) (getD ws i 0) ≡ true) → map (stepText m) ws ≡ map (stepText (a .names)) ws
+  steps-first : (ws : List ℕ) → ((i : ℕ) → i < length ws → good-step (length (a .names .fluents)) (length (a .names .actions)) (getD ws i 0) ≡ true) → map (step-text m) ws ≡ map (step-text (a .names)) ws
   steps-first [] h = refl
-  steps-first (w ∷ ws) h = ap (λ (z : List ℕ). z ∷ map (stepText m) ws) (step-first w (h 0 (omega arith))) ∙ ap (λ (l : List (List ℕ)). stepText (a .names) w ∷ l) (steps-first ws (λ i l. h (suc i) (omega arith)))
+  steps-first (w ∷ ws) h = ap (λ (z : List ℕ). z ∷ map (step-text m) ws) (step-first w (h 0 (omega arith))) ∙ ap (λ (l : List (List ℕ)). step-text (a .names) w ∷ l) (steps-first ws (λ i l. h (suc i) (omega arith)))
 
-  rule-first : (r : List ℕ) → GoodRule (length (a .names .fluents)) (length (a .names .actions)) r → ruleTail m r ≡ ruleTail (a .names) r
+  rule-first : (r : List ℕ) → GoodRule (length (a .names .fluents)) (length (a .names .actions)) r → rule-tail m r ≡ rule-tail (a .names) r
   rule-first r g =
-      ap (ruleTail m) (g .is) ∙ ap tabbed (rule-fields m (g .head) (g .steps))
-      ∙ ap (λ (n : List ℕ). tabbed (n ∷ map (stepText m) (g .steps))) (name-kept (a .names .actions) (b .names .actions) (g .head) (g .action))
+      ap (rule-tail m) (g .is) ∙ ap tabbed (rule-fields-are m (g .head) (g .steps))
+      ∙ ap (λ (n : List ℕ). tabbed (n ∷ map (step-text m) (g .steps))) (name-kept (a .names .actions) (b .names .actions) (g .head) (g .action))
       ∙ ap (λ (l : List (List ℕ)). tabbed (getD (a .names .actions) (g .head) [] ∷ l)) (steps-first (g .steps) (g .good .each))
-      ∙ ap tabbed (sym (rule-fields (a .names) (g .head) (g .steps))) ∙ ap (ruleTail (a .names)) (sym (g .is))
+      ∙ ap tabbed (sym (rule-fields-are (a .names) (g .head) (g .steps))) ∙ ap (rule-tail (a .names)) (sym (g .is))
 
   -- ---- the second's
-  step-second : (w : ℕ) → good-step (length (b .names .fluents)) (length (b .names .actions)) w ≡ true → stepText m (stepIn m (b .names) w) ≡ stepText (b .names) w
+  step-second : (w : ℕ) → good-step (length (b .names .fluents)) (length (b .names .actions)) w ≡ true → step-text m (step-in m (b .names) w) ≡ step-text (b .names) w
   unfolding good-step
   step-second w g =
       let (k, i) = both (ltb (w / 256) 5) (ltb (w % 256) (cond (eqb (w / 256) 3) (length (b .names .actions)) (length (b .names .fluents)))) g in
-      let name = getD (namesOf (b .names) (w / 256)) (w % 256) [] in
-      let j = place name (namesOf m (w / 256)) in
+      let name = getD (names-of (b .names) (w / 256)) (w % 256) [] in
+      let j = place name (names-of m (w / 256)) in
       let c : ℕ = cond (eqb (w / 256) 3) (length (m .actions)) (length (m .fluents)) in
       let l : j < c = in-kind a b p q f (w / 256) (w % 256) (ltb-true (w % 256) _ i) in
       let u : c ≤ 64 = low a b p q f (eqb (w / 256) 3) in
-      let n : c ≡ length (namesOf m (w / 256)) = names-count m named-fluents named-actions (w / 256) in
+      let n : c ≡ length (names-of m (w / 256)) = names-count m named-fluents named-actions (w / 256) in
       let d : (256 * (w / 256) + j) / 256 ≡ w / 256 = omega arith in
       let e : (256 * (w / 256) + j) % 256 ≡ j = omega arith in
-      rw (d, e) (ap (λ (x : List ℕ). getD marks (w / 256) 0 ∷ x) (place-is name (namesOf m (w / 256)) (omega arith)))
+      rw (d, e) (ap (λ (x : List ℕ). getD marks (w / 256) 0 ∷ x) (place-is name (names-of m (w / 256)) (omega arith)))
 
-  steps-second : (ws : List ℕ) → ((i : ℕ) → i < length ws → good-step (length (b .names .fluents)) (length (b .names .actions)) (getD ws i 0) ≡ true) → map (stepText m) (map (stepIn m (b .names)) ws) ≡ map (stepText (b .names)) ws
+  steps-second : (ws : List ℕ) → ((i : ℕ) → i < length ws → good-step (length (b .names .fluents)) (length (b .names .actions)) (getD ws i 0) ≡ true) → map (step-text m) (map (step-in m (b .names)) ws) ≡ map (step-text (b .names)) ws
   steps-second [] h = refl
   steps-second (w ∷ ws) h =
-      ap (λ (z : List ℕ). z ∷ map (stepText m) (map (stepIn m (b .names)) ws)) (step-second w (h 0 (omega arith)))
-      ∙ ap (λ (l : List (List ℕ)). stepText (b .names) w ∷ l) (steps-second ws (λ i l. h (suc i) (omega arith)))
+      ap (λ (z : List ℕ). z ∷ map (step-text m) (map (step-in m (b .names)) ws)) (step-second w (h 0 (omega arith)))
+      ∙ ap (λ (l : List (List ℕ)). step-text (b .names) w ∷ l) (steps-second ws (λ i l. h (suc i) (omega arith)))
 
-  rule-second : (r : List ℕ) → GoodRule (length (b .names .fluents)) (length (b .names .actions)) r → ruleTail m (ruleIn m (b .names) r) ≡ ruleTail (b .names) r
+  rule-second : (r : List ℕ) → GoodRule (length (b .names .fluents)) (length (b .names .actions)) r → rule-tail m (rule-in m (b .names) r) ≡ rule-tail (b .names) r
   rule-second r g =
       let name = getD (b .names .actions) (g .head) [] in
-      let ws = map (stepIn m (b .names)) (g .steps) in
-      ap (ruleTail m) (rule-words m (b .names) (length (b .names .fluents)) (length (b .names .actions)) r g) ∙ ap tabbed (rule-fields m (place name (m .actions)) ws)
-      ∙ ap (λ (n : List ℕ). tabbed (n ∷ map (stepText m) ws)) (place-is name (m .actions) (place-of a b p q f (g .head) (a .names .actions) (b .names .actions) (g .action)))
+      let ws = map (step-in m (b .names)) (g .steps) in
+      ap (rule-tail m) (rule-in-words m (b .names) (length (b .names .fluents)) (length (b .names .actions)) r g) ∙ ap tabbed (rule-fields-are m (place name (m .actions)) ws)
+      ∙ ap (λ (n : List ℕ). tabbed (n ∷ map (step-text m) ws)) (place-is name (m .actions) (place-of a b p q f (g .head) (a .names .actions) (b .names .actions) (g .action)))
       ∙ ap (λ (l : List (List ℕ)). tabbed (name ∷ l)) (steps-second (g .steps) (g .good .each))
-      ∙ ap tabbed (sym (rule-fields (b .names) (g .head) (g .steps))) ∙ ap (ruleTail (b .names)) (sym (g .is))
+      ∙ ap tabbed (sym (rule-fields-are (b .names) (g .head) (g .steps))) ∙ ap (rule-tail (b .names)) (sym (g .is))
 
-  pub rules-together : map (ruleTail m) (bothBooks a b .rules) ≡ together (map (ruleTail (a .names)) (a .rules)) (map (ruleTail (b .names)) (b .rules))
-  unfolding bookOver
+  pub rules-together : map (rule-tail m) (both-books a b .rules) ≡ together (map (rule-tail (a .names)) (a .rules)) (map (rule-tail (b .names)) (b .rules))
+  unfolding book-over
   rules-together =
-      map-together (ruleTail m) (GoodRule (length (m .fluents)) (length (m .actions))) (rules-apart m named-fluents named-actions) (a .rules) (map (ruleIn m (b .names)) (b .rules))
+      map-together (rule-tail m) (GoodRule (length (m .fluents)) (length (m .actions))) (rules-apart m named-fluents named-actions) (a .rules) (map (rule-in m (b .names)) (b .rules))
       (λ r i. member-good a b p q f r (inl i)) (λ r i. member-good a b p q f r (inr i))
-      ∙ ap (λ (x : List (List ℕ)). together x (map (ruleTail m) (map (ruleIn m (b .names)) (b .rules)))) (map-each (ruleTail m) (ruleTail (a .names)) (a .rules) (λ i l. rule-first (getD (a .rules) i []) (p .valid .rules i l)))
-      ∙ ap (together (map (ruleTail (a .names)) (a .rules))) (map-twice (ruleTail m) (ruleIn m (b .names)) (b .rules) ∙ map-each (λ r. ruleTail m (ruleIn m (b .names) r)) (ruleTail (b .names)) (b .rules) (λ i l. rule-second (getD (b .rules) i []) (q .valid .rules i l)))
+      ∙ ap (λ (x : List (List ℕ)). together x (map (rule-tail m) (map (rule-in m (b .names)) (b .rules)))) (map-each (rule-tail m) (rule-tail (a .names)) (a .rules) (λ i l. rule-first (getD (a .rules) i []) (p .valid .rules i l)))
+      ∙ ap (together (map (rule-tail (a .names)) (a .rules))) (map-twice (rule-tail m) (rule-in m (b .names)) (b .rules) ∙ map-each (λ r. rule-tail m (rule-in m (b .names) r)) (rule-tail (b .names)) (b .rules) (λ i l. rule-second (getD (b .rules) i []) (q .valid .rules i l)))
 
-  pub goal-first : map (stepText m) (a .goal) ≡ map (stepText (a .names)) (a .goal)
+  pub goal-first : map (step-text m) (a .goal) ≡ map (step-text (a .names)) (a .goal)
   goal-first = steps-first (a .goal) (p .valid .goal .each)
 
 -- ---- the text, part by part
-lines-wrapped : (w : List ℕ) (g : List ℕ → List (List ℕ)) (h : List ℕ → List ℕ) → ((x : List ℕ) → tabbed (g x) ≡ h x) → (xs : List (List ℕ)) → joined (map (λ x. lineText w (g x)) xs) ≡ wrapped w (LF ∷ []) (map h xs)
+lines-wrapped : (w : List ℕ) (g : List ℕ → List (List ℕ)) (h : List ℕ → List ℕ) → ((x : List ℕ) → tabbed (g x) ≡ h x) → (xs : List (List ℕ)) → joined (map (λ x. line-text w (g x)) xs) ≡ wrapped w (LF ∷ []) (map h xs)
 unfolding wrapped
 lines-wrapped w g h e [] = refl
 lines-wrapped w g h e (x ∷ xs) =
-    ap (λ (l : List ℕ). l ++ joined (map (λ x. lineText w (g x)) xs)) (ap (λ (t : List ℕ). w ++ (t ++ (LF ∷ []))) (e x) ∙ sym (append-assoc w (h x) (LF ∷ [])))
+    ap (λ (l : List ℕ). l ++ joined (map (λ x. line-text w (g x)) xs)) (ap (λ (t : List ℕ). w ++ (t ++ (LF ∷ []))) (e x) ∙ sym (append-assoc w (h x) (LF ∷ [])))
     ∙ ap (λ (l : List ℕ). ((w ++ h x) ++ (LF ∷ [])) ++ l) (lines-wrapped w g h e xs)
 
 bare-wrapped : (ns : List (List ℕ)) → wrapped [] [] (map tab ns) ≡ tabbed ns
@@ -237,13 +237,13 @@ one-wrapped : (w t : List ℕ) → w ++ (t ++ (LF ∷ [])) ≡ wrapped w (LF ∷
 unfolding wrapped
 one-wrapped w t = sym (append-nil ((w ++ t) ++ (LF ∷ [])) ∙ append-assoc w t (LF ∷ []))
 
-pub text-parts : (b : Book) → textOf b ≡ textParts (map tab (b .names .fluents)) (map tab (b .names .actions)) (map (ruleTail (b .names)) (b .rules)) (map tab (holding 0 (b .start) (b .names .fluents))) (tabbed (map (stepText (b .names)) (b .goal)) ∷ [])
-unfolding textOf
-text-parts b =
+pub text-of-parts : (b : Book) → text-of b ≡ text-parts (map tab (b .names .fluents)) (map tab (b .names .actions)) (map (rule-tail (b .names)) (b .rules)) (map tab (holding 0 (b .start) (b .names .fluents))) (tabbed (map (step-text (b .names)) (b .goal)) ∷ [])
+unfolding text-of
+text-of-parts b =
     let h = holding 0 (b .start) (b .names .fluents) in
     let i = lines-wrapped (text "fluent") (λ n. n ∷ []) tab (λ n. append-nil (tab n)) (b .names .fluents) in
     let j = lines-wrapped (text "action") (λ n. n ∷ []) tab (λ n. append-nil (tab n)) (b .names .actions) in
-    let k = lines-wrapped (text "rule") (ruleFields (b .names)) (ruleTail (b .names)) (λ r. refl) (b .rules) in
-    let s : lineText (text "start") h ≡ (text "start" ++ wrapped [] [] (map tab h)) ++ (LF ∷ []) = sym (append-assoc (text "start") (tabbed h) (LF ∷ [])) ∙ ap (λ (l : List ℕ). (text "start" ++ l) ++ (LF ∷ [])) (sym (bare-wrapped h)) in
-    let g = one-wrapped (text "goal") (tabbed (map (stepText (b .names)) (b .goal))) in
+    let k = lines-wrapped (text "rule") (rule-fields (b .names)) (rule-tail (b .names)) (λ r. refl) (b .rules) in
+    let s : line-text (text "start") h ≡ (text "start" ++ wrapped [] [] (map tab h)) ++ (LF ∷ []) = sym (append-assoc (text "start") (tabbed h) (LF ∷ [])) ∙ ap (λ (l : List ℕ). (text "start" ++ l) ++ (LF ∷ [])) (sym (bare-wrapped h)) in
+    let g = one-wrapped (text "goal") (tabbed (map (step-text (b .names)) (b .goal))) in
     cc

@@ -10,30 +10,30 @@ use Rattle.chars.specs.Places.{place}
 use Rattle.sheet.specs.Book.{Book}
 use Rattle.sheet.proofs.FluentNames.{span-within}
 use Rattle.merge.specs.declared.Part.{Part}
-use Rattle.merge.specs.Joined.{bothBooks}
-use Rattle.merge.specs.Merge.{Outcome, faulty, joins, mergeOf}
-use Rattle.sheet.specs.FluentName.{nameSpan}
-use Rattle.merge.specs.MergedName.{partIn, nonePart, broughtBy, mergedSpan}
+use Rattle.merge.specs.Joined.{both-books}
+use Rattle.merge.specs.Merge.{Outcome, faulty, joins, merge-of}
+use Rattle.sheet.specs.FluentName.{name-span}
+use Rattle.merge.specs.MergedName.{part-in, none-part, brought-by, merged-span}
 
 module _ (s t : List ℕ) (k : ℕ) where
   abbrev In : Part → Type 0
   In p = p .at + p .len ≤ length (cond (eqb (p .sheet) 2) t s)
 
-  brought-in : (a b : Book) → In (broughtBy s t k a b)
+  brought-in : (a b : Book) → In (brought-by s t k a b)
   brought-in a b = by (ltb k (length (a .names .fluents)))
     where
-      by : (v : Bool) → In (cond v (partIn 1 (nameSpan s k)) (partIn 2 (nameSpan t (place (getD (bothBooks a b .names .fluents) k []) (b .names .fluents)))))
+      by : (v : Bool) → In (cond v (part-in 1 (name-span s k)) (part-in 2 (name-span t (place (getD (both-books a b .names .fluents) k []) (b .names .fluents)))))
       by true = span-within s k
-      by false = span-within t (place (getD (bothBooks a b .names .fluents) k []) (b .names .fluents))
+      by false = span-within t (place (getD (both-books a b .names .fluents) k []) (b .names .fluents))
 
-  pub part-within : In (mergedSpan s t k)
-  unfolding mergedSpan
-  part-within = by (mergeOf s t)
+  pub part-within : In (merged-span s t k)
+  unfolding merged-span
+  part-within = by (merge-of s t)
     where
-      there : (a b : Book) (v : Bool) → In (cond v (broughtBy s t k a b) nonePart)
+      there : (a b : Book) (v : Bool) → In (cond v (brought-by s t k a b) none-part)
       there a b true = brought-in a b
       there a b false = omega arith
 
-      by : (o : Outcome) → In (elim o [ faulty number sheet line ↦ nonePart | joins a b ↦ cond (ltb k (length (bothBooks a b .names .fluents))) (broughtBy s t k a b) nonePart ])
+      by : (o : Outcome) → In (elim o [ faulty number sheet line ↦ none-part | joins a b ↦ cond (ltb k (length (both-books a b .names .fluents))) (brought-by s t k a b) none-part ])
       by (faulty n h l) = omega arith
-      by (joins a b) = there a b (ltb k (length (bothBooks a b .names .fluents)))
+      by (joins a b) = there a b (ltb k (length (both-books a b .names .fluents)))

@@ -6,11 +6,11 @@ use mathlib.Core.List.{List, [], _∷_, _++_, append-assoc, append-nil, List·Me
 use lib.ListN.{length, getD, drop, length-append}
 use lib.Seq.{drop-append-add, drop-append-le}
 use Rattle.steps.specs.Step.{Rule, Book}
-use Rattle.steps.specs.Words.{rule-of, rules-from, book-of, body-of}
+use Rattle.steps.specs.Words.{rule-of, rules-from, book-of, body-of, rule-width}
 use Rattle.steps.specs.Deduction.{Sequent, Move, queries, inserts, deletes, calls, denies, Deduction, done, move}
 use Rattle.steps.proofs.Lists.{at-member}
 use Rattle.steps.proofs.WordLaws.{book-length, book-at, book-member}
-use Rattle.sheet.specs.Book.{joined, ruleWords}
+use Rattle.sheet.specs.Book.{joined, rule-words}
 use Rattle.sheet.proofs.Valid.{GoodRule}
 use Rattle.sheet.proofs.Acceptance.{padded-length}
 use Rattle.sheet.proofs.Decoding.{rule-at}
@@ -32,10 +32,10 @@ abbrev pub AllGood : ℕ → ℕ → List (List ℕ) → Type 0
 AllGood f a rs = (r : ℕ) → r < length rs → GoodRule f a (getD rs r [])
 
 module _ (f a : ℕ) where
-  good-length : (r : List ℕ) → GoodRule f a r → length r ≡ 18
+  good-length : (r : List ℕ) → GoodRule f a r → length r ≡ rule-width
   good-length r g = ap length (g .is) ∙ ap (λ (n : ℕ). suc (suc n)) (padded-length (g .steps) (g .good .few))
 
-  pub rules-length : (rs : List (List ℕ)) → AllGood f a rs → length (joined rs) ≡ 18 * length rs
+  pub rules-length : (rs : List (List ℕ)) → AllGood f a rs → length (joined rs) ≡ rule-width * length rs
   rules-length [] h = refl
   rules-length (r ∷ rs) h =
       let n = length-append r (joined rs) in
@@ -44,14 +44,14 @@ module _ (f a : ℕ) where
       omega arith
 
   -- the words from rule r on
-  words-from : (rs : List (List ℕ)) → AllGood f a rs → (after : List ℕ) (r : ℕ) → r < length rs → (rest : List ℕ) × (drop (18 * r) (joined rs ++ after) ≡ getD rs r [] ++ rest)
+  words-from : (rs : List (List ℕ)) → AllGood f a rs → (after : List ℕ) (r : ℕ) → r < length rs → (rest : List ℕ) × (drop (rule-width * r) (joined rs ++ after) ≡ getD rs r [] ++ rest)
   words-from [] h after r l = absurd (omega arith)
   words-from (x ∷ rs) h after zero l = (joined rs ++ after, append-assoc x (joined rs) after)
   words-from (x ∷ rs) h after (suc r) l =
       let k = good-length x (h 0 (omega arith)) in
       let (rest, e) = words-from rs (λ j l. h (suc j) (omega arith)) after r (omega arith) in
-      let n : 18 * suc r ≡ length x + 18 * r = omega arith in
-      (rest, ap (λ (i : ℕ). drop i ((x ++ joined rs) ++ after)) n ∙ ap (drop (length x + 18 * r)) (append-assoc x (joined rs) after) ∙ drop-append-add x (joined rs ++ after) (18 * r) ∙ e)
+      let n : rule-width * suc r ≡ length x + rule-width * r = omega arith in
+      (rest, ap (λ (i : ℕ). drop i ((x ++ joined rs) ++ after)) n ∙ ap (drop (length x + rule-width * r)) (append-assoc x (joined rs) after) ∙ drop-append-add x (joined rs ++ after) (rule-width * r) ∙ e)
 
   -- rule r, whatever follows
   rule-there : (rs : List (List ℕ)) (h : AllGood f a rs) (after : List ℕ) (r : ℕ) (l : r < length rs) → rule-of (joined rs ++ after) r ≡ record { head = h r l .head; body = body-of (h r l .steps) }
@@ -73,9 +73,9 @@ module _ (f a : ℕ) where
     pub rules-kept : (r : Rule) → List·Memᴰ r (book-of (joined rs)) → List·Memᴰ r (book-of (joined (rs ++ more)))
     rules-kept r m =
         let n = rules-length rs h in
-        let (i, l, e) = book-member (joined rs) 0 (length (joined rs) / 18) r m in
+        let (i, l, e) = book-member (joined rs) 0 (length (joined rs) / rule-width) r m in
         let k = ap length (joined-append rs more) ∙ length-append (joined rs) (joined more) in
-        let z = book-length (joined (rs ++ more)) 0 (length (joined (rs ++ more)) / 18) in
-        let low : i < length (joined (rs ++ more)) / 18 = omega arith in
-        let at = book-at (joined (rs ++ more)) 0 (length (joined (rs ++ more)) / 18) i r low in
+        let z = book-length (joined (rs ++ more)) 0 (length (joined (rs ++ more)) / rule-width) in
+        let low : i < length (joined (rs ++ more)) / rule-width = omega arith in
+        let at = book-at (joined (rs ++ more)) 0 (length (joined (rs ++ more)) / rule-width) i r low in
         subst (λ (x : Rule). List·Memᴰ x (book-of (joined (rs ++ more)))) (at ∙ ap (rule-of (joined (rs ++ more))) (omega arith) ∙ sym (e ∙ rule-kept i (omega arith))) (at-member (book-of (joined (rs ++ more))) i r (omega arith))

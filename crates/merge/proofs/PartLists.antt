@@ -11,34 +11,34 @@ use lib.ListN.{length, getD, set, length-set, length-append}
 use lib.Seq.{slice, getD-set-same, getD-set-other}
 use Rattle.chars.specs.Places.{same, place}
 use Rattle.sheet.proofs.NamePlaces.{place-hit, place-miss}
-use Rattle.merge.specs.Inner.{Lies, At, Inside, Grows, partAt, partsFrom}
+use Rattle.merge.specs.Inner.{Lies, At, Inside, Grows, part-at, parts-from}
 
 module _ (u list : List ℕ) where
   -- the parts from k up to hi, by the first of them
-  pub parts-first : (k hi : ℕ) → k < hi → partsFrom u list k (hi - k) ≡ partAt u list k ∷ partsFrom u list (k + 1) (hi - (k + 1))
-  unfolding partsFrom
+  pub parts-first : (k hi : ℕ) → k < hi → parts-from u list k (hi - k) ≡ part-at u list k ∷ parts-from u list (k + 1) (hi - (k + 1))
+  unfolding parts-from
   parts-first k hi h =
       let e : hi - k ≡ suc (hi - (k + 1)) = omega arith in
-      ap (partsFrom u list k) e ∙ ap (λ (x : ℕ). partAt u list k ∷ partsFrom u list x (hi - (k + 1))) (sym (add-one k))
+      ap (parts-from u list k) e ∙ ap (λ (x : ℕ). part-at u list k ∷ parts-from u list x (hi - (k + 1))) (sym (add-one k))
 
-  pub parts-none : (k hi : ℕ) → hi ≤ k → partsFrom u list k (hi - k) ≡ []
-  unfolding partsFrom
+  pub parts-none : (k hi : ℕ) → hi ≤ k → parts-from u list k (hi - k) ≡ []
+  unfolding parts-from
   parts-none k hi h =
       let e : hi - k ≡ 0 = omega arith in
-      ap (partsFrom u list k) e
+      ap (parts-from u list k) e
 
-  pub parts-nil : (k : ℕ) → partsFrom u list k 0 ≡ []
-  unfolding partsFrom
+  pub parts-nil : (k : ℕ) → parts-from u list k 0 ≡ []
+  unfolding parts-from
   parts-nil k = refl
 
-  pub parts-length : (lo n : ℕ) → length (partsFrom u list lo n) ≡ n
-  unfolding partsFrom
+  pub parts-length : (lo n : ℕ) → length (parts-from u list lo n) ≡ n
+  unfolding parts-from
   parts-length lo zero = refl
   parts-length lo (suc n) = ap suc (parts-length (suc lo) n)
 
   -- the parts of two neighbouring ranges
-  pub parts-append : (lo n m : ℕ) → partsFrom u list lo n ++ partsFrom u list (lo + n) m ≡ partsFrom u list lo (n + m)
-  unfolding partsFrom
+  pub parts-append : (lo n m : ℕ) → parts-from u list lo n ++ parts-from u list (lo + n) m ≡ parts-from u list lo (n + m)
+  unfolding parts-from
   parts-append lo zero m =
       let e : lo + 0 ≡ lo = omega arith in
       let f : 0 + m ≡ m = omega arith in
@@ -46,29 +46,29 @@ module _ (u list : List ℕ) where
   parts-append lo (suc n) m =
       let e : lo + suc n ≡ suc lo + n = omega arith in
       let f : suc n + m ≡ suc (n + m) = omega arith in
-      rw (e, f) (ap (λ (l : List (List ℕ)). partAt u list lo ∷ l) (parts-append (suc lo) n m))
+      rw (e, f) (ap (λ (l : List (List ℕ)). part-at u list lo ∷ l) (parts-append (suc lo) n m))
 
-  pub part-getD : (lo n i : ℕ) → i < n → getD (partsFrom u list lo n) i [] ≡ partAt u list (lo + i)
-  unfolding partsFrom
+  pub part-getD : (lo n i : ℕ) → i < n → getD (parts-from u list lo n) i [] ≡ part-at u list (lo + i)
+  unfolding parts-from
   part-getD lo zero i h = absurd (omega arith)
-  part-getD lo (suc n) zero h = ap (partAt u list) (omega arith)
-  part-getD lo (suc n) (suc i) h = part-getD (suc lo) n i (omega arith) ∙ ap (partAt u list) (omega arith)
+  part-getD lo (suc n) zero h = ap (part-at u list) (omega arith)
+  part-getD lo (suc n) (suc i) h = part-getD (suc lo) n i (omega arith) ∙ ap (part-at u list) (omega arith)
 
   module _ (f : List ℕ) (k hi : ℕ) where
-    pub found : k < hi → same f (partAt u list k) ≡ true → k + place f (partsFrom u list k (hi - k)) ≡ k
+    pub found : k < hi → same f (part-at u list k) ≡ true → k + place f (parts-from u list k (hi - k)) ≡ k
     found h e =
         let a = ap (place f) (parts-first k hi h) in
-        let b = place-hit f (partAt u list k) (partsFrom u list (k + 1) (hi - (k + 1))) e in
+        let b = place-hit f (part-at u list k) (parts-from u list (k + 1) (hi - (k + 1))) e in
         omega (arith, a ∙ b)
 
-    pub passed : k < hi → same f (partAt u list k) ≡ false
-        → k + place f (partsFrom u list k (hi - k)) ≡ k + 1 + place f (partsFrom u list (k + 1) (hi - (k + 1)))
+    pub passed : k < hi → same f (part-at u list k) ≡ false
+        → k + place f (parts-from u list k (hi - k)) ≡ k + 1 + place f (parts-from u list (k + 1) (hi - (k + 1)))
     passed h e =
         let a = ap (place f) (parts-first k hi h) in
-        let b = place-miss f (partAt u list k) (partsFrom u list (k + 1) (hi - (k + 1))) e in
+        let b = place-miss f (part-at u list k) (parts-from u list (k + 1) (hi - (k + 1))) e in
         omega (arith, a ∙ b)
 
-    pub nowhere : hi ≤ k → k + place f (partsFrom u list k (hi - k)) ≡ k
+    pub nowhere : hi ≤ k → k + place f (parts-from u list k (hi - k)) ≡ k
     unfolding place
     nowhere h = let a = ap (place f) (parts-none k hi h) in omega (arith, a)
 
@@ -94,14 +94,14 @@ module _ (u list : List ℕ) where
         let c : i ≢ 2 * k = omega arith in
         getD-set-other (set list (2 * k) a) (2 * k + 1) i e 0 d ∙ getD-set-other list (2 * k) i a 0 c
 
-    part-there : (k : ℕ) → 2 * k + 1 < length list → partAt u (with k) k ≡ slice a e u
+    part-there : (k : ℕ) → 2 * k + 1 < length list → part-at u (with k) k ≡ slice a e u
     part-there k h = ap (λ (x : ℕ). slice x (getD (with k) (2 * k + 1) 0) u) (with-start k h) ∙ ap (λ (x : ℕ). slice a x u) (with-end k h)
 
-    part-other : (k i : ℕ) → i < k → partAt u (with k) i ≡ partAt u list i
+    part-other : (k i : ℕ) → i < k → part-at u (with k) i ≡ part-at u list i
     part-other k i h = ap (λ (x : ℕ). slice x (getD (with k) (2 * i + 1) 0) u) (with-other k (2 * i) (omega arith)) ∙ ap (λ (x : ℕ). slice (getD list (2 * i) 0) x u) (with-other k (2 * i + 1) (omega arith))
 
-    parts-other : (k lo n : ℕ) → lo + n ≤ k → partsFrom u (with k) lo n ≡ partsFrom u list lo n
-    unfolding partsFrom
+    parts-other : (k lo n : ℕ) → lo + n ≤ k → parts-from u (with k) lo n ≡ parts-from u list lo n
+    unfolding parts-from
     parts-other k lo zero h = refl
     parts-other k lo (suc n) h = rw (part-other k lo (omega arith), parts-other k (suc lo) n (omega arith)) refl
 
@@ -116,7 +116,7 @@ module _ (u list : List ℕ) where
         record { room = omega arith; lies = rw (z, with-start k h, with-end k h) l }
 
     pub grows-with : (cut k : ℕ) → 2 * (k + 1) ≤ length list → Lies cut (length u) a e → Grows cut u list k (with k) (k + 1) (slice a e u ∷ [])
-    unfolding partsFrom
+    unfolding parts-from
     grows-with cut k h l = record {
       longer = omega arith;
       kept = λ lo n q. parts-other k lo n q;
@@ -127,7 +127,7 @@ module _ (u list : List ℕ) where
 -- ---- lists that grow
 module _ (cut : ℕ) (u : List ℕ) where
   pub grows-none : (l : List ℕ) (n : ℕ) → Grows cut u l n l n []
-  unfolding partsFrom
+  unfolding parts-from
   grows-none l n = record { longer = omega arith; kept = λ k m h. refl; new = refl; inside = λ g. g }
 
   pub grows-as : (l l′ : List ℕ) (n r : ℕ) (x y : List (List ℕ)) → x ≡ y → Grows cut u l n l′ r x → Grows cut u l n l′ r y
@@ -142,27 +142,27 @@ module _ (cut : ℕ) (u : List ℕ) where
         longer = omega arith;
         kept = λ k m i. h .kept k m (omega arith) ∙ g .kept k m i;
         new =
-            ap (partsFrom u l″ n) c ∙ sym (parts-append u l″ n (length x) (length y))
-            ∙ ap (λ (z : List (List ℕ)). z ++ partsFrom u l″ (n + length x) (length y)) (h .kept n (length x) (omega arith) ∙ g .new)
-            ∙ ap (λ (k : ℕ). x ++ partsFrom u l″ k (length y)) (sym a)
+            ap (parts-from u l″ n) c ∙ sym (parts-append u l″ n (length x) (length y))
+            ∙ ap (λ (z : List (List ℕ)). z ++ parts-from u l″ (n + length x) (length y)) (h .kept n (length x) (omega arith) ∙ g .new)
+            ∙ ap (λ (k : ℕ). x ++ parts-from u l″ k (length y)) (sym a)
             ∙ ap (λ (z : List (List ℕ)). x ++ z) (h .new);
         inside = λ i. h .inside (g .inside i);
       }
 
   -- a range that ends where the parts ended, with what came behind
-  pub grows-range : (l l′ : List ℕ) (n r base : ℕ) (x : List (List ℕ)) → base ≤ n → Grows cut u l n l′ r x → partsFrom u l′ base (r - base) ≡ partsFrom u l base (n - base) ++ x
+  pub grows-range : (l l′ : List ℕ) (n r base : ℕ) (x : List (List ℕ)) → base ≤ n → Grows cut u l n l′ r x → parts-from u l′ base (r - base) ≡ parts-from u l base (n - base) ++ x
   grows-range l l′ n r base x b g =
       let a = g .longer in
       let e : r - base ≡ (n - base) + length x = omega arith in
       let f : base + (n - base) ≡ n = omega arith in
-      ap (partsFrom u l′ base) e ∙ sym (parts-append u l′ base (n - base) (length x))
-      ∙ ap (λ (z : List (List ℕ)). z ++ partsFrom u l′ (base + (n - base)) (length x)) (g .kept base (n - base) (omega arith))
-      ∙ ap (λ (k : ℕ). partsFrom u l base (n - base) ++ partsFrom u l′ k (length x)) f
-      ∙ ap (λ (z : List (List ℕ)). partsFrom u l base (n - base) ++ z) (g .new)
+      ap (parts-from u l′ base) e ∙ sym (parts-append u l′ base (n - base) (length x))
+      ∙ ap (λ (z : List (List ℕ)). z ++ parts-from u l′ (base + (n - base)) (length x)) (g .kept base (n - base) (omega arith))
+      ∙ ap (λ (k : ℕ). parts-from u l base (n - base) ++ parts-from u l′ k (length x)) f
+      ∙ ap (λ (z : List (List ℕ)). parts-from u l base (n - base) ++ z) (g .new)
 
   -- a part below stays
-  pub grows-part : (l l′ : List ℕ) (n r i : ℕ) (x : List (List ℕ)) → i < n → Grows cut u l n l′ r x → partAt u l′ i ≡ partAt u l i
-  unfolding partsFrom
+  pub grows-part : (l l′ : List ℕ) (n r i : ℕ) (x : List (List ℕ)) → i < n → Grows cut u l n l′ r x → part-at u l′ i ≡ part-at u l i
+  unfolding parts-from
   grows-part l l′ n r i x h g = ap (λ (z : List (List ℕ)). getD z 0 []) (g .kept i 1 (omega arith))
 
   pub grows-longer : (l l′ : List ℕ) (n r : ℕ) (x : List (List ℕ)) → Grows cut u l n l′ r x → n ≤ r

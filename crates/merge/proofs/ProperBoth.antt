@@ -16,20 +16,20 @@ use Rattle.steps.specs.Acceptance.{good-step}
 use Rattle.steps.proofs.EachBelow.{both}
 use Rattle.steps.proofs.StateLaws.{room, not-held}
 use Rattle.steps.proofs.Lists.{at-member, member-at}
-use Rattle.chars.specs.Bytes.{isName}
+use Rattle.chars.specs.Bytes.{is-name}
 use Rattle.chars.specs.Places.{place, among}
-use Rattle.sheet.specs.Book.{Book, Symbols, padded, ruleWords}
-use Rattle.sheet.specs.Field.{namesOf}
+use Rattle.sheet.specs.Book.{Book, Symbols, padded, rule-words}
+use Rattle.sheet.specs.Field.{names-of}
 use Rattle.sheet.proofs.Valid.{Valid, GoodSteps, GoodRule, steps-more, rule-more}
 use Rattle.writer.proofs.NamesApart.{Adds, first-part, second-part, fewer}
 use Rattle.writer.proofs.Proper.{Proper}
-use Rattle.merge.specs.Joined.{together, bothNames, stepIn, ruleIn, startIn, bookOver, bothBooks}
+use Rattle.merge.specs.Joined.{together, both-names, step-in, rule-in, start-in, book-over, both-books}
 use Rattle.merge.proofs.Together.{member-below, no-member, together-left, together-right, together-out, together-longer, never-meets, adds-member, adds-behind, adds-join, together-adds}
 use Rattle.merge.proofs.Joins.{NamesFit, uncrossed}
 
 -- the words of a rule, its names' numbers taken from other names
-pub rule-words : (m z : Symbols) (f a : ℕ) (r : List ℕ) (g : GoodRule f a r) → ruleIn m z r ≡ ruleWords (place (getD (z .actions) (g .head) []) (m .actions)) (map (stepIn m z) (g .steps))
-rule-words m z f a r g = ap (ruleIn m z) (g .is) ∙ ap (λ (l : List ℕ). ruleWords (place (getD (z .actions) (g .head) []) (m .actions)) (map (stepIn m z) l)) (take-append-seam (g .steps) _)
+pub rule-in-words : (m z : Symbols) (f a : ℕ) (r : List ℕ) (g : GoodRule f a r) → rule-in m z r ≡ rule-words (place (getD (z .actions) (g .head) []) (m .actions)) (map (step-in m z) (g .steps))
+rule-in-words m z f a r g = ap (rule-in m z) (g .is) ∙ ap (λ (l : List ℕ). rule-words (place (getD (z .actions) (g .head) []) (m .actions)) (map (step-in m z) l)) (take-append-seam (g .steps) _)
 
 -- ---- the names
 
@@ -48,7 +48,7 @@ module _ (y : Symbols) (h : Adds [] (y .fluents ++ y .actions)) where
 
 module _ (a b : Book) (p : Proper a) (q : Proper b) (f : NamesFit a b) where
   abbrev m : Symbols
-  m = bothNames (a .names) (b .names)
+  m = both-names (a .names) (b .names)
 
   apart : (x : List ℕ) → List·Memᴰ x (m .actions) → List·Memᴰ x (m .fluents) → ⊥
   apart x i j = by (together-out x (a .names .actions) (b .names .actions) i) (together-out x (a .names .fluents) (b .names .fluents) j)
@@ -70,7 +70,7 @@ module _ (a b : Book) (p : Proper a) (q : Proper b) (f : NamesFit a b) where
   place-of k xs ys l = member-below (getD ys k []) (together xs ys) (together-right (getD ys k []) xs ys (at-member ys k [] l))
 
   -- the place of a step's name in all names of its kind
-  pub in-kind : (kind index : ℕ) → index < cond (eqb kind 3) (length (b .names .actions)) (length (b .names .fluents)) → place (getD (namesOf (b .names) kind) index []) (namesOf m kind) < cond (eqb kind 3) (length (m .actions)) (length (m .fluents))
+  pub in-kind : (kind index : ℕ) → index < cond (eqb kind 3) (length (b .names .actions)) (length (b .names .fluents)) → place (getD (names-of (b .names) kind) index []) (names-of m kind) < cond (eqb kind 3) (length (m .actions)) (length (m .fluents))
   in-kind kind index = by (eqb kind 3)
     where
       by : (t : Bool) → index < cond t (length (b .names .actions)) (length (b .names .fluents)) → place (getD (cond t (b .names .actions) (b .names .fluents)) index []) (cond t (m .actions) (m .fluents)) < cond t (length (m .actions)) (length (m .fluents))
@@ -81,11 +81,11 @@ module _ (a b : Book) (p : Proper a) (q : Proper b) (f : NamesFit a b) where
   low true = f .few-actions
   low false = f .few-fluents
 
-  step-good : (x : ℕ) → good-step (length (b .names .fluents)) (length (b .names .actions)) x ≡ true → good-step (length (m .fluents)) (length (m .actions)) (stepIn m (b .names) x) ≡ true
+  step-good : (x : ℕ) → good-step (length (b .names .fluents)) (length (b .names .actions)) x ≡ true → good-step (length (m .fluents)) (length (m .actions)) (step-in m (b .names) x) ≡ true
   unfolding good-step
   step-good x g =
       let (k, i) = both (ltb (x / 256) 5) (ltb (x % 256) (cond (eqb (x / 256) 3) (length (b .names .actions)) (length (b .names .fluents)))) g in
-      let j = place (getD (namesOf (b .names) (x / 256)) (x % 256) []) (namesOf m (x / 256)) in
+      let j = place (getD (names-of (b .names) (x / 256)) (x % 256) []) (names-of m (x / 256)) in
       let c : ℕ = cond (eqb (x / 256) 3) (length (m .actions)) (length (m .fluents)) in
       let l : j < c = in-kind (x / 256) (x % 256) (ltb-true (x % 256) _ i) in
       let u : c ≤ 64 = low (eqb (x / 256) 3) in
@@ -93,26 +93,26 @@ module _ (a b : Book) (p : Proper a) (q : Proper b) (f : NamesFit a b) where
       let e : (256 * (x / 256) + j) % 256 ≡ j = omega arith in
       rw (d, e, k) (lt-ltb j c l)
 
-  steps-good : (ws : List ℕ) → GoodSteps (length (b .names .fluents)) (length (b .names .actions)) ws → GoodSteps (length (m .fluents)) (length (m .actions)) (map (stepIn m (b .names)) ws)
+  steps-good : (ws : List ℕ) → GoodSteps (length (b .names .fluents)) (length (b .names .actions)) ws → GoodSteps (length (m .fluents)) (length (m .actions)) (map (step-in m (b .names)) ws)
   steps-good ws g =
-      let n = length-map ws (stepIn m (b .names)) in
+      let n = length-map ws (step-in m (b .names)) in
       record { few = omega (arith, g .few); each = λ i l. each-of ws i (omega arith) (g .each) }
     where
-      each-of : (ws : List ℕ) (i : ℕ) → i < length ws → ((j : ℕ) → j < length ws → good-step (length (b .names .fluents)) (length (b .names .actions)) (getD ws j 0) ≡ true) → good-step (length (m .fluents)) (length (m .actions)) (getD (map (stepIn m (b .names)) ws) i 0) ≡ true
+      each-of : (ws : List ℕ) (i : ℕ) → i < length ws → ((j : ℕ) → j < length ws → good-step (length (b .names .fluents)) (length (b .names .actions)) (getD ws j 0) ≡ true) → good-step (length (m .fluents)) (length (m .actions)) (getD (map (step-in m (b .names)) ws) i 0) ≡ true
       each-of [] i l h = absurd (omega arith)
       each-of (x ∷ xs) zero l h = step-good x (h 0 (omega arith))
       each-of (x ∷ xs) (suc i) l h = each-of xs i (omega arith) (λ j k. h (suc j) (omega arith))
 
-  pub rule-good : (r : List ℕ) → GoodRule (length (b .names .fluents)) (length (b .names .actions)) r → GoodRule (length (m .fluents)) (length (m .actions)) (ruleIn m (b .names) r)
+  pub rule-good : (r : List ℕ) → GoodRule (length (b .names .fluents)) (length (b .names .actions)) r → GoodRule (length (m .fluents)) (length (m .actions)) (rule-in m (b .names) r)
   rule-good r g = record {
     head = place (getD (b .names .actions) (g .head) []) (m .actions);
-    steps = map (stepIn m (b .names)) (g .steps);
-    is = rule-words m (b .names) (length (b .names .fluents)) (length (b .names .actions)) r g;
+    steps = map (step-in m (b .names)) (g .steps);
+    is = rule-in-words m (b .names) (length (b .names .fluents)) (length (b .names .actions)) r g;
     action = place-of (g .head) (a .names .actions) (b .names .actions) (g .action);
     good = steps-good (g .steps) (g .good);
   }
 
-  mapped : (r : List ℕ) (rs : List (List ℕ)) → List·Memᴰ r (map (ruleIn m (b .names)) rs) → (i : ℕ) × (i < length rs) × (r ≡ ruleIn m (b .names) (getD rs i []))
+  mapped : (r : List ℕ) (rs : List (List ℕ)) → List·Memᴰ r (map (rule-in m (b .names)) rs) → (i : ℕ) × (i < length rs) × (r ≡ rule-in m (b .names) (getD rs i []))
   mapped r [] k = absurd (List·Memᴰ·not-nil k)
   mapped r (x ∷ rs) (List·Memᴰ·head e) = (0, omega arith, e)
   mapped r (x ∷ rs) (List·Memᴰ·tail k) = let (i, l, e) = mapped r rs k in (suc i, omega arith, e)
@@ -123,14 +123,14 @@ module _ (a b : Book) (p : Proper a) (q : Proper b) (f : NamesFit a b) where
   pub actions-more : length (a .names .actions) ≤ length (m .actions)
   actions-more = together-longer (a .names .actions) (b .names .actions)
 
-  pub member-good : (r : List ℕ) → List·Memᴰ r (a .rules) ⊎ List·Memᴰ r (map (ruleIn m (b .names)) (b .rules)) → GoodRule (length (m .fluents)) (length (m .actions)) r
+  pub member-good : (r : List ℕ) → List·Memᴰ r (a .rules) ⊎ List·Memᴰ r (map (rule-in m (b .names)) (b .rules)) → GoodRule (length (m .fluents)) (length (m .actions)) r
   member-good r (inl k) = by (member-at [] k)
     where
       by : (i : ℕ) × (i < length (a .rules)) × (getD (a .rules) i [] ≡ r) → GoodRule (length (m .fluents)) (length (m .actions)) r
       by (i, l, e) = subst (GoodRule (length (m .fluents)) (length (m .actions))) e (rule-more (length (a .names .fluents)) (length (m .fluents)) (length (a .names .actions)) (length (m .actions)) fluents-more actions-more (getD (a .rules) i []) (p .valid .rules i l))
   member-good r (inr k) = by (mapped r (b .rules) k)
     where
-      by : (i : ℕ) × (i < length (b .rules)) × (r ≡ ruleIn m (b .names) (getD (b .rules) i [])) → GoodRule (length (m .fluents)) (length (m .actions)) r
+      by : (i : ℕ) × (i < length (b .rules)) × (r ≡ rule-in m (b .names) (getD (b .rules) i [])) → GoodRule (length (m .fluents)) (length (m .actions)) r
       by (i, l, e) = subst⁻¹ (GoodRule (length (m .fluents)) (length (m .actions))) e (rule-good (getD (b .rules) i []) (q .valid .rules i l))
 
   -- ---- the start
@@ -141,8 +141,8 @@ module _ (a b : Book) (p : Proper a) (q : Proper b) (f : NamesFit a b) where
       by true e = h
       by false e = room n k s l h (not-held s k e)
 
-  start-low : (all ns : List (List ℕ)) (k : ℕ) (s to : State) → ((n : List ℕ) → List·Memᴰ n ns → List·Memᴰ n all) → to < 2 ^ length all → startIn all k s ns to < 2 ^ length all
-  unfolding startIn
+  start-low : (all ns : List (List ℕ)) (k : ℕ) (s to : State) → ((n : List ℕ) → List·Memᴰ n ns → List·Memᴰ n all) → to < 2 ^ length all → start-in all k s ns to < 2 ^ length all
+  unfolding start-in
   start-low all [] k s to h l = l
   start-low all (n ∷ ns) k s to h l = start-low all ns (suc k) s (cond (holds s k) (added to (place n all)) to) (λ x i. h x (List·Memᴰ·tail i)) (by (holds s k))
     where
@@ -153,17 +153,17 @@ module _ (a b : Book) (p : Proper a) (q : Proper b) (f : NamesFit a b) where
   pow-more : (x i j : ℕ) → x < 2 ^ i → i ≤ j → x < 2 ^ j
   pow-more x i j h l = omega (arith, pow-mono l)
 
-  pub both-valid : length (bothBooks a b .rules) ≤ 256 → Valid (bothBooks a b)
-  unfolding bookOver
+  pub both-valid : length (both-books a b .rules) ≤ 256 → Valid (both-books a b)
+  unfolding book-over
   both-valid few = record {
     few-fluents = f .few-fluents;
     few-actions = f .few-actions;
     few-rules = few;
-    rules = λ r l. member-good (getD (bothBooks a b .rules) r []) (together-out (getD (bothBooks a b .rules) r []) (a .rules) (map (ruleIn m (b .names)) (b .rules)) (at-member (bothBooks a b .rules) r [] l));
+    rules = λ r l. member-good (getD (both-books a b .rules) r []) (together-out (getD (both-books a b .rules) r []) (a .rules) (map (rule-in m (b .names)) (b .rules)) (at-member (both-books a b .rules) r [] l));
     goal = steps-more (length (a .names .fluents)) (length (m .fluents)) (length (a .names .actions)) (length (m .actions)) fluents-more actions-more (a .goal) (p .valid .goal);
     start = start-low (m .fluents) (b .names .fluents) 0 (b .start) (a .start) (λ n i. together-right n (a .names .fluents) (b .names .fluents) i) (pow-more (a .start) (length (a .names .fluents)) (length (m .fluents)) (p .valid .start) fluents-more);
   }
 
-  pub both-proper : length (bothBooks a b .rules) ≤ 256 → Proper (bothBooks a b)
-  unfolding bookOver
-  both-proper few = record { valid = both-valid few; named = both-named; started = refl; ended = refl }
+  pub both-proper : length (both-books a b .rules) ≤ 256 → Proper (both-books a b)
+  unfolding book-over
+  both-proper few = record { valid = both-valid few; named = both-named }

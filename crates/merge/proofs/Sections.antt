@@ -9,7 +9,7 @@ use Rattle.chars.specs.Pieces.{fields, bare}
 use Rattle.chars.specs.Places.{same}
 use Rattle.chars.specs.Inner.{FieldEnd, BareEnd}
 use Rattle.writer.proofs.LinePieces.{first-of, tail-of}
-use Rattle.merge.specs.Inner.{behindWord, section}
+use Rattle.merge.specs.Inner.{behind-word, section}
 
 -- a line of s with this word, or another
 module _ (s word : List ℕ) (a e end q : ℕ) (B : BareEnd s a e end) (F : FieldEnd s a end q) where
@@ -19,17 +19,17 @@ module _ (s word : List ℕ) (a e end q : ℕ) (B : BareEnd s a e end) (F : Fiel
   told : (v : Bool) → same (slice a q s) word ≡ v → same first word ≡ v
   told v h = ap (λ (f : List ℕ). same f word) (first-of s a e end q B F) ∙ h
 
-  pub behind-here : e ≤ length s → same (slice a q s) word ≡ true → behindWord word (slice a e s) ≡ slice q end s ∷ []
-  unfolding behindWord
+  pub behind-here : e ≤ length s → same (slice a q s) word ≡ true → behind-word word (slice a e s) ≡ slice q end s ∷ []
+  unfolding behind-word
   behind-here l h =
       ap (λ (v : Bool). cond v (drop (length word) (bare (slice a e s)) ∷ []) []) (told true h)
       ∙ ap (λ (x : List ℕ). x ∷ []) (tail-of s a e end q B F word l h)
 
-  pub behind-other : same (slice a q s) word ≡ false → behindWord word (slice a e s) ≡ []
-  unfolding behindWord
+  pub behind-other : same (slice a q s) word ≡ false → behind-word word (slice a e s) ≡ []
+  unfolding behind-word
   behind-other h = ap (λ (v : Bool). cond v (drop (length word) (bare (slice a e s)) ∷ []) []) (told false h)
 
-pub section-more : (w l : List ℕ) (ls : List (List ℕ)) → section w (l ∷ ls) ≡ behindWord w l ++ section w ls
+pub section-more : (w l : List ℕ) (ls : List (List ℕ)) → section w (l ∷ ls) ≡ behind-word w l ++ section w ls
 unfolding section
 section-more w l ls = refl
 

@@ -8,8 +8,8 @@ use Rattle.chars.specs.Bytes.{text}
 use Rattle.chars.specs.Pieces.{lines}
 use Rattle.chars.specs.Places.{place}
 use Rattle.merge.specs.declared.Joined.{Joined}
-use Rattle.merge.specs.Joined.{together, bothNames, bookOver, bothBooks}
-use Rattle.merge.specs.Inner.{Joining, partAt, partsFrom, section}
+use Rattle.merge.specs.Joined.{together, both-names, book-over, both-books}
+use Rattle.merge.specs.Inner.{Joining, part-at, parts-from, section}
 use Rattle.merge.proofs.Joins.{joins-told}
 use Rattle.merge.proofs.PartLists.{parts-length, part-getD}
 use Rattle.merge.proofs.SheetParts.{tab, fluent-parts}
@@ -22,24 +22,24 @@ getD-tab (n ∷ ns) zero h = refl
 getD-tab (n ∷ ns) (suc k) h = getD-tab ns k (omega arith)
 
 module _ (s t list : List ℕ) (r : Joined) (J : Joining s t list r) where
-  all-are : partsFrom (s ++ t) list (r .layout .fluents .own) (r .layout .fluents .end - r .layout .fluents .own) ≡ map tab (bothBooks (J .ours) (J .theirs) .names .fluents)
-  unfolding bookOver
+  all-are : parts-from (s ++ t) list (r .layout .fluents .own) (r .layout .fluents .end - r .layout .fluents .own) ≡ map tab (both-books (J .ours) (J .theirs) .names .fluents)
+  unfolding book-over
   all-are = let j = joins-told s t (J .ours) (J .theirs) (J .joined) in J .fluents .both ∙ fluents-are s t (J .ours) (J .theirs) (j .first) (j .second)
 
-  pub count-all : r .layout .fluents .end - r .layout .fluents .own ≡ length (bothBooks (J .ours) (J .theirs) .names .fluents)
-  count-all = sym (parts-length (s ++ t) list (r .layout .fluents .own) _) ∙ ap length all-are ∙ length-map (bothBooks (J .ours) (J .theirs) .names .fluents) tab
+  pub count-all : r .layout .fluents .end - r .layout .fluents .own ≡ length (both-books (J .ours) (J .theirs) .names .fluents)
+  count-all = sym (parts-length (s ++ t) list (r .layout .fluents .own) _) ∙ ap length all-are ∙ length-map (both-books (J .ours) (J .theirs) .names .fluents) tab
 
   pub count-first : r .layout .fluents .new - r .layout .fluents .own ≡ length (J .ours .names .fluents)
   count-first =
       let j = joins-told s t (J .ours) (J .theirs) (J .joined) in
       sym (parts-length (s ++ t) list (r .layout .fluents .own) _) ∙ ap length (J .fluents .first ∙ fluent-parts s (J .ours) (j .first)) ∙ length-map (J .ours .names .fluents) tab
 
-  pub name-place : (k : ℕ) → k < length (bothBooks (J .ours) (J .theirs) .names .fluents)
-      → place (partAt (s ++ t) list (r .layout .fluents .own + k)) (partsFrom (s ++ t) list (r .layout .fluents .lo) (r .layout .fluents .own - r .layout .fluents .lo)) ≡ place (getD (bothBooks (J .ours) (J .theirs) .names .fluents) k []) (J .theirs .names .fluents)
+  pub name-place : (k : ℕ) → k < length (both-books (J .ours) (J .theirs) .names .fluents)
+      → place (part-at (s ++ t) list (r .layout .fluents .own + k)) (parts-from (s ++ t) list (r .layout .fluents .lo) (r .layout .fluents .own - r .layout .fluents .lo)) ≡ place (getD (both-books (J .ours) (J .theirs) .names .fluents) k []) (J .theirs .names .fluents)
   name-place k h =
       let j = joins-told s t (J .ours) (J .theirs) (J .joined) in
       let n = count-all in
-      let p = sym (part-getD (s ++ t) list (r .layout .fluents .own) (r .layout .fluents .end - r .layout .fluents .own) k (omega arith)) ∙ ap (λ (x : List (List ℕ)). getD x k []) all-are ∙ getD-tab (bothBooks (J .ours) (J .theirs) .names .fluents) k h in
-      ap (λ (x : List ℕ). place x (partsFrom (s ++ t) list (r .layout .fluents .lo) (r .layout .fluents .own - r .layout .fluents .lo))) p
-      ∙ ap (place (tab (getD (bothBooks (J .ours) (J .theirs) .names .fluents) k []))) (J .fluents .second ∙ fluent-parts t (J .theirs) (j .second))
-      ∙ place-tab (getD (bothBooks (J .ours) (J .theirs) .names .fluents) k []) (J .theirs .names .fluents)
+      let p = sym (part-getD (s ++ t) list (r .layout .fluents .own) (r .layout .fluents .end - r .layout .fluents .own) k (omega arith)) ∙ ap (λ (x : List (List ℕ)). getD x k []) all-are ∙ getD-tab (both-books (J .ours) (J .theirs) .names .fluents) k h in
+      ap (λ (x : List ℕ). place x (parts-from (s ++ t) list (r .layout .fluents .lo) (r .layout .fluents .own - r .layout .fluents .lo))) p
+      ∙ ap (place (tab (getD (both-books (J .ours) (J .theirs) .names .fluents) k []))) (J .fluents .second ∙ fluent-parts t (J .theirs) (j .second))
+      ∙ place-tab (getD (both-books (J .ours) (J .theirs) .names .fluents) k []) (J .theirs .names .fluents)

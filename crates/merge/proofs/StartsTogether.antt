@@ -10,7 +10,7 @@ use Rattle.steps.proofs.Lists.{at-member}
 use Rattle.chars.specs.Places.{place}
 use Rattle.writer.specs.Text.{holding}
 use Rattle.writer.proofs.NamesApart.{Adds, adds-place}
-use Rattle.merge.specs.Joined.{together, startIn}
+use Rattle.merge.specs.Joined.{together, start-in}
 use Rattle.merge.proofs.Together.{together-place}
 
 -- a name that holds: its number
@@ -35,16 +35,16 @@ held-place s xs a n m = by (holding-at n 0 s xs m)
     by (i, l, e, h) = (subst (λ (x : List ℕ). List·Memᴰ x xs) e (at-member xs i [] l), ap (holds s) (ap (λ (x : List ℕ). place x xs) (sym e) ∙ adds-place [] xs a i l) ∙ h)
 
 -- nothing new sets nothing
-pub start-same : (all : List (List ℕ)) (k : ℕ) (s to : State) (ns : List (List ℕ)) → ((n : List ℕ) → List·Memᴰ n (holding k s ns) → holds to (place n all) ≡ true) → startIn all k s ns to ≡ to
-unfolding startIn holding
+pub start-same : (all : List (List ℕ)) (k : ℕ) (s to : State) (ns : List (List ℕ)) → ((n : List ℕ) → List·Memᴰ n (holding k s ns) → holds to (place n all) ≡ true) → start-in all k s ns to ≡ to
+unfolding start-in holding
 start-same all k s to [] h = refl
 start-same all k s to (n ∷ ns) h = by (holds s k) (start-same all (suc k) s to ns) h
   where
-    by : (t : Bool) → (((x : List ℕ) → List·Memᴰ x (holding (suc k) s ns) → holds to (place x all) ≡ true) → startIn all (suc k) s ns to ≡ to) → ((x : List ℕ) → List·Memᴰ x (cond t (n ∷ holding (suc k) s ns) (holding (suc k) s ns)) → holds to (place x all) ≡ true) → startIn all (suc k) s ns (cond t (added to (place n all)) to) ≡ to
+    by : (t : Bool) → (((x : List ℕ) → List·Memᴰ x (holding (suc k) s ns) → holds to (place x all) ≡ true) → start-in all (suc k) s ns to ≡ to) → ((x : List ℕ) → List·Memᴰ x (cond t (n ∷ holding (suc k) s ns) (holding (suc k) s ns)) → holds to (place x all) ≡ true) → start-in all (suc k) s ns (cond t (added to (place n all)) to) ≡ to
     by true go g =
         let e : added to (place n all) ≡ to = ap (λ (t : Bool). cond t to (to + 2 ^ place n all)) (g n (List·Memᴰ·head refl)) in
-        ap (startIn all (suc k) s ns) e ∙ go (λ x m. g x (List·Memᴰ·tail m))
+        ap (start-in all (suc k) s ns) e ∙ go (λ x m. g x (List·Memᴰ·tail m))
     by false go g = go g
 
-pub start-kept : (xs ys : List (List ℕ)) (s t : State) → Adds [] xs → ((n : List ℕ) → List·Memᴰ n (holding 0 t ys) → List·Memᴰ n (holding 0 s xs)) → startIn (together xs ys) 0 t ys s ≡ s
+pub start-kept : (xs ys : List (List ℕ)) (s t : State) → Adds [] xs → ((n : List ℕ) → List·Memᴰ n (holding 0 t ys) → List·Memᴰ n (holding 0 s xs)) → start-in (together xs ys) 0 t ys s ≡ s
 start-kept xs ys s t a h = start-same (together xs ys) 0 t s ys (λ n m. let (i, j) = held-place s xs a n (h n m) in ap (holds s) (together-place n xs ys i) ∙ j)

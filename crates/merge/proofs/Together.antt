@@ -8,8 +8,8 @@ use mathlib.Core.Logic.{_⊎_, inl, inr}
 use lib.ListN.{length, getD, length-append}
 use borrow.Author.Tests.{lt-ltb, le-ltb, ltb-true, ltb-false}
 use Rattle.steps.proofs.Lists.{at-member}
-use Rattle.chars.specs.Bytes.{isName}
-use Rattle.chars.specs.Places.{same, place, placeAfter, among}
+use Rattle.chars.specs.Bytes.{is-name}
+use Rattle.chars.specs.Places.{same, place, place-after, among}
 use Rattle.writer.proofs.NamesApart.{Adds, none, more, same-self, place-behind, adds-snoc}
 use Rattle.writer.proofs.Undoing.{place-is}
 use Rattle.merge.specs.Joined.{together, meets}
@@ -26,7 +26,7 @@ unfolding place
 member-below x (y ∷ ys) (List·Memᴰ·head e) = let s = ap (λ (z : List ℕ). same x z) (sym e) ∙ same-self x in rw s (omega arith)
 member-below x (y ∷ ys) (List·Memᴰ·tail m) = by (same x y) (member-below x ys m)
   where
-    by : (t : Bool) → place x ys < length ys → placeAfter t (place x ys) < suc (length ys)
+    by : (t : Bool) → place x ys < length ys → place-after t (place x ys) < suc (length ys)
     by true l = omega arith
     by false l = omega arith
 
@@ -50,15 +50,15 @@ no-member x xs h m = true-false (sym (member-among x xs m) ∙ h)
 pub place-before : (x : List ℕ) (xs ys : List (List ℕ)) → List·Memᴰ x xs → place x (xs ++ ys) ≡ place x xs
 unfolding place
 place-before x (y ∷ xs) ys (List·Memᴰ·head e) = let s = ap (λ (z : List ℕ). same x z) (sym e) ∙ same-self x in rw s refl
-place-before x (y ∷ xs) ys (List·Memᴰ·tail m) = ap (placeAfter (same x y)) (place-before x xs ys m)
+place-before x (y ∷ xs) ys (List·Memᴰ·tail m) = ap (place-after (same x y)) (place-before x xs ys m)
 
 -- ---- together
 
 -- what one more makes of a list
-abbrev pub withOne : List (List ℕ) → List ℕ → List (List ℕ)
-withOne xs y = cond (among y xs) xs (xs ++ (y ∷ []))
+abbrev pub with-one : List (List ℕ) → List ℕ → List (List ℕ)
+with-one xs y = cond (among y xs) xs (xs ++ (y ∷ []))
 
-one-more : (xs : List (List ℕ)) (y : List ℕ) → (zs : List (List ℕ)) × (withOne xs y ≡ xs ++ zs)
+one-more : (xs : List (List ℕ)) (y : List ℕ) → (zs : List (List ℕ)) × (with-one xs y ≡ xs ++ zs)
 one-more xs y = by (among y xs)
   where
     by : (t : Bool) → (zs : List (List ℕ)) × (cond t xs (xs ++ (y ∷ [])) ≡ xs ++ zs)
@@ -71,7 +71,7 @@ unfolding together
 together-more xs [] = ([], sym (append-nil xs))
 together-more xs (y ∷ ys) =
     let (us, e) = one-more xs y in
-    let (vs, f) = together-more (withOne xs y) ys in
+    let (vs, f) = together-more (with-one xs y) ys in
     (us ++ vs, f ∙ ap (λ (l : List (List ℕ)). l ++ vs) e ∙ append-assoc xs us vs)
 
 pub together-left : (x : List ℕ) (xs ys : List (List ℕ)) → List·Memᴰ x xs → List·Memᴰ x (together xs ys)
@@ -80,7 +80,7 @@ together-left x xs ys m = let (zs, e) = together-more xs ys in subst⁻¹ (List�
 pub together-longer : (xs ys : List (List ℕ)) → length xs ≤ length (together xs ys)
 together-longer xs ys = let (zs, e) = together-more xs ys in let n = ap length e ∙ length-append xs zs in omega arith
 
-one-there : (xs : List (List ℕ)) (y : List ℕ) → List·Memᴰ y (withOne xs y)
+one-there : (xs : List (List ℕ)) (y : List ℕ) → List·Memᴰ y (with-one xs y)
 one-there xs y = by (among y xs) refl
   where
     by : (t : Bool) → among y xs ≡ t → List·Memᴰ y (cond t xs (xs ++ (y ∷ [])))
@@ -90,10 +90,10 @@ one-there xs y = by (among y xs) refl
 -- each of the second list stands there
 pub together-right : (y : List ℕ) (xs ys : List (List ℕ)) → List·Memᴰ y ys → List·Memᴰ y (together xs ys)
 unfolding together
-together-right y xs (x ∷ ys) (List·Memᴰ·head e) = subst⁻¹ (λ (z : List ℕ). List·Memᴰ z (together (withOne xs x) ys)) e (together-left x (withOne xs x) ys (one-there xs x))
-together-right y xs (x ∷ ys) (List·Memᴰ·tail m) = together-right y (withOne xs x) ys m
+together-right y xs (x ∷ ys) (List·Memᴰ·head e) = subst⁻¹ (λ (z : List ℕ). List·Memᴰ z (together (with-one xs x) ys)) e (together-left x (with-one xs x) ys (one-there xs x))
+together-right y xs (x ∷ ys) (List·Memᴰ·tail m) = together-right y (with-one xs x) ys m
 
-one-out : (x y : List ℕ) (xs : List (List ℕ)) → List·Memᴰ x (withOne xs y) → List·Memᴰ x xs ⊎ (x ≡ y)
+one-out : (x y : List ℕ) (xs : List (List ℕ)) → List·Memᴰ x (with-one xs y) → List·Memᴰ x xs ⊎ (x ≡ y)
 one-out x y xs = by (among y xs)
   where
     ends : List·Memᴰ x xs ⊎ List·Memᴰ x (y ∷ []) → List·Memᴰ x xs ⊎ (x ≡ y)
@@ -108,13 +108,13 @@ one-out x y xs = by (among y xs)
 pub together-out : (x : List ℕ) (xs ys : List (List ℕ)) → List·Memᴰ x (together xs ys) → List·Memᴰ x xs ⊎ List·Memᴰ x ys
 unfolding together
 together-out x xs [] m = inl m
-together-out x xs (y ∷ ys) m = by (together-out x (withOne xs y) ys m)
+together-out x xs (y ∷ ys) m = by (together-out x (with-one xs y) ys m)
   where
     first : List·Memᴰ x xs ⊎ (x ≡ y) → List·Memᴰ x xs ⊎ List·Memᴰ x (y ∷ ys)
     first (inl k) = inl k
     first (inr e) = inr (List·Memᴰ·head e)
 
-    by : List·Memᴰ x (withOne xs y) ⊎ List·Memᴰ x ys → List·Memᴰ x xs ⊎ List·Memᴰ x (y ∷ ys)
+    by : List·Memᴰ x (with-one xs y) ⊎ List·Memᴰ x ys → List·Memᴰ x xs ⊎ List·Memᴰ x (y ∷ ys)
     by (inl k) = first (one-out x y xs k)
     by (inr k) = inr (List·Memᴰ·tail k)
 
@@ -140,7 +140,7 @@ never-meets x (y ∷ xs) ys h (List·Memᴰ·tail k) m = never-meets x xs ys (or
 
 -- ---- names one after the other, none twice
 
-pub adds-member : (b xs : List (List ℕ)) → Adds b xs → (x : List ℕ) → List·Memᴰ x xs → (isName x ≡ true) × (among x b ≡ false)
+pub adds-member : (b xs : List (List ℕ)) → Adds b xs → (x : List ℕ) → List·Memᴰ x xs → (is-name x ≡ true) × (among x b ≡ false)
 adds-member b (y ∷ ys) (more n a r) x (List·Memᴰ·head e) = rw e (n, a)
 adds-member b (y ∷ ys) (more n a r) x (List·Memᴰ·tail m) =
     let (i, f) = adds-member (b ++ (y ∷ [])) ys r x m in
@@ -161,14 +161,14 @@ pub adds-join : (b p q : List (List ℕ)) → Adds b p → Adds (b ++ p) q → A
 adds-join b [] q none r = subst (λ (l : List (List ℕ)). Adds l q) (append-nil b) r
 adds-join b (x ∷ p) q (more n a s) r = more n a (adds-join (b ++ (x ∷ [])) p q s (subst⁻¹ (λ (l : List (List ℕ)). Adds l q) (append-assoc b (x ∷ []) p) r))
 
-one-adds : (xs : List (List ℕ)) (y : List ℕ) → Adds [] xs → isName y ≡ true → Adds [] (withOne xs y)
+one-adds : (xs : List (List ℕ)) (y : List ℕ) → Adds [] xs → is-name y ≡ true → Adds [] (with-one xs y)
 one-adds xs y a n = by (among y xs) refl
   where
     by : (t : Bool) → among y xs ≡ t → Adds [] (cond t xs (xs ++ (y ∷ [])))
     by true e = a
     by false e = adds-snoc [] xs y a n e
 
-pub together-adds : (xs ys : List (List ℕ)) → Adds [] xs → ((y : List ℕ) → List·Memᴰ y ys → isName y ≡ true) → Adds [] (together xs ys)
+pub together-adds : (xs ys : List (List ℕ)) → Adds [] xs → ((y : List ℕ) → List·Memᴰ y ys → is-name y ≡ true) → Adds [] (together xs ys)
 unfolding together
 together-adds xs [] a h = a
-together-adds xs (y ∷ ys) a h = together-adds (withOne xs y) ys (one-adds xs y a (h y (List·Memᴰ·head refl))) (λ z m. h z (List·Memᴰ·tail m))
+together-adds xs (y ∷ ys) a h = together-adds (with-one xs y) ys (one-adds xs y a (h y (List·Memᴰ·head refl))) (λ z m. h z (List·Memᴰ·tail m))

@@ -9,7 +9,7 @@ use lib.Seq.{slice, length-slice, take-length}
 use Rattle.steps.specs.State.{State, holds, inserted}
 use Rattle.chars.specs.Places.{place, among}
 use Rattle.writer.specs.Text.{holding}
-use Rattle.merge.specs.Inner.{Lies, At, Grows, partAt, partsFrom, fresh, news, insertedIn, wrapped}
+use Rattle.merge.specs.Inner.{Lies, At, Grows, part-at, parts-from, fresh, news, inserted-in, wrapped}
 use Rattle.merge.proofs.PartLists.{parts-first, grows-range}
 use Rattle.merge.proofs.News.{news-more}
 
@@ -27,23 +27,23 @@ fresh-size xs y = by (among y xs)
 
 module _ (cut : ℕ) (u l l′ : List ℕ) (n r i hi : ℕ) where
   abbrev rest : List (List ℕ)
-  rest = partsFrom u l (i + 1) (hi - (i + 1))
+  rest = parts-from u l (i + 1) (hi - (i + 1))
 
-  kept-rest : (x : List (List ℕ)) → i < hi → hi ≤ n → Grows cut u l n l′ r x → partsFrom u l′ (i + 1) (hi - (i + 1)) ≡ rest
+  kept-rest : (x : List (List ℕ)) → i < hi → hi ≤ n → Grows cut u l n l′ r x → parts-from u l′ (i + 1) (hi - (i + 1)) ≡ rest
   kept-rest x h k g = g .kept (i + 1) (hi - (i + 1)) (omega arith)
 
-  pub new-turn : (base : ℕ) → base ≤ n → i < hi → hi ≤ n → Grows cut u l n l′ r (fresh (partsFrom u l base (n - base)) (partAt u l i))
-      → fresh (partsFrom u l base (n - base)) (partAt u l i) ++ news (partsFrom u l′ base (r - base)) (partsFrom u l′ (i + 1) (hi - (i + 1))) ≡ news (partsFrom u l base (n - base)) (partsFrom u l i (hi - i))
+  pub new-turn : (base : ℕ) → base ≤ n → i < hi → hi ≤ n → Grows cut u l n l′ r (fresh (parts-from u l base (n - base)) (part-at u l i))
+      → fresh (parts-from u l base (n - base)) (part-at u l i) ++ news (parts-from u l′ base (r - base)) (parts-from u l′ (i + 1) (hi - (i + 1))) ≡ news (parts-from u l base (n - base)) (parts-from u l i (hi - i))
   new-turn base b h k g =
-      let X = partsFrom u l base (n - base) in
-      let f = fresh X (partAt u l i) in
-      ap (λ (z : List (List ℕ)). f ++ news z (partsFrom u l′ (i + 1) (hi - (i + 1)))) (grows-range cut u l l′ n r base f b g)
+      let X = parts-from u l base (n - base) in
+      let f = fresh X (part-at u l i) in
+      ap (λ (z : List (List ℕ)). f ++ news z (parts-from u l′ (i + 1) (hi - (i + 1)))) (grows-range cut u l l′ n r base f b g)
       ∙ ap (λ (z : List (List ℕ)). f ++ news (X ++ f) z) (kept-rest f h k g)
-      ∙ sym (news-more X (partAt u l i) rest)
+      ∙ sym (news-more X (part-at u l i) rest)
       ∙ ap (news X) (sym (parts-first u l i hi h))
 
-  pub held-turn : (k : ℕ) (st : State) (x : List (List ℕ)) → i < hi → hi ≤ n → Grows cut u l n l′ r x → x ≡ holding k st (partAt u l i ∷ [])
-      → x ++ holding (suc k) st (partsFrom u l′ (i + 1) (hi - (i + 1))) ≡ holding k st (partsFrom u l i (hi - i))
+  pub held-turn : (k : ℕ) (st : State) (x : List (List ℕ)) → i < hi → hi ≤ n → Grows cut u l n l′ r x → x ≡ holding k st (part-at u l i ∷ [])
+      → x ++ holding (suc k) st (parts-from u l′ (i + 1) (hi - (i + 1))) ≡ holding k st (parts-from u l i (hi - i))
   unfolding holding
   held-turn k st x h m g e =
       ap (λ (z : List (List ℕ)). x ++ holding (suc k) st z) (kept-rest x h m g)
@@ -51,7 +51,7 @@ module _ (cut : ℕ) (u l l′ : List ℕ) (n r i hi : ℕ) where
       ∙ by (holds st k)
       ∙ ap (holding k st) (sym (parts-first u l i hi h))
     where
-      by : (v : Bool) → cond v (partAt u l i ∷ []) [] ++ holding (suc k) st rest ≡ cond v (partAt u l i ∷ holding (suc k) st rest) (holding (suc k) st rest)
+      by : (v : Bool) → cond v (part-at u l i ∷ []) [] ++ holding (suc k) st rest ≡ cond v (part-at u l i ∷ holding (suc k) st rest) (holding (suc k) st rest)
       by true = refl
       by false = refl
 
@@ -79,12 +79,12 @@ holding-few k st (n ∷ ns) = by (holding-few (suc k) st ns) (holds st k)
     by h false = omega arith
 
 -- ---- the state
-pub inserted-more : (all : List (List ℕ)) (k : ℕ) (s : State) (n : List ℕ) (ns : List (List ℕ)) (to : State) → insertedIn all k s (n ∷ ns) to ≡ insertedIn all (suc k) s ns (cond (holds s k) (inserted to (place n all)) to)
-unfolding insertedIn
+pub inserted-more : (all : List (List ℕ)) (k : ℕ) (s : State) (n : List ℕ) (ns : List (List ℕ)) (to : State) → inserted-in all k s (n ∷ ns) to ≡ inserted-in all (suc k) s ns (cond (holds s k) (inserted to (place n all)) to)
+unfolding inserted-in
 inserted-more all k s n ns to = refl
 
-pub inserted-none : (all : List (List ℕ)) (k : ℕ) (s to : State) → insertedIn all k s [] to ≡ to
-unfolding insertedIn
+pub inserted-none : (all : List (List ℕ)) (k : ℕ) (s to : State) → inserted-in all k s [] to ≡ to
+unfolding inserted-in
 inserted-none all k s to = refl
 
 -- ---- the text
@@ -104,5 +104,5 @@ wrapped-size w z p ps =
     let d = length-append w p in
     omega arith
 
-pub part-short : (cut : ℕ) (u list : List ℕ) (i : ℕ) → At cut u list i → length (partAt u list i) ≤ length u
+pub part-short : (cut : ℕ) (u list : List ℕ) (i : ℕ) → At cut u list i → length (part-at u list i) ≤ length u
 part-short cut u list i h = let n = length-slice (getD list (2 * i) 0) (getD list (2 * i + 1) 0) u (h .lies .within) in let k = h .lies .within in omega arith

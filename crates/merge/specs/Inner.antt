@@ -6,17 +6,18 @@ use mathlib.Core.Bool.{cond, _||_}
 use mathlib.Core.List.{List, [], _∷_, _++_}
 use lib.ListN.{length, getD, drop}
 use lib.Seq.{slice}
+use Rattle.refusals.specs.Refusals as refusals
 use Rattle.steps.specs.State.{State, holds, inserted}
 use Rattle.chars.specs.Bytes.{text, LF}
 use Rattle.chars.specs.Pieces.{lines, fields, bare}
 use Rattle.chars.specs.Places.{same, place, among}
 use Rattle.sheet.specs.Book.{Book}
-use Rattle.writer.specs.Text.{textOf}
+use Rattle.writer.specs.Text.{text-of}
 use Rattle.merge.specs.declared.Word.{Word}
 use Rattle.merge.specs.declared.Layout.{Layout}
 use Rattle.merge.specs.declared.Joined.{Joined}
-use Rattle.merge.specs.Joined.{together, meets, bothBooks}
-use Rattle.merge.specs.Merge.{joins, mergeOf}
+use Rattle.merge.specs.Joined.{together, meets, both-books}
+use Rattle.merge.specs.Merge.{joins, merge-of}
 
 -- The part from a up to e of two sheets, the first of them with `cut` bytes, both with `all`, lies in one of them.
 pub record Lies (cut all a e : ℕ) : Type 0 where
@@ -25,8 +26,8 @@ pub record Lies (cut all a e : ℕ) : Type 0 where
   pub whole : cut < e → cut ≤ a
 
 -- Part i of the list.
-abbrev pub partAt : List ℕ → List ℕ → ℕ → List ℕ
-partAt u list i = slice (getD list (2 * i) 0) (getD list (2 * i + 1) 0) u
+abbrev pub part-at : List ℕ → List ℕ → ℕ → List ℕ
+part-at u list i = slice (getD list (2 * i) 0) (getD list (2 * i + 1) 0) u
 
 -- The list has a part i, which lies in one of the two sheets.
 pub record At (cut : ℕ) (u list : List ℕ) (i : ℕ) : Type 0 where
@@ -38,27 +39,27 @@ abbrev pub Inside : ℕ → List ℕ → List ℕ → ℕ → Type 0
 Inside cut u list n = (i : ℕ) → i < n → At cut u list i
 
 -- The n parts from number k on.
-unfoldable pub partsFrom : List ℕ → List ℕ → ℕ → ℕ → List (List ℕ)
-partsFrom u list k zero = []
-partsFrom u list k (suc n) = partAt u list k ∷ partsFrom u list (suc k) n
+unfoldable pub parts-from : List ℕ → List ℕ → ℕ → ℕ → List (List ℕ)
+parts-from u list k zero = []
+parts-from u list k (suc n) = part-at u list k ∷ parts-from u list (suc k) n
 
 -- From a list with n parts to one with r, these behind them.
 pub record Grows (cut : ℕ) (u list : List ℕ) (n : ℕ) (list′ : List ℕ) (r : ℕ) (more : List (List ℕ)) : Type 0 where
   pub longer : r ≡ n + length more
-  pub kept : (k m : ℕ) → k + m ≤ n → partsFrom u list′ k m ≡ partsFrom u list k m
-  pub new : partsFrom u list′ n (length more) ≡ more
+  pub kept : (k m : ℕ) → k + m ≤ n → parts-from u list′ k m ≡ parts-from u list k m
+  pub new : parts-from u list′ n (length more) ≡ more
   pub inside : Inside cut u list n → Inside cut u list′ r
 
 -- What stands behind the word w in the line, where the line has this word.
-unfoldable pub behindWord : List ℕ → List ℕ → List (List ℕ)
+unfoldable pub behind-word : List ℕ → List ℕ → List (List ℕ)
 unfolding fields bare same
-behindWord w l = cond (same (getD (fields (bare l)) 0 []) w) (drop (length w) (bare l) ∷ []) []
+behind-word w l = cond (same (getD (fields (bare l)) 0 []) w) (drop (length w) (bare l) ∷ []) []
 
 -- The same of these lines, one after the other.
 unfoldable pub section : List ℕ → List (List ℕ) → List (List ℕ)
-unfolding behindWord
+unfolding behind-word
 section w [] = []
-section w (l ∷ ls) = behindWord w l ++ section w ls
+section w (l ∷ ls) = behind-word w l ++ section w ls
 
 -- y, where it is not one of xs.
 unfoldable pub fresh : List (List ℕ) → List ℕ → List (List ℕ)
@@ -72,10 +73,10 @@ news xs [] = []
 news xs (y ∷ ys) = fresh xs y ++ news (xs ++ fresh xs y) ys
 
 -- The state `to` of the names `all`, and in it those of these names, the first of them number k, that hold in s; the code's form.
-unfoldable pub insertedIn : List (List ℕ) → ℕ → State → List (List ℕ) → State → State
+unfoldable pub inserted-in : List (List ℕ) → ℕ → State → List (List ℕ) → State → State
 unfolding place
-insertedIn all k s [] to = to
-insertedIn all k s (n ∷ ns) to = insertedIn all (suc k) s ns (cond (holds s k) (inserted to (place n all)) to)
+inserted-in all k s [] to = to
+inserted-in all k s (n ∷ ns) to = inserted-in all (suc k) s ns (cond (holds s k) (inserted to (place n all)) to)
 
 -- The parts one after the other, each between w and z.
 unfoldable pub wrapped : List ℕ → List ℕ → List (List ℕ) → List ℕ
@@ -85,9 +86,9 @@ wrapped w z (p ∷ ps) = ((w ++ p) ++ z) ++ wrapped w z ps
 -- The list has the parts of a word: the second's, the first's, and behind these the new ones of the second.
 pub record Holds (u list : List ℕ) (w : Word) (ours theirs : List (List ℕ)) : Type 0 where
   pub order : (w .lo ≤ w .own) × (w .own ≤ w .new) × (w .new ≤ w .end)
-  pub second : partsFrom u list (w .lo) (w .own - w .lo) ≡ theirs
-  pub first : partsFrom u list (w .own) (w .new - w .own) ≡ ours
-  pub both : partsFrom u list (w .own) (w .end - w .own) ≡ together ours theirs
+  pub second : parts-from u list (w .lo) (w .own - w .lo) ≡ theirs
+  pub first : parts-from u list (w .own) (w .new - w .own) ≡ ours
+  pub both : parts-from u list (w .own) (w .end - w .own) ≡ together ours theirs
 
 -- From a list with n parts to one that has those of a word too.
 pub record Adds (cut : ℕ) (u list : List ℕ) (n : ℕ) (list′ : List ℕ) (w : Word) (ours theirs : List (List ℕ)) : Type 0 where
@@ -110,35 +111,35 @@ pub record Laid (s t list : List ℕ) (l : Layout) : Type 0 where
   pub fluents : Holds (s ++ t) list (l .fluents) (section (text "fluent") (lines s)) (section (text "fluent") (lines t))
   pub actions : Holds (s ++ t) list (l .actions) (section (text "action") (lines s)) (section (text "action") (lines t))
   pub rules : Holds (s ++ t) list (l .rules) (section (text "rule") (lines s)) (section (text "rule") (lines t))
-  pub goal : partsFrom (s ++ t) list (l .rules .end) (l .end - l .rules .end) ≡ section (text "goal") (lines s)
+  pub goal : parts-from (s ++ t) list (l .rules .end) (l .end - l .rules .end) ≡ section (text "goal") (lines s)
   pub inside : Inside (length s) (s ++ t) list (l .end)
   pub order : (l .fluents .end ≤ l .end) × (l .actions .end ≤ l .end) × (l .rules .end ≤ l .end) × (l .end ≤ 1153)
 
 -- 70 or 17 of the parts of the words, or 0.
-abbrev pub faultOf : List (List ℕ) → List (List ℕ) → List (List ℕ) → List (List ℕ) → List (List ℕ) → List (List ℕ) → ℕ
-faultOf fluents fluents′ actions actions′ rules rules′ =
-    cond (meets fluents actions′ || meets actions fluents′) 70
+abbrev pub fault-of : List (List ℕ) → List (List ℕ) → List (List ℕ) → List (List ℕ) → List (List ℕ) → List (List ℕ) → ℕ
+fault-of fluents fluents′ actions actions′ rules rules′ =
+    cond (meets fluents actions′ || meets actions fluents′) refusals.both-kinds
     (cond (ltb 64 (length (together fluents fluents′))
-    || (ltb 64 (length (together actions actions′)) || ltb 256 (length (together rules rules′)))) 17 0)
+    || (ltb 64 (length (together actions actions′)) || ltb 256 (length (together rules rules′)))) refusals.too-many 0)
 
 -- The `start` line with these parts.
-abbrev pub startParts : List (List ℕ) → List ℕ
-startParts held = (text "start" ++ wrapped [] [] held) ++ (LF ∷ [])
+abbrev pub start-parts : List (List ℕ) → List ℕ
+start-parts held = (text "start" ++ wrapped [] [] held) ++ (LF ∷ [])
 
 -- The text of the parts of fluents, actions and rules, of the names that hold, and of the goal.
-abbrev pub textParts : List (List ℕ) → List (List ℕ) → List (List ℕ) → List (List ℕ) → List (List ℕ) → List ℕ
-textParts fluents actions rules held goal =
+abbrev pub text-parts : List (List ℕ) → List (List ℕ) → List (List ℕ) → List (List ℕ) → List (List ℕ) → List ℕ
+text-parts fluents actions rules held goal =
     wrapped (text "fluent") (LF ∷ []) fluents ++ (wrapped (text "action") (LF ∷ []) actions ++ (wrapped (text "rule") (LF ∷ []) rules
-    ++ (startParts held ++ wrapped (text "goal") (LF ∷ []) goal)))
+    ++ (start-parts held ++ wrapped (text "goal") (LF ∷ []) goal)))
 
 -- The text of the parts in the list, those that hold up to `held`.
-abbrev pub textIn : List ℕ → List ℕ → Layout → ℕ → List ℕ
-textIn u list l held =
-    textParts (partsFrom u list (l .fluents .own) (l .fluents .end - l .fluents .own))
-    (partsFrom u list (l .actions .own) (l .actions .end - l .actions .own))
-    (partsFrom u list (l .rules .own) (l .rules .end - l .rules .own))
-    (partsFrom u list (l .end) (held - l .end))
-    (partsFrom u list (l .rules .end) (l .end - l .rules .end))
+abbrev pub text-in : List ℕ → List ℕ → Layout → ℕ → List ℕ
+text-in u list l held =
+    text-parts (parts-from u list (l .fluents .own) (l .fluents .end - l .fluents .own))
+    (parts-from u list (l .actions .own) (l .actions .end - l .actions .own))
+    (parts-from u list (l .rules .own) (l .rules .end - l .rules .own))
+    (parts-from u list (l .end) (held - l .end))
+    (parts-from u list (l .rules .end) (l .end - l .rules .end))
 
 -- The places of the parts in their order.
 pub record Ordered (l : Layout) (held : ℕ) : Type 0 where
@@ -151,9 +152,9 @@ pub record Ordered (l : Layout) (held : ℕ) : Type 0 where
 pub record Joining (s t list : List ℕ) (r : Joined) : Type 0 where
   pub ours : Book
   pub theirs : Book
-  pub joined : mergeOf s t ≡ joins ours theirs
-  pub is : textIn (s ++ t) list (r .layout) (r .held) ≡ textOf (bothBooks ours theirs)
-  pub size : r .size ≡ length (textOf (bothBooks ours theirs))
+  pub joined : merge-of s t ≡ joins ours theirs
+  pub is : text-in (s ++ t) list (r .layout) (r .held) ≡ text-of (both-books ours theirs)
+  pub size : r .size ≡ length (text-of (both-books ours theirs))
   pub ordered : Ordered (r .layout) (r .held)
   pub inside : Inside (length s) (s ++ t) list (r .held)
   pub fluents : Holds (s ++ t) list (r .layout .fluents) (section (text "fluent") (lines s)) (section (text "fluent") (lines t))

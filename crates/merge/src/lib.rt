@@ -9,12 +9,12 @@ ghost use Prim.Native.Nat.{_+_, _*_, _-_, _≤_};
 ghost use lib.ListN.{length};
 ghost use Rattle.chars.specs.Bytes.{text};
 ghost use Rattle.chars.specs.Pieces.{lines};
-ghost use Rattle.sheet.specs.Reader.{readSheet};
-ghost use Rattle.sheet.specs.Result.{resultOf};
+ghost use Rattle.sheet.specs.Reader.{read-sheet};
+ghost use Rattle.sheet.specs.Result.{result-of};
 ghost use Rattle.writer.specs.Inner.{Puts};
-ghost use Rattle.merge.specs.Merge.{faulty, mergeOf, mergedIn, outAfter};
-ghost use Rattle.merge.specs.MergedName.{partIn, mergedSpan, partOfTwo, addressOfTwo};
-ghost use Rattle.merge.specs.Inner.{Inside, partsFrom, section, startParts, Adds, Few, Laid, faultOf, textIn, Ordered, Joining};
+ghost use Rattle.merge.specs.Merge.{faulty, merge-of, merged-in, out-after};
+ghost use Rattle.merge.specs.MergedName.{part-in, merged-span, part-of-two, address-of-two};
+ghost use Rattle.merge.specs.Inner.{Inside, parts-from, section, start-parts, Adds, Few, Laid, fault-of, text-in, Ordered, Joining};
 use steps::state::State;
 
 // What the merge says. Refusal 0 is none; a sheet's own fault has the sheet, 1 or 2, and its line; the length is that of the text written.
@@ -33,9 +33,6 @@ pub struct Part {
     pub at: usize,
     pub len: usize,
 }
-
-// A name that is a fluent in one sheet and an action in the other.
-pub const BOTH_KINDS: u64 = 70;
 
 // The parts of one word: the second's from `lo` on, the first's from `own` on, the new ones of the second from `new` up to `end`.
 pub struct Word {
@@ -65,7 +62,7 @@ pub struct Joined {
 
 // What a sheet says beside its rule words, which are not kept.
 fn told(s: &[u8]) -> sheet::Sheet
-    ensures { λ r. ⌜ r ≡ resultOf 4608 (readSheet (now (s .entry))) ⌝ }
+    ensures { λ r. ⌜ r ≡ result-of 4608 (read-sheet (now (s .entry))) ⌝ }
 {
     let mut words = [0u16; 4608];
     sheet::read(s, &mut words)
@@ -117,7 +114,7 @@ fn lay<'a>(first: &'a [u8], second: &'a [u8], list: &mut [usize]) -> Layout
 // 70 or 17, or 0.
 fn fault<'a>(first: &'a [u8], second: &'a [u8], list: &[usize], l: Layout) -> u64
     requires { ⌜ Laid (now first) (now second) (now list) l ⌝ }
-    ensures { λ r. ⌜ r ≡ faultOf (section (text "fluent") (lines (now (first .entry)))) (section (text "fluent") (lines (now (second .entry))))
+    ensures { λ r. ⌜ r ≡ fault-of (section (text "fluent") (lines (now (first .entry)))) (section (text "fluent") (lines (now (second .entry))))
         (section (text "action") (lines (now (first .entry)))) (section (text "action") (lines (now (second .entry))))
         (section (text "rule") (lines (now (first .entry)))) (section (text "rule") (lines (now (second .entry)))) ⌝ }
 {
@@ -125,19 +122,19 @@ fn fault<'a>(first: &'a [u8], second: &'a [u8], list: &[usize], l: Layout) -> u6
     let a = l.actions;
     let r = l.rules;
     if parts::meet(first, second, list, f.own, f.new, a.lo, a.own) {
-        return BOTH_KINDS;
+        return refusals::BOTH_KINDS;
     }
     if parts::meet(first, second, list, a.own, a.new, f.lo, f.own) {
-        return BOTH_KINDS;
+        return refusals::BOTH_KINDS;
     }
     if 64 < f.end - f.own {
-        return sheet::refusals::TOO_MANY;
+        return refusals::TOO_MANY;
     }
     if 64 < a.end - a.own {
-        return sheet::refusals::TOO_MANY;
+        return refusals::TOO_MANY;
     }
     if 256 < r.end - r.own {
-        return sheet::refusals::TOO_MANY;
+        return refusals::TOO_MANY;
     }
     0
 }
@@ -146,7 +143,7 @@ fn fault<'a>(first: &'a [u8], second: &'a [u8], list: &[usize], l: Layout) -> u6
 fn text_size<'a>(first: &'a [u8], second: &'a [u8], list: &[usize], l: Layout, held: usize) -> usize
     requires { ⌜ Inside (length (now first)) (now first ++ now second) (now list) held ⌝ }
     requires { ⌜ Ordered l held × (length (now first ++ now second) ≤ 131072) ⌝ }
-    ensures { λ r. ⌜ r ≡ length (textIn (now (first .entry) ++ now (second .entry)) (now (list .entry)) l held) ⌝ }
+    ensures { λ r. ⌜ r ≡ length (text-in (now (first .entry) ++ now (second .entry)) (now (list .entry)) l held) ⌝ }
 {
     let f = l.fluents;
     let a = l.actions;
@@ -171,9 +168,9 @@ fn put_start<'a>(
 ) -> usize
     requires { ⌜ Inside (length (now first)) (now first ++ now second) (now list) hi ⌝ }
     requires { ⌜ lo ≤ hi ⌝ }
-    requires { ⌜ at + length (startParts (partsFrom (now first ++ now second) (now list) lo (hi - lo))) ≤ length (now out) ⌝ }
+    requires { ⌜ at + length (start-parts (parts-from (now first ++ now second) (now list) lo (hi - lo))) ≤ length (now out) ⌝ }
     ensures { λ r. ⌜ Puts (now (out .entry)) at
-        (startParts (partsFrom (now (first .entry) ++ now (second .entry)) (now (list .entry)) lo (hi - lo))) (now (out .exit)) r ⌝ }
+        (start-parts (parts-from (now (first .entry) ++ now (second .entry)) (now (list .entry)) lo (hi - lo))) (now (out .exit)) r ⌝ }
 {
     let word = writer::put_part(out, at, b"start", 0, 5);
     let names = texts::put_all(first, second, list, lo, hi, b"", b"", out, word);
@@ -190,8 +187,9 @@ fn put_text<'a>(
     out: &mut [u8],
 ) -> usize
     requires { ⌜ Inside (length (now first)) (now first ++ now second) (now list) held ⌝ }
-    requires { ⌜ Ordered l held × (length (textIn (now first ++ now second) (now list) l held) ≤ length (now out)) ⌝ }
-    ensures { λ r. ⌜ Puts (now (out .entry)) 0 (textIn (now (first .entry) ++ now (second .entry)) (now (list .entry)) l held) (now (out .exit)) r ⌝ }
+    requires { ⌜ Ordered l held × (length (text-in (now first ++ now second) (now list) l held) ≤ length (now out)) ⌝ }
+    ensures { λ r. ⌜ Puts (now (out .entry)) 0
+        (text-in (now (first .entry) ++ now (second .entry)) (now (list .entry)) l held) (now (out .exit)) r ⌝ }
 {
     let f = l.fluents;
     let a = l.actions;
@@ -262,7 +260,7 @@ fn refused(refusal: u64, sheet: u64, line: u64) -> Joined
 // What two sheets say together, its parts in the list, or the first refusal met.
 fn join<'a>(first: &'a [u8], second: &'a [u8], list: &mut [usize]) -> Joined
     requires { ⌜ length (now list) ≡ 2560 ⌝ }
-    ensures { λ r. ⌜ ((r .refusal ≡ 0 → ⊥) → mergeOf (now (first .entry)) (now (second .entry)) ≡ faulty (r .refusal) (r .sheet) (r .line)) ⌝ }
+    ensures { λ r. ⌜ ((r .refusal ≡ 0 → ⊥) → merge-of (now (first .entry)) (now (second .entry)) ≡ faulty (r .refusal) (r .sheet) (r .line)) ⌝ }
     ensures { λ r. ⌜ (r .refusal ≡ 0 → Joining (now (first .entry)) (now (second .entry)) (now (list .exit)) r) ⌝ }
 {
     let a = told(first);
@@ -293,7 +291,7 @@ fn join<'a>(first: &'a [u8], second: &'a [u8], list: &mut [usize]) -> Joined
     let held = texts::held(list, f.own, f.end, state, layout.end);
     let size = text_size(first, second, list, layout, held);
     if 65536 < size {
-        return refused(sheet::refusals::TOO_LONG, 0, 0);
+        return refused(refusals::TOO_LONG, 0, 0);
     }
     Joined {
         refusal: 0,
@@ -307,8 +305,8 @@ fn join<'a>(first: &'a [u8], second: &'a [u8], list: &mut [usize]) -> Joined
 
 // Writes the one fixed text of two accepted sheets to `out`, which is unchanged past it and by a refusal.
 pub fn merge<'a>(first: &'a [u8], second: &'a [u8], out: &mut [u8]) -> Merged
-    ensures { λ r. ⌜ r ≡ mergedIn (length (now (out .entry))) (mergeOf (now (first .entry)) (now (second .entry))) ⌝ }
-    ensures { λ _. ⌜ now (out .exit) ≡ outAfter (now (out .entry)) (mergeOf (now (first .entry)) (now (second .entry))) ⌝ }
+    ensures { λ r. ⌜ r ≡ merged-in (length (now (out .entry))) (merge-of (now (first .entry)) (now (second .entry))) ⌝ }
+    ensures { λ _. ⌜ now (out .exit) ≡ out-after (now (out .entry)) (merge-of (now (first .entry)) (now (second .entry))) ⌝ }
 {
     let mut list = [0usize; 2560];
     let j = join(first, second, &mut list);
@@ -324,7 +322,7 @@ pub fn merge<'a>(first: &'a [u8], second: &'a [u8], out: &mut [u8]) -> Merged
     let size = j.size;
     if out.len() < size {
         return Merged {
-            refusal: writer::TEXT_SHORT,
+            refusal: refusals::TEXT_SHORT,
             sheet: 0,
             line: 0,
             length: 0,
@@ -341,7 +339,7 @@ pub fn merge<'a>(first: &'a [u8], second: &'a [u8], out: &mut [u8]) -> Merged
 
 // A part of the sheet `which`.
 fn part_in(which: u64, span: sheet::Span) -> Part
-    ensures { λ r. ⌜ r ≡ partIn which span ⌝ }
+    ensures { λ r. ⌜ r ≡ part-in which span ⌝ }
 {
     Part {
         sheet: which,
@@ -353,7 +351,7 @@ fn part_in(which: u64, span: sheet::Span) -> Part
 // Where the merged fluent's name stands, in whichever sheet brought it first; nothing for a merge refused other than
 // with 50 or a number too high.
 pub fn merged_span<'a>(first: &'a [u8], second: &'a [u8], number: u64) -> Part
-    ensures { λ r. ⌜ r ≡ mergedSpan (now (first .entry)) (now (second .entry)) number ⌝ }
+    ensures { λ r. ⌜ r ≡ merged-span (now (first .entry)) (now (second .entry)) number ⌝ }
 {
     let mut list = [0usize; 2560];
     let j = join(first, second, &mut list);
@@ -384,9 +382,10 @@ pub fn merged_span<'a>(first: &'a [u8], second: &'a [u8], number: u64) -> Part
 
 // The very part of the sheet that brought the merged fluent's name first; else the empty part at the first sheet's first byte.
 pub fn merged_fluent<'a>(first: &'a [u8], second: &'a [u8], number: u64) -> &'a [u8]
-    ensures { λ r. ⌜ now r ≡ partOfTwo (now (first .entry)) (now (second .entry)) (mergedSpan (now (first .entry)) (now (second .entry)) number) ⌝ }
-    ensures { λ r. ⌜ r .ptr ≡ addressOfTwo (first .entry .ptr) (second .entry .ptr)
-        (mergedSpan (now (first .entry)) (now (second .entry)) number) ⌝ }
+    ensures { λ r. ⌜ now r ≡ part-of-two (now (first .entry)) (now (second .entry))
+        (merged-span (now (first .entry)) (now (second .entry)) number) ⌝ }
+    ensures { λ r. ⌜ r .ptr ≡ address-of-two (first .entry .ptr) (second .entry .ptr)
+        (merged-span (now (first .entry)) (now (second .entry)) number) ⌝ }
 {
     let name = merged_span(first, second, number);
     let at = name.at;

@@ -7,7 +7,7 @@ ghost use lib.Seq.{slice};
 ghost use Rattle.chars.specs.Pieces.{lines};
 ghost use Rattle.chars.specs.Places.{same, place};
 ghost use Rattle.merge.specs.Joined.{meets};
-ghost use Rattle.merge.specs.Inner.{Lies, At, Inside, Grows, partAt, partsFrom, behindWord, section, fresh, news};
+ghost use Rattle.merge.specs.Inner.{Lies, At, Inside, Grows, part-at, parts-from, behind-word, section, fresh, news};
 
 // The part from a up to e.
 pub fn part<'a>(first: &'a [u8], second: &'a [u8], a: usize, e: usize) -> &'a [u8]
@@ -24,7 +24,7 @@ pub fn part<'a>(first: &'a [u8], second: &'a [u8], a: usize, e: usize) -> &'a [u
 // Part i.
 pub fn part_at<'a>(first: &'a [u8], second: &'a [u8], list: &[usize], i: usize) -> &'a [u8]
     requires { ⌜ At (length (now first)) (now first ++ now second) (now list) i ⌝ }
-    ensures { λ r. ⌜ now r ≡ partAt (now (first .entry) ++ now (second .entry)) (now (list .entry)) i ⌝ }
+    ensures { λ r. ⌜ now r ≡ part-at (now (first .entry) ++ now (second .entry)) (now (list .entry)) i ⌝ }
 {
     part(first, second, list[2 * i], list[2 * i + 1])
 }
@@ -41,8 +41,8 @@ pub fn find<'a>(
     requires { ⌜ At (length (now first)) (now first ++ now second) (now list) i ⌝ }
     requires { ⌜ Inside (length (now first)) (now first ++ now second) (now list) hi ⌝ }
     requires { ⌜ lo ≤ hi ⌝ }
-    ensures { λ r. ⌜ r ≡ lo + place (partAt (now (first .entry) ++ now (second .entry)) (now (list .entry)) i)
-        (partsFrom (now (first .entry) ++ now (second .entry)) (now (list .entry)) lo (hi - lo)) ⌝ }
+    ensures { λ r. ⌜ r ≡ lo + place (part-at (now (first .entry) ++ now (second .entry)) (now (list .entry)) i)
+        (parts-from (now (first .entry) ++ now (second .entry)) (now (list .entry)) lo (hi - lo)) ⌝ }
     ensures { λ r. ⌜ r ≤ hi ⌝ }
 {
     let x = part_at(first, second, list, i);
@@ -70,8 +70,8 @@ pub fn meet<'a>(
     requires { ⌜ Inside (length (now first)) (now first ++ now second) (now list) hi ⌝ }
     requires { ⌜ Inside (length (now first)) (now first ++ now second) (now list) to ⌝ }
     requires { ⌜ (lo ≤ hi) × (from ≤ to) ⌝ }
-    ensures { λ r. ⌜ r ≡ meets (partsFrom (now (first .entry) ++ now (second .entry)) (now (list .entry)) lo (hi - lo))
-        (partsFrom (now (first .entry) ++ now (second .entry)) (now (list .entry)) from (to - from)) ⌝ }
+    ensures { λ r. ⌜ r ≡ meets (parts-from (now (first .entry) ++ now (second .entry)) (now (list .entry)) lo (hi - lo))
+        (parts-from (now (first .entry) ++ now (second .entry)) (now (list .entry)) from (to - from)) ⌝ }
 {
     let mut i = lo;
     while i < hi {
@@ -106,11 +106,11 @@ fn section_line<'a>(
     n: usize,
 ) -> usize
     requires { ⌜ (a ≤ e) × (e ≤ length (now s)) × (base ≤ 65536) × (length (now s) ≤ 65536) ⌝ }
-    requires { ⌜ 2 * (n + length (behindWord (now word) (slice a e (now s)))) ≤ length (now list) ⌝ }
+    requires { ⌜ 2 * (n + length (behind-word (now word) (slice a e (now s)))) ≤ length (now list) ⌝ }
     ensures { λ r. ⌜ ((cut : ℕ) (b z : List ℕ) → length b ≡ base → (cut < base + length (now (s .entry)) → cut ≤ base)
         → Grows cut (b ++ (now (s .entry) ++ z)) (now (list .entry)) n (now (list .exit)) r
-        (behindWord (now (word .entry)) (slice a e (now (s .entry))))) ⌝ }
-    ensures { λ r. ⌜ r ≡ n + length (behindWord (now (word .entry)) (slice a e (now (s .entry)))) ⌝ }
+        (behind-word (now (word .entry)) (slice a e (now (s .entry))))) ⌝ }
+    ensures { λ r. ⌜ r ≡ n + length (behind-word (now (word .entry)) (slice a e (now (s .entry)))) ⌝ }
 {
     let end = chars::bare_end(s, a, e);
     let q = chars::field_end(s, a, end);
@@ -148,7 +148,7 @@ pub fn sections<'a>(
 pub fn copy(list: &mut [usize], i: usize, n: usize) -> usize
     requires { ⌜ (i < n) × (2 * (n + 1) ≤ length (now list)) ⌝ }
     ensures { λ r. ⌜ ((cut : ℕ) (u : List ℕ) → At cut u (now (list .entry)) i
-        → Grows cut u (now (list .entry)) n (now (list .exit)) r (partAt u (now (list .entry)) i ∷ [])) ⌝ }
+        → Grows cut u (now (list .entry)) n (now (list .exit)) r (part-at u (now (list .entry)) i ∷ [])) ⌝ }
     ensures { λ r. ⌜ r ≡ n + 1 ⌝ }
 {
     let a = list[2 * i];
@@ -168,8 +168,8 @@ fn add_new<'a>(
     requires { ⌜ Inside (length (now first)) (now first ++ now second) (now list) n ⌝ }
     requires { ⌜ (i < n) × (base ≤ n) × (2 * (n + 1) ≤ length (now list)) ⌝ }
     ensures { λ r. ⌜ Grows (length (now (first .entry))) (now (first .entry) ++ now (second .entry)) (now (list .entry)) n (now (list .exit)) r
-        (fresh (partsFrom (now (first .entry) ++ now (second .entry)) (now (list .entry)) base (n - base))
-        (partAt (now (first .entry) ++ now (second .entry)) (now (list .entry)) i)) ⌝ }
+        (fresh (parts-from (now (first .entry) ++ now (second .entry)) (now (list .entry)) base (n - base))
+        (part-at (now (first .entry) ++ now (second .entry)) (now (list .entry)) i)) ⌝ }
 {
     if find(first, second, list, i, base, n) < n {
         return n;
@@ -190,8 +190,8 @@ pub fn gather<'a>(
     requires { ⌜ Inside (length (now first)) (now first ++ now second) (now list) at ⌝ }
     requires { ⌜ (lo ≤ hi) × (hi ≤ at) × (base ≤ at) × (2 * (at + (hi - lo)) ≤ length (now list)) ⌝ }
     ensures { λ r. ⌜ Grows (length (now (first .entry))) (now (first .entry) ++ now (second .entry)) (now (list .entry)) at (now (list .exit)) r
-        (news (partsFrom (now (first .entry) ++ now (second .entry)) (now (list .entry)) base (at - base))
-        (partsFrom (now (first .entry) ++ now (second .entry)) (now (list .entry)) lo (hi - lo))) ⌝ }
+        (news (parts-from (now (first .entry) ++ now (second .entry)) (now (list .entry)) base (at - base))
+        (parts-from (now (first .entry) ++ now (second .entry)) (now (list .entry)) lo (hi - lo))) ⌝ }
 {
     let mut n = at;
     let mut i = lo;

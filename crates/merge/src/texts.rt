@@ -8,7 +8,7 @@ ghost use Rattle.steps.specs.State.{holds, inserted};
 ghost use Rattle.chars.specs.Places.{place};
 ghost use Rattle.writer.specs.Text.{holding};
 ghost use Rattle.writer.specs.Inner.{Puts};
-ghost use Rattle.merge.specs.Inner.{At, Inside, Grows, partAt, partsFrom, insertedIn, wrapped};
+ghost use Rattle.merge.specs.Inner.{At, Inside, Grows, part-at, parts-from, inserted-in, wrapped};
 use crate::parts;
 use steps::state::State;
 
@@ -27,8 +27,8 @@ fn start_one<'a>(
     requires { ⌜ At (length (now first)) (now first ++ now second) (now list) i ⌝ }
     requires { ⌜ Inside (length (now first)) (now first ++ now second) (now list) hi ⌝ }
     requires { ⌜ lo ≤ hi ⌝ }
-    ensures { λ r. ⌜ r .0 ≡ cond (holds (s .0) k) (inserted (to .0) (place (partAt (now (first .entry) ++ now (second .entry)) (now (list .entry)) i)
-        (partsFrom (now (first .entry) ++ now (second .entry)) (now (list .entry)) lo (hi - lo)))) (to .0) ⌝ }
+    ensures { λ r. ⌜ r .0 ≡ cond (holds (s .0) k) (inserted (to .0) (place (part-at (now (first .entry) ++ now (second .entry)) (now (list .entry)) i)
+        (parts-from (now (first .entry) ++ now (second .entry)) (now (list .entry)) lo (hi - lo)))) (to .0) ⌝ }
 {
     if s.holds(k) {
         let p = parts::find(first, second, list, i, lo, hi);
@@ -52,8 +52,8 @@ pub fn starts<'a>(
     requires { ⌜ Inside (length (now first)) (now first ++ now second) (now list) end ⌝ }
     requires { ⌜ Inside (length (now first)) (now first ++ now second) (now list) hi ⌝ }
     requires { ⌜ (lo ≤ hi) × (from ≤ end) ⌝ }
-    ensures { λ r. ⌜ r .0 ≡ insertedIn (partsFrom (now (first .entry) ++ now (second .entry)) (now (list .entry)) lo (hi - lo)) 0 (s .0)
-        (partsFrom (now (first .entry) ++ now (second .entry)) (now (list .entry)) from (end - from)) (to .0) ⌝ }
+    ensures { λ r. ⌜ r .0 ≡ inserted-in (parts-from (now (first .entry) ++ now (second .entry)) (now (list .entry)) lo (hi - lo)) 0 (s .0)
+        (parts-from (now (first .entry) ++ now (second .entry)) (now (list .entry)) from (end - from)) (to .0) ⌝ }
 {
     let mut state = to;
     let mut i = from;
@@ -68,7 +68,7 @@ pub fn starts<'a>(
 fn held_one(list: &mut [usize], i: usize, k: u64, state: State, n: usize) -> usize
     requires { ⌜ (i < n) × (2 * (n + 1) ≤ length (now list)) ⌝ }
     ensures { λ r. ⌜ ((cut : ℕ) (u : List ℕ) → At cut u (now (list .entry)) i
-        → Grows cut u (now (list .entry)) n (now (list .exit)) r (holding k (state .0) (partAt u (now (list .entry)) i ∷ []))) ⌝ }
+        → Grows cut u (now (list .entry)) n (now (list .exit)) r (holding k (state .0) (part-at u (now (list .entry)) i ∷ []))) ⌝ }
     ensures { λ r. ⌜ (n ≤ r) × (r ≤ n + 1) ⌝ }
 {
     if state.holds(k) {
@@ -81,7 +81,7 @@ fn held_one(list: &mut [usize], i: usize, k: u64, state: State, n: usize) -> usi
 pub fn held(list: &mut [usize], lo: usize, hi: usize, state: State, at: usize) -> usize
     requires { ⌜ (lo ≤ hi) × (hi ≤ at) × (2 * (at + (hi - lo)) ≤ length (now list)) ⌝ }
     ensures { λ r. ⌜ ((cut : ℕ) (u : List ℕ) → Inside cut u (now (list .entry)) at
-        → Grows cut u (now (list .entry)) at (now (list .exit)) r (holding 0 (state .0) (partsFrom u (now (list .entry)) lo (hi - lo)))) ⌝ }
+        → Grows cut u (now (list .entry)) at (now (list .exit)) r (holding 0 (state .0) (parts-from u (now (list .entry)) lo (hi - lo)))) ⌝ }
 {
     let mut n = at;
     let mut i = lo;
@@ -104,7 +104,7 @@ pub fn size<'a>(
     requires { ⌜ Inside (length (now first)) (now first ++ now second) (now list) hi ⌝ }
     requires { ⌜ (lo ≤ hi) × (hi ≤ 1280) × (around ≤ 8) × (length (now first ++ now second) ≤ 131072) ⌝ }
     ensures { λ r. ⌜ ((w z : List ℕ) → length w + length z ≡ around
-        → r ≡ length (wrapped w z (partsFrom (now (first .entry) ++ now (second .entry)) (now (list .entry)) lo (hi - lo)))) ⌝ }
+        → r ≡ length (wrapped w z (parts-from (now (first .entry) ++ now (second .entry)) (now (list .entry)) lo (hi - lo)))) ⌝ }
     ensures { λ r. ⌜ r ≤ 131080 * (hi - lo) ⌝ }
 {
     let mut n = 0;
@@ -129,9 +129,9 @@ fn put_one<'a>(
     at: usize,
 ) -> usize
     requires { ⌜ At (length (now first)) (now first ++ now second) (now list) i ⌝ }
-    requires { ⌜ at + length ((now word ++ partAt (now first ++ now second) (now list) i) ++ now end) ≤ length (now out) ⌝ }
+    requires { ⌜ at + length ((now word ++ part-at (now first ++ now second) (now list) i) ++ now end) ≤ length (now out) ⌝ }
     ensures { λ r. ⌜ Puts (now (out .entry)) at
-        ((now (word .entry) ++ partAt (now (first .entry) ++ now (second .entry)) (now (list .entry)) i) ++ now (end .entry)) (now (out .exit)) r ⌝ }
+        ((now (word .entry) ++ part-at (now (first .entry) ++ now (second .entry)) (now (list .entry)) i) ++ now (end .entry)) (now (out .exit)) r ⌝ }
 {
     let p = parts::part_at(first, second, list, i);
     let a = writer::put_part(out, at, word, 0, word.len());
@@ -153,9 +153,9 @@ pub fn put_all<'a>(
 ) -> usize
     requires { ⌜ Inside (length (now first)) (now first ++ now second) (now list) hi ⌝ }
     requires { ⌜ lo ≤ hi ⌝ }
-    requires { ⌜ at + length (wrapped (now word) (now end) (partsFrom (now first ++ now second) (now list) lo (hi - lo))) ≤ length (now out) ⌝ }
+    requires { ⌜ at + length (wrapped (now word) (now end) (parts-from (now first ++ now second) (now list) lo (hi - lo))) ≤ length (now out) ⌝ }
     ensures { λ r. ⌜ Puts (now (out .entry)) at (wrapped (now (word .entry)) (now (end .entry))
-        (partsFrom (now (first .entry) ++ now (second .entry)) (now (list .entry)) lo (hi - lo))) (now (out .exit)) r ⌝ }
+        (parts-from (now (first .entry) ++ now (second .entry)) (now (list .entry)) lo (hi - lo))) (now (out .exit)) r ⌝ }
 {
     let mut p = at;
     let mut i = lo;

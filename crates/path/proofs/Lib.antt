@@ -1,2 +1,3 @@
--- Laws of the path's answer.
+-- Laws of the path's answer; FinishedLaws: that tables of a finished run meet no fault.
 pub mod OutcomeLaws
+pub mod FinishedLaws

@@ -8,30 +8,31 @@ use mathlib.Core.Logic.{_≢_}
 use lib.ListN.{length}
 use lib.Dec.{eqb, ltb}
 use borrow.Author.Tests.{eq-eqb, ne-eqb, eqb-true, eqb-false, lt-ltb, le-ltb, ltb-true}
+use Rattle.refusals.specs.Refusals as refusals
 use Rattle.steps.specs.Acceptance.{bad-counts, bad-length, bad-rules, bad-goal, words-refusal}
 use Rattle.steps.proofs.EachBelow.{each-at}
 use Rattle.steps.proofs.AcceptanceLaws.{accepted}
-use Rattle.tabling.specs.Records.{justified}
+use Rattle.records.specs.Records.{justified}
 use Rattle.checks.specs.Checks.{over-room, all-justified, bad-records}
 use Rattle.checks.proofs.RecordLaws.{Proper, never-bad}
-use Rattle.unfolding.proofs.Walk.{Checked, startAt, addedBy}
-use Rattle.unfolding.proofs.Writing.{Listed}
+use Rattle.unfolding.proofs.Walk.{Checked, start-at, added-by}
+use Rattle.unfolding.proofs.Writing.{PathListed}
 use Rattle.unfolding.proofs.Checking.{checked, records-justified, path-added}
 use Rattle.unfolding.proofs.Soundness.{Executed, executed}
-use Rattle.path.specs.Outcome.{Lent, call-records, answer-records, bodies, states-of, fault, too-short, refusal-of, count-of, list-after, Answered}
+use Rattle.path.specs.Outcome.{Handed, call-records, answer-records, bodies, states-of, fault, too-short, path-refusal, state-count, list-after, Answered}
 
-words-not-42 : (fluents actions : ℕ) (rules goal : List ℕ) → words-refusal fluents actions rules goal ≢ 42
+words-not-42 : (fluents actions : ℕ) (rules goal : List ℕ) → words-refusal fluents actions rules goal ≢ refusals.bad-record
 unfolding words-refusal
 words-not-42 fluents actions rules goal = by (bad-counts fluents actions) (bad-length rules) (bad-rules fluents actions rules) (bad-goal fluents actions goal)
   where
-    by : (a b c d : Bool) → _≡_ {A = ℕ} (cond a 20 (cond b 21 (cond c 22 (cond d 23 0)))) 42 → ⊥
+    by : (a b c d : Bool) → _≡_ {A = ℕ} (cond a refusals.bad-counts (cond b refusals.bad-length (cond c refusals.bad-rule (cond d refusals.bad-goal 0)))) refusals.bad-record → ⊥
     by true b c d e = omega arith
     by false true c d e = omega arith
     by false false true d e = omega arith
     by false false false true e = omega arith
     by false false false false e = omega arith
 
-module _ (l : Lent) (x : ℕ) where
+module _ (l : Handed) (x : ℕ) where
   abbrev words : ℕ
   words = words-refusal (l .fluents) (l .actions) (l .rules) (l .goal)
 
@@ -48,16 +49,16 @@ module _ (l : Lent) (x : ℕ) where
   bad-words n = rw (ne-eqb words 0 n) refl
 
   module _ (none : words ≡ 0) where
-    pub no-room : over ≡ true → 40 ≡ fault l x
+    pub no-room : over ≡ true → refusals.bad-record-count ≡ fault l x
     unfolding fault
     no-room e = rw (eq-eqb words 0 none, e) refl
 
     module _ (fits : over ≡ false) where
-      pub not-below : l .answer-count ≤ x → 41 ≡ fault l x
+      pub not-below : l .answer-count ≤ x → refusals.no-record ≡ fault l x
       unfolding fault
       not-below h = rw (eq-eqb words 0 none, fits, le-ltb x (l .answer-count) h) refl
 
-      pub not-right : (b : Bool) → x < l .answer-count → bad ≡ b → cond b 42 0 ≡ fault l x
+      pub not-right : (b : Bool) → x < l .answer-count → bad ≡ b → cond b refusals.bad-record 0 ≡ fault l x
       unfolding fault
       not-right b h e = rw (eq-eqb words 0 none, fits, lt-ltb x (l .answer-count) h, e) refl
 
@@ -73,7 +74,7 @@ module _ (l : Lent) (x : ℕ) where
   sane e = by (eqb words 0) over (ltb x (l .answer-count)) bad refl refl refl refl e
     where
       by : (a b c d : Bool) → eqb words 0 ≡ a → over ≡ b → ltb x (l .answer-count) ≡ c → bad ≡ d
-          → _≡_ {A = ℕ} (cond a (cond b 40 (cond (not c) 41 (cond d 42 0))) words) 0 → Sane
+          → _≡_ {A = ℕ} (cond a (cond b refusals.bad-record-count (cond (not c) refusals.no-record (cond d refusals.bad-record 0))) words) 0 → Sane
       by false b c d p q r s z = absurd (eqb-false words 0 p z)
       by true true c d p q r s z = absurd (omega arith)
       by true false false d p q r s z = absurd (omega arith)
@@ -98,18 +99,18 @@ module _ (l : Lent) (x : ℕ) where
 
   module _ (list : List ℕ) where
     pub refused : (f : ℕ) → f ≡ fault l x → f ≢ 0 → Answered l x list f 0 list
-    unfolding refusal-of count-of list-after
+    unfolding path-refusal state-count list-after
     refused f e n =
         let z : eqb (fault l x) 0 ≡ false = ne-eqb (fault l x) 0 (λ h. n (e ∙ h)) in
         record { the-refusal = rw z e; the-count = rw (z, z) refl; the-list = rw (z, z) refl }
 
     abbrev path : List ℕ
-    path = startAt (l .calls) (l .answers) x ∷ addedBy (l .rules) (l .goal) (l .calls) (l .answers) x
+    path = start-at (l .calls) (l .answers) x ∷ added-by (l .rules) (l .goal) (l .calls) (l .answers) x
 
     same : states-of l x ≡ path
     same = path-added (l .rules) (l .goal) (l .calls) (l .call-count) (l .answers) (l .answer-count) x
 
-    module _ (none : fault l x ≡ 0) (count : ℕ) (list′ : List ℕ) (listed : Listed path list count list′) where
+    module _ (none : fault l x ≡ 0) (count : ℕ) (list′ : List ℕ) (listed : PathListed path list count list′) where
       abbrev short : Bool
       short = ltb (length list) (length path)
 
@@ -117,20 +118,20 @@ module _ (l : Lent) (x : ℕ) where
       unfolding too-short
       short-is = rw same refl
 
-      refusal-is : (b : Bool) → short ≡ b → refusal-of l x list ≡ cond b 43 0
-      unfolding refusal-of
+      refusal-is : (b : Bool) → short ≡ b → path-refusal l x list ≡ cond b refusals.states-short 0
+      unfolding path-refusal
       refusal-is b e = rw (eq-eqb (fault l x) 0 none, short-is, e) refl
 
-      pub too-few : count ≡ 0 → Answered l x list 43 0 list′
-      unfolding count-of list-after
+      pub too-few : count ≡ 0 → Answered l x list refusals.states-short 0 list′
+      unfolding state-count list-after
       too-few z = by short refl
         where
-          by : (b : Bool) → short ≡ b → Answered l x list 43 0 list′
+          by : (b : Bool) → short ≡ b → Answered l x list refusals.states-short 0 list′
           by true e = record { the-refusal = sym (refusal-is true e); the-count = rw (refusal-is true e) refl; the-list = rw (refusal-is true e) (rw e at (listed .the-list)) }
           by false e = let n : count ≡ length path = rw e at (listed .the-count) in absurd (omega arith)
 
       pub listed-all : count ≢ 0 → Answered l x list 0 count list′
-      unfolding count-of list-after
+      unfolding state-count list-after
       listed-all n = by short refl
         where
           by : (b : Bool) → short ≡ b → Answered l x list 0 count list′
@@ -143,23 +144,23 @@ module _ (l : Lent) (x : ℕ) where
 
     -- what an evaluation leaves is never refused with 42
     pub never-42 : ((i : ℕ) → i < l .call-count → Proper (l .fluents) (l .actions) (call-records l) i)
-        → ((n : ℕ) → n < l .answer-count → justified (call-records l) (answer-records l) n (bodies l) ≡ true) → refusal-of l x list ≢ 42
-    unfolding refusal-of fault
+        → ((n : ℕ) → n < l .answer-count → justified (call-records l) (answer-records l) n (bodies l) ≡ true) → path-refusal l x list ≢ refusals.bad-record
+    unfolding path-refusal fault
     never-42 proper just e =
         by (eqb words 0) over (ltb x (l .answer-count)) (too-short l x list)
         (rw (never-bad (l .fluents) (l .actions) (bodies l) (call-records l) (answer-records l) proper just) at e)
       where
-        by : (w b c d : Bool) → cond (eqb (cond w (cond b 40 (cond (not c) 41 0)) words) 0) (cond d 43 0) (cond w (cond b 40 (cond (not c) 41 0)) words) ≡ 42 → ⊥
+        by : (w b c d : Bool) → cond (eqb (cond w (cond b refusals.bad-record-count (cond (not c) refusals.no-record 0)) words) 0) (cond d refusals.states-short 0) (cond w (cond b refusals.bad-record-count (cond (not c) refusals.no-record 0)) words) ≡ refusals.bad-record → ⊥
         by true true c d z = absurd (omega arith)
         by true false true true z = absurd (omega arith)
         by true false true false z = absurd (omega arith)
         by true false false d z = absurd (omega arith)
         by false b c d z = either (eqb words 0) z
           where
-            either : (w : Bool) → cond w (cond d 43 0) words ≡ 42 → ⊥
+            either : (w : Bool) → cond w (cond d refusals.states-short 0) words ≡ refusals.bad-record → ⊥
             either true k = or d k
               where
-                or : (d : Bool) → _≡_ {A = ℕ} (cond d 43 0) 42 → ⊥
+                or : (d : Bool) → _≡_ {A = ℕ} (cond d refusals.states-short 0) refusals.bad-record → ⊥
                 or true k = omega arith
                 or false k = omega arith
             either false k = words-not-42 (l .fluents) (l .actions) (l .rules) (l .goal) k

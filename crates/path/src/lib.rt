@@ -13,7 +13,7 @@ use checks::tables::bad_records;
 use checks::tables::over_room;
 use steps::accept::words_refusal;
 ghost use mathlib.Core.Path.{_≡_};
-ghost use Rattle.path.specs.Outcome.{fault, Answered};
+ghost use Rattle.path.specs.Outcome.{handed, fault, Answered};
 
 // The first of 20 to 23 and 40 to 42 that is met, or 0.
 fn fault<'a>(
@@ -27,17 +27,18 @@ fn fault<'a>(
     answer_count: u64,
     asked: u64,
 ) -> u64
-    ensures { λ r. ⌜ r ≡ fault record { fluents = fluents; actions = actions; rules = now (rules .entry); goal = now (goal .entry); calls = now (calls .entry); call-count = «call_count»; answers = now (answers .entry); answer-count = «answer_count» } asked ⌝ }
+    ensures { λ r. ⌜ r ≡ fault (handed fluents actions (now (rules .entry)) (now (goal .entry)) (now (calls .entry)) «call_count»
+        (now (answers .entry)) «answer_count») asked ⌝ }
 {
     let words = words_refusal(fluents, actions, rules, goal);
     if words != 0 {
         return words;
     }
     if over_room(calls, call_count, answers, answer_count) {
-        return 40;
+        return refusals::BAD_RECORD_COUNT;
     }
     if answer_count <= asked {
-        return 41;
+        return refusals::NO_RECORD;
     }
     if bad_records(
         fluents,
@@ -49,7 +50,7 @@ fn fault<'a>(
         answers,
         answer_count,
     ) {
-        return 42;
+        return refusals::BAD_RECORD;
     }
     0
 }
@@ -68,7 +69,9 @@ pub fn path<'a>(
     record: u64,
     states: &mut [u64],
 ) -> Path
-    ensures { λ r. ⌜ Answered record { fluents = fluents; actions = actions; rules = now (rules .entry); goal = now (goal .entry); calls = now (calls .entry); call-count = «call_count»; answers = now (answers .entry); answer-count = «answer_count» } «record» (now (states .entry)) (r .refusal) (r .states) (now (states .exit)) ⌝ }
+    ensures { λ r. ⌜ Answered (handed fluents actions (now (rules .entry)) (now (goal .entry)) (now (calls .entry)) «call_count»
+        (now (answers .entry)) «answer_count»)
+        «record» (now (states .entry)) (r .refusal) (r .states) (now (states .exit)) ⌝ }
 {
     let refused = fault(
         fluents,
@@ -90,7 +93,7 @@ pub fn path<'a>(
     let listed = list::list_states(rules, goal, calls, answers, record as usize, states);
     if listed == 0 {
         return Path {
-            refusal: 43,
+            refusal: refusals::STATES_SHORT,
             states: 0,
         };
     }

@@ -7,9 +7,9 @@ ghost use mathlib.Core.Path.{_≡_};
 ghost use mathlib.Core.List.{_∷_, _++_};
 ghost use Prim.Native.Nat.{suc, _+_, _<_};
 ghost use lib.ListN.{length, drop};
-ghost use Rattle.unfolding.proofs.Walk.{Checked, addedBy, startAt};
+ghost use Rattle.unfolding.proofs.Walk.{Checked, added-by, start-at};
 ghost use Rattle.unfolding.proofs.Sizes.{Sized};
-ghost use Rattle.unfolding.proofs.Writing.{Listed};
+ghost use Rattle.unfolding.proofs.Writing.{PathListed};
 
 // Lists the path of the asked record, which adds fewer states than the list has places.
 fn list_sized<'a>(
@@ -21,8 +21,12 @@ fn list_sized<'a>(
     sizes: &[usize],
     states: &mut [u64],
 )
-    requires { ⌜ Checked (now rules) (now goal) (now calls) (now answers) (asked + 1) × (asked < length (now sizes)) × (length (addedBy (now rules) (now goal) (now calls) (now answers) asked) < length (now states)) × Sized (addedBy (now rules) (now goal) (now calls) (now answers)) (now sizes) (asked + 1) (length (now states)) ⌝ }
-    ensures { λ _. ⌜ now (states .exit) ≡ (startAt (now (calls .entry)) (now (answers .entry)) asked ∷ addedBy (now (rules .entry)) (now (goal .entry)) (now (calls .entry)) (now (answers .entry)) asked) ++ drop (suc (length (addedBy (now (rules .entry)) (now (goal .entry)) (now (calls .entry)) (now (answers .entry)) asked))) (now (states .entry)) ⌝ }
+    requires { ⌜ Checked (now rules) (now goal) (now calls) (now answers) (asked + 1) × (asked < length (now sizes))
+        × (length (added-by (now rules) (now goal) (now calls) (now answers) asked) < length (now states))
+        × Sized (added-by (now rules) (now goal) (now calls) (now answers)) (now sizes) (asked + 1) (length (now states)) ⌝ }
+    ensures { λ _. ⌜ now (states .exit) ≡ (start-at (now (calls .entry)) (now (answers .entry)) asked ∷ added-by (now (rules .entry))
+        (now (goal .entry)) (now (calls .entry)) (now (answers .entry)) asked) ++ drop
+        (suc (length (added-by (now (rules .entry)) (now (goal .entry)) (now (calls .entry)) (now (answers .entry)) asked))) (now (states .entry)) ⌝ }
 {
     let mut offsets = [0usize; 65536];
     place_all(rules, goal, calls, answers, asked, sizes, &mut offsets);
@@ -40,7 +44,8 @@ pub fn list_states<'a>(
     states: &mut [u64],
 ) -> usize
     requires { ⌜ Checked (now rules) (now goal) (now calls) (now answers) (asked + 1) ⌝ }
-    ensures { λ r. ⌜ Listed (startAt (now (calls .entry)) (now (answers .entry)) asked ∷ addedBy (now (rules .entry)) (now (goal .entry)) (now (calls .entry)) (now (answers .entry)) asked) (now (states .entry)) r (now (states .exit)) ⌝ }
+    ensures { λ r. ⌜ PathListed (start-at (now (calls .entry)) (now (answers .entry)) asked ∷ added-by (now (rules .entry)) (now (goal .entry))
+        (now (calls .entry)) (now (answers .entry)) asked) (now (states .entry)) r (now (states .exit)) ⌝ }
 {
     let mut sizes = [0usize; 65536];
     let cap = states.len();

@@ -1,6 +1,8 @@
 // A place in the path for what each record used adds, from the asked record down. Place 0 is the call's state, so 0 says that there is none.
 use crate::walk::start;
+use crate::walk::steps_of;
 use crate::walk::take_step;
+use records::tables;
 use steps::word::is_call;
 ghost use mathlib.Core.Path.{_≡_};
 ghost use mathlib.Core.Bool.{true, cond};
@@ -8,7 +10,7 @@ ghost use mathlib.Core.List.{_∷_};
 ghost use Prim.Native.Nat.{_<_};
 ghost use lib.ListN.{length, set};
 ghost use Rattle.steps.specs.Words.{is-call};
-ghost use Rattle.unfolding.proofs.Walk.{addedBy, startAt, wordsAt};
+ghost use Rattle.unfolding.proofs.Walk.{added-by, start-at, words-at};
 ghost use Rattle.unfolding.proofs.Places.{Placing, Laying, Placeable, Laid};
 
 // Gives the record that a call uses its place.
@@ -32,15 +34,16 @@ fn place<'a>(
     offsets: &mut [usize],
 )
     requires { ⌜ Placing (now rules) (now goal) (now calls) (now answers) (now sizes) (now offsets) n ⌝ }
-    ensures { λ _. ⌜ Laying (now (rules .entry)) (now (goal .entry)) (now (calls .entry)) (now (answers .entry)) n (length (wordsAt (now (rules .entry)) (now (goal .entry)) (now (answers .entry)) n)) (now (offsets .entry)) (now (offsets .exit)) ⌝ }
+    ensures { λ _. ⌜ Laying (now (rules .entry)) (now (goal .entry)) (now (calls .entry)) (now (answers .entry)) n
+        (length (words-at (now (rules .entry)) (now (goal .entry)) (now (answers .entry)) n)) (now (offsets .entry)) (now (offsets .exit)) ⌝ }
 {
-    let steps = bodies::steps_of(rules, goal, answers[19 * n + 2]);
+    let steps = steps_of(rules, goal, answers, n);
     let mut state = start(calls, answers, n);
     let mut at = offsets[n];
     let mut q = 0;
     while q < steps.len() {
         let step = steps[q];
-        let used = answers[19 * n + 3 + q];
+        let used = tables::evidence_of(answers, n, q);
         let t = take_step(step, state, used, n, calls, answers, sizes);
         note(step, used, at, offsets);
         at += t.size;
@@ -60,7 +63,10 @@ pub fn place_all<'a>(
     offsets: &mut [usize],
 )
     requires { ⌜ Placeable (now rules) (now goal) (now calls) (now answers) (now sizes) (now offsets) asked ⌝ }
-    ensures { λ _. ⌜ (length (now (offsets .exit)) ≡ length (now (offsets .entry))) × Laid (now (rules .entry)) (now (goal .entry)) (now (calls .entry)) (now (answers .entry)) asked 0 (startAt (now (calls .entry)) (now (answers .entry)) asked ∷ addedBy (now (rules .entry)) (now (goal .entry)) (now (calls .entry)) (now (answers .entry)) asked) (now (offsets .exit)) ⌝ }
+    ensures { λ _. ⌜ (length (now (offsets .exit)) ≡ length (now (offsets .entry)))
+        × Laid (now (rules .entry)) (now (goal .entry)) (now (calls .entry)) (now (answers .entry)) asked 0
+        (start-at (now (calls .entry)) (now (answers .entry)) asked ∷ added-by (now (rules .entry)) (now (goal .entry)) (now (calls .entry))
+        (now (answers .entry)) asked) (now (offsets .exit)) ⌝ }
 {
     offsets[asked] = 1;
     let mut n = asked + 1;

@@ -1,10 +1,12 @@
 // How many states each record adds, counted up to a cap: few records may add more than 64 bits can count.
 use crate::walk::start;
+use crate::walk::steps_of;
 use crate::walk::take_step;
+use records::tables;
 ghost use mathlib.Core.Path.{_≡_};
 ghost use Prim.Native.Nat.{_+_, _≤_, _<_, _^_, min};
 ghost use lib.ListN.{length};
-ghost use Rattle.unfolding.proofs.Walk.{Checked, addedBy};
+ghost use Rattle.unfolding.proofs.Walk.{Checked, added-by};
 ghost use Rattle.unfolding.proofs.Sizes.{Sized};
 
 // The sum, or the cap where it is larger.
@@ -26,10 +28,11 @@ fn size<'a>(
     sizes: &[usize],
     cap: usize,
 ) -> usize
-    requires { ⌜ Checked (now rules) (now goal) (now calls) (now answers) (n + 1) × (n ≤ length (now sizes)) × (cap < 2 ^ 61) × Sized (addedBy (now rules) (now goal) (now calls) (now answers)) (now sizes) n cap ⌝ }
-    ensures { λ r. ⌜ r ≡ min cap (length (addedBy (now (rules .entry)) (now (goal .entry)) (now (calls .entry)) (now (answers .entry)) n)) ⌝ }
+    requires { ⌜ Checked (now rules) (now goal) (now calls) (now answers) (n + 1) × (n ≤ length (now sizes)) × (cap < 2 ^ 61)
+        × Sized (added-by (now rules) (now goal) (now calls) (now answers)) (now sizes) n cap ⌝ }
+    ensures { λ r. ⌜ r ≡ min cap (length (added-by (now (rules .entry)) (now (goal .entry)) (now (calls .entry)) (now (answers .entry)) n)) ⌝ }
 {
-    let steps = bodies::steps_of(rules, goal, answers[19 * n + 2]);
+    let steps = steps_of(rules, goal, answers, n);
     let mut state = start(calls, answers, n);
     let mut sum = 0;
     let mut q = 0;
@@ -37,7 +40,7 @@ fn size<'a>(
         let t = take_step(
             steps[q],
             state,
-            answers[19 * n + 3 + q],
+            tables::evidence_of(answers, n, q),
             n,
             calls,
             answers,
@@ -61,7 +64,8 @@ pub fn size_all<'a>(
     sizes: &mut [usize],
 )
     requires { ⌜ Checked (now rules) (now goal) (now calls) (now answers) count × (count ≤ length (now sizes)) × (cap < 2 ^ 61) ⌝ }
-    ensures { λ _. ⌜ (length (now (sizes .exit)) ≡ length (now (sizes .entry))) × Sized (addedBy (now (rules .entry)) (now (goal .entry)) (now (calls .entry)) (now (answers .entry))) (now (sizes .exit)) count cap ⌝ }
+    ensures { λ _. ⌜ (length (now (sizes .exit)) ≡ length (now (sizes .entry)))
+        × Sized (added-by (now (rules .entry)) (now (goal .entry)) (now (calls .entry)) (now (answers .entry))) (now (sizes .exit)) count cap ⌝ }
 {
     let mut n = 0;
     while n < count {

@@ -1,15 +1,18 @@
 // One step of the walk of a checked record.
 use checks::follow::follow;
+use records::bodies;
+use records::tables;
 use steps::state::State;
 use steps::word::Next;
 use steps::word::is_call;
 ghost use mathlib.Core.Path.{_≡_};
+ghost use mathlib.Core.List.{List};
 ghost use Prim.Native.Nat.{ℕ, _+_, _≤_};
 ghost use lib.ListN.{length};
 ghost use Rattle.steps.specs.Words.{step-of};
 ghost use Rattle.checks.specs.Readable.{Readable};
 ghost use Rattle.unfolding.specs.Path.{shown};
-ghost use Rattle.unfolding.proofs.Walk.{LeadsTo, startAt};
+ghost use Rattle.unfolding.proofs.Walk.{Checked, LeadsTo, start-at, words-at};
 ghost use Rattle.unfolding.proofs.Sizes.{Turned};
 
 // The state that a step leads to, and how many states it adds to the path.
@@ -21,10 +24,17 @@ pub struct Turn {
 // The state of record n's call.
 pub fn start(calls: &[u64], answers: &[u64], n: usize) -> u64
     requires { ⌜ Readable (now calls) (now answers) (n + 1) ⌝ }
-    ensures { λ s. ⌜ s ≡ startAt (now (calls .entry)) (now (answers .entry)) n ⌝ }
+    ensures { λ s. ⌜ s ≡ start-at (now (calls .entry)) (now (answers .entry)) n ⌝ }
 {
-    let call = answers[19 * n] as usize;
-    calls[2 * call + 1]
+    tables::state_of(calls, tables::call_of(answers, n) as usize).0
+}
+
+// The step words of record n.
+pub fn steps_of<'a>(rules: &'a [u16], goal: &'a [u16], answers: &[u64], n: usize) -> &'a [u16]
+    requires { ⌜ ((calls : List ℕ) × Checked (now rules) (now goal) calls (now answers) (n + 1)) ⌝ }
+    ensures { λ b. ⌜ (now b ≡ words-at (now (rules .entry)) (now (goal .entry)) (now (answers .entry)) n) × (length (now b) ≤ 16) ⌝ }
+{
+    bodies::steps_of(rules, goal, tables::rule_of(answers, n))
 }
 
 // How many states an elementary step adds: an insert and a delete one each, any other none.
@@ -57,7 +67,8 @@ pub fn take_step(
     answers: &[u64],
     sizes: &[usize],
 ) -> Turn
-    requires { ⌜ Readable (now calls) (now answers) n × (n ≤ length (now sizes)) × ((t : ℕ) × LeadsTo (now calls) (now answers) n step state evidence t) ⌝ }
+    requires { ⌜ Readable (now calls) (now answers) n × (n ≤ length (now sizes))
+        × ((t : ℕ) × LeadsTo (now calls) (now answers) n step state evidence t) ⌝ }
     ensures { λ r. ⌜ Turned (now (calls .entry)) (now (answers .entry)) (now (sizes .entry)) n step state evidence (r .state) (r .size) ⌝ }
 {
     let next = after(step, state, evidence, n, calls, answers);

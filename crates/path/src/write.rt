@@ -1,13 +1,15 @@
 // The states of the records that have places, from the first record up: a call's states are copied from the place of the record that it uses.
 use crate::walk::start;
+use crate::walk::steps_of;
 use crate::walk::take_step;
+use records::tables;
 use steps::word::is_call;
 ghost use mathlib.Core.Path.{_≡_};
 ghost use mathlib.Core.Bool.{true};
 ghost use Prim.Native.Nat.{_+_, _≤_, _<_};
 ghost use lib.ListN.{length, getD};
 ghost use Rattle.steps.specs.Words.{is-call};
-ghost use Rattle.unfolding.proofs.Walk.{addedBy};
+ghost use Rattle.unfolding.proofs.Walk.{added-by};
 ghost use Rattle.unfolding.proofs.Lies.{Copied};
 ghost use Rattle.unfolding.proofs.Writing.{Stepped, Ready, Wrote, Written, Writable};
 
@@ -51,15 +53,17 @@ fn write<'a>(
     list: &mut [u64],
 )
     requires { ⌜ Ready (now rules) (now goal) (now calls) (now answers) (now sizes) (now offsets) n (now list) ⌝ }
-    ensures { λ _. ⌜ Wrote (now (rules .entry)) (now (goal .entry)) (now (calls .entry)) (now (answers .entry)) (now (offsets .entry)) n (getD (now (offsets .entry)) n 0 + length (addedBy (now (rules .entry)) (now (goal .entry)) (now (calls .entry)) (now (answers .entry)) n)) (now (list .entry)) (now (list .exit)) ⌝ }
+    ensures { λ _. ⌜ Wrote (now (rules .entry)) (now (goal .entry)) (now (calls .entry)) (now (answers .entry)) (now (offsets .entry)) n
+        (getD (now (offsets .entry)) n 0 + length (added-by (now (rules .entry)) (now (goal .entry)) (now (calls .entry)) (now (answers .entry)) n))
+        (now (list .entry)) (now (list .exit)) ⌝ }
 {
-    let steps = bodies::steps_of(rules, goal, answers[19 * n + 2]);
+    let steps = steps_of(rules, goal, answers, n);
     let mut state = start(calls, answers, n);
     let mut at = offsets[n];
     let mut q = 0;
     while q < steps.len() {
         let step = steps[q];
-        let used = answers[19 * n + 3 + q];
+        let used = tables::evidence_of(answers, n, q);
         let t = take_step(step, state, used, n, calls, answers, sizes);
         write_step(step, offsets[used as usize], at, t.size, t.state, list);
         at += t.size;
@@ -80,7 +84,8 @@ pub fn write_all<'a>(
     list: &mut [u64],
 )
     requires { ⌜ Writable (now rules) (now goal) (now calls) (now answers) (now sizes) (now offsets) asked (now list) ⌝ }
-    ensures { λ _. ⌜ Written (now (rules .entry)) (now (goal .entry)) (now (calls .entry)) (now (answers .entry)) (now (offsets .entry)) (asked + 1) (now (list .entry)) (now (list .exit)) ⌝ }
+    ensures { λ _. ⌜ Written (now (rules .entry)) (now (goal .entry)) (now (calls .entry)) (now (answers .entry)) (now (offsets .entry)) (asked + 1)
+        (now (list .entry)) (now (list .exit)) ⌝ }
 {
     let mut n = 0;
     while n <= asked {

@@ -8,66 +8,67 @@ use lib.Seq.{take-at, take-append-seam}
 use borrow.Author.Tests.{le-ltb}
 use Rattle.sheet.specs.declared.Sheet.{Sheet}
 use Rattle.sheet.specs.Book.{Book, joined, padded}
-use Rattle.sheet.specs.Reader.{Outcome, readSheet, refused, written}
-use Rattle.sheet.specs.Result.{resultOf, rulesAfter, accepted}
+use Rattle.sheet.specs.Reader.{Outcome, read-sheet, refused, written}
+use Rattle.sheet.specs.Result.{result-of, rules-after, accepted}
 use Rattle.sheet.specs.Result as result
 use Rattle.sheet.proofs.Valid.{Valid}
 use Rattle.sheet.proofs.ValidSheets.{sheet-valid}
 use Rattle.sheet.proofs.Acceptance.{words-count}
 use Rattle.sheet.proofs.RefusalNumbers.{unrefused}
 use Rattle.evaluator.specs.Evaluated.{asked}
+use Rattle.steps.specs.Words.{rule-width}
 use Rattle.rehearsal.specs.Rehearsed.{asked-by}
 
 -- an accepted sheet: the result is its book's, and the list lent begins with its rule words
 pub record Read (s after : List ℕ) (r : Sheet) : Type 0 where
   pub book : Book
-  pub is : readSheet s ≡ written book
+  pub is : read-sheet s ≡ written book
   pub valid : Valid book
   pub gives : r ≡ accepted book
-  pub words : take (18 * length (book .rules)) after ≡ joined (book .rules)
-  pub long : 18 * length (book .rules) ≤ length after
+  pub words : take (rule-width * length (book .rules)) after ≡ joined (book .rules)
+  pub long : rule-width * length (book .rules) ≤ length after
 
 module _ (s lent : List ℕ) (long : length lent ≡ 4608) where
-  module _ (b : Book) (e : readSheet s ≡ written b) where
+  module _ (b : Book) (e : read-sheet s ≡ written b) where
     valid-book : Valid b
     valid-book = sheet-valid s b e
 
-    room : 18 * length (b .rules) ≤ length lent
+    room : rule-width * length (b .rules) ≤ length lent
     room = let f = valid-book .few-rules in omega arith
 
-    result-is : resultOf (length lent) (readSheet s) ≡ accepted b
-    unfolding resultOf
-    result-is = ap (resultOf (length lent)) e ∙ rw (le-ltb (length lent) (18 * length (b .rules)) room)
+    result-is : result-of (length lent) (read-sheet s) ≡ accepted b
+    unfolding result-of
+    result-is = ap (result-of (length lent)) e ∙ rw (le-ltb (length lent) (rule-width * length (b .rules)) room)
 
-    rules-are : rulesAfter lent (readSheet s) ≡ joined (b .rules) ++ drop (18 * length (b .rules)) lent
-    unfolding rulesAfter
-    rules-are = ap (rulesAfter lent) e ∙ rw (le-ltb (length lent) (18 * length (b .rules)) room)
+    rules-are : rules-after lent (read-sheet s) ≡ joined (b .rules) ++ drop (rule-width * length (b .rules)) lent
+    unfolding rules-after
+    rules-are = ap (rules-after lent) e ∙ rw (le-ltb (length lent) (rule-width * length (b .rules)) room)
 
-    rules-long : (after : List ℕ) → after ≡ rulesAfter lent (readSheet s) → 18 * length (b .rules) ≤ length after
+    rules-long : (after : List ℕ) → after ≡ rules-after lent (read-sheet s) → rule-width * length (b .rules) ≤ length after
     rules-long after w =
         let n = words-count b valid-book in
-        let l = ap length (w ∙ rules-are) ∙ length-append (joined (b .rules)) (drop (18 * length (b .rules)) lent) in
+        let l = ap length (w ∙ rules-are) ∙ length-append (joined (b .rules)) (drop (rule-width * length (b .rules)) lent) in
         omega arith
 
-  pub read-accepted : (after : List ℕ) (r : Sheet) → r ≡ resultOf (length lent) (readSheet s) → after ≡ rulesAfter lent (readSheet s) → r .refusal ≡ 0 → Read s after r
+  pub read-accepted : (after : List ℕ) (r : Sheet) → r ≡ result-of (length lent) (read-sheet s) → after ≡ rules-after lent (read-sheet s) → r .refusal ≡ 0 → Read s after r
   read-accepted after r g w z = by (unrefused s (length lent) (sym (ap (λ (x : Sheet). x .refusal) g) ∙ z))
     where
-      by : (b : Book) × (readSheet s ≡ written b) × (18 * length (b .rules) ≤ length lent) → Read s after r
+      by : (b : Book) × (read-sheet s ≡ written b) × (rule-width * length (b .rules) ≤ length lent) → Read s after r
       by (b, e, h) = record {
         book = b;
         is = e;
         valid = valid-book b e;
         gives = g ∙ result-is b e;
-        words = ap (take (18 * length (b .rules))) (w ∙ rules-are b e) ∙ take-at (joined (b .rules)) (drop (18 * length (b .rules)) lent) (18 * length (b .rules)) (words-count b (valid-book b e));
+        words = ap (take (rule-width * length (b .rules))) (w ∙ rules-are b e) ∙ take-at (joined (b .rules)) (drop (rule-width * length (b .rules)) lent) (rule-width * length (b .rules)) (words-count b (valid-book b e));
         long = rules-long b e after w;
       }
 
-  pub read-refused : (r : Sheet) → r ≡ resultOf (length lent) (readSheet s) → (r .refusal ≡ 0 → ⊥) → (number : ℕ) × (line : ℕ) × (readSheet s ≡ refused number line) × (r ≡ result.refusal number line)
-  unfolding resultOf
-  read-refused r g n = by (readSheet s) refl
+  pub read-refused : (r : Sheet) → r ≡ result-of (length lent) (read-sheet s) → (r .refusal ≡ 0 → ⊥) → (number : ℕ) × (line : ℕ) × (read-sheet s ≡ refused number line) × (r ≡ result.refusal number line)
+  unfolding result-of
+  read-refused r g n = by (read-sheet s) refl
     where
-      by : (o : Outcome) → readSheet s ≡ o → (number : ℕ) × (line : ℕ) × (readSheet s ≡ refused number line) × (r ≡ result.refusal number line)
-      by (refused k i) e = (k, i, e, g ∙ ap (resultOf (length lent)) e)
+      by : (o : Outcome) → read-sheet s ≡ o → (number : ℕ) × (line : ℕ) × (read-sheet s ≡ refused number line) × (r ≡ result.refusal number line)
+      by (refused k i) e = (k, i, e, g ∙ ap (result-of (length lent)) e)
       by (written b) e = absurd (n (ap (λ (x : Sheet). x .refusal) (g ∙ result-is b e)))
 
 -- what an accepted sheet gives, as the result says it
@@ -75,7 +76,7 @@ module _ {s after : List ℕ} {r : Sheet} (R : Read s after r) where
   pub few-rules : r .rules ≤ 256
   few-rules = let e = ap (λ (x : Sheet). x .rules) (R .gives) in let f = R .valid .few-rules in omega arith
 
-  pub rules-fit : 18 * r .rules ≤ length after
+  pub rules-fit : rule-width * r .rules ≤ length after
   rules-fit = let e = ap (λ (x : Sheet). x .rules) (R .gives) in let f = R .long in omega arith
 
   pub goal-fits : r .«goal_len» ≤ length (r .goal)
@@ -88,7 +89,7 @@ module _ {s after : List ℕ} {r : Sheet} (R : Read s after r) where
   goal-words = take-append-seam (R .book .goal) (replicate (16 - length (R .book .goal)) 0)
 
   -- it is what the book asks of the evaluator
-  pub asks : asked (r .fluents) (r .actions) (take (18 * r .rules) after) (take (r .«goal_len») (r .goal)) (r .start) ≡ asked-by (R .book)
+  pub asks : asked (r .fluents) (r .actions) (take (rule-width * r .rules) after) (take (r .«goal_len») (r .goal)) (r .start) ≡ asked-by (R .book)
   asks =
-      ap (λ (x : Sheet). asked (x .fluents) (x .actions) (take (18 * x .rules) after) (take (x .«goal_len») (x .goal)) (x .start)) (R .gives)
+      ap (λ (x : Sheet). asked (x .fluents) (x .actions) (take (rule-width * x .rules) after) (take (x .«goal_len») (x .goal)) (x .start)) (R .gives)
       ∙ rw (R .words, goal-words)

@@ -4,7 +4,7 @@ use mathlib.Core.Path.{_≡_}
 use mathlib.Core.List.{List}
 use lib.ListN.{length, replicate}
 use Rattle.sheet.specs.Book.{Book, joined}
-use Rattle.sheet.specs.Reader.{readSheet, refused, written}
+use Rattle.sheet.specs.Reader.{read-sheet, refused, written}
 use Rattle.evaluator.specs.Evaluated.{Evaluated, Asked, asked, lent, told}
 use Rattle.rehearsal.specs.declared.Rehearsal.{Rehearsal}
 
@@ -18,8 +18,9 @@ asked-by b = asked (length (b .names .fluents)) (length (b .names .actions)) (jo
 
 pub data Rehearsed (sheet before after : List ℕ) (r : Rehearsal) : Type 0 where
   -- 10 to 18: the list unchanged.
-  not-read : (number line : ℕ) → readSheet sheet ≡ refused number line → r ≡ refusal number line → after ≡ before → Rehearsed sheet before after r
+  not-read : (number line : ℕ) → read-sheet sheet ≡ refused number line → r ≡ refusal number line → after ≡ before → Rehearsed sheet before after r
   -- The book's goal evaluated in rooms of 512 calls and 256 answers, both tables 0 at first; no line.
-  evaluated : (b : Book) (calls answers : List ℕ) → readSheet sheet ≡ written b → r .line ≡ 0
-      → Evaluated (asked-by b) (lent (replicate 1024 0) (replicate 4864 0) before) (lent calls answers after) (told (r .refusal) (r .ends) (r .calls) (r .answers))
+  evaluated : (b : Book) (calls answers : List ℕ) → read-sheet sheet ≡ written b → r .line ≡ 0
+      → Evaluated (asked-by b) (lent (replicate 1024 0) (replicate 4864 0) before) (lent calls answers after)
+      (told (r .refusal) (r .ends) (r .calls) (r .answers))
       → Rehearsed sheet before after r

@@ -28,7 +28,7 @@ pub fn rehearse(text: &[u8], ends: &mut [u64]) -> Rehearsal
     let mut calls = [0u64; 1024];
     let mut answers = [0u64; 4864];
     let goal = read.goal;
-    let used = 18 * read.rules as usize;
+    let used = steps::word::RULE_WORDS * read.rules as usize;
     let steps = read.goal_len as usize;
     let run = evaluator::evaluate(
         read.fluents,

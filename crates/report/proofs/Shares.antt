@@ -11,8 +11,9 @@ use lib.ListN.{length, getD, take, drop, length-append}
 use lib.Pow.{split, pow-pos, pow-mono}
 use lib.Seq.{take-at, drop-at}
 use borrow.Author.Tests.{eqb-true, ltb-false, not-true, not-false}
+use Rattle.refusals.specs.Refusals as refusals
 use Rattle.steps.specs.State.{State, bit}
-use Rattle.steps.specs.Acceptance.{bad-start}
+use Rattle.steps.specs.Acceptance.{bad-state}
 use Rattle.steps.proofs.EachBelow.{each-at}
 use Rattle.report.specs.Fraction.{fraction}
 use Rattle.report.specs.Figures.{sum-below, holding, held, all-held, runs, fractions, report-of}
@@ -28,8 +29,8 @@ pass : (t : Bool) (k n : ℕ) → 0 < k → cond t k n ≡ 0 → (t ≡ false) �
 pass true k n p e = absurd (omega arith)
 pass false k n p e = (refl, e)
 
-below : (fluents s : ℕ) → bad-start fluents s ≡ false → s < 2 ^ fluents
-unfolding bad-start
+below : (fluents s : ℕ) → bad-state fluents s ≡ false → s < 2 ^ fluents
+unfolding bad-state
 below fluents s e =
     let z : s / 2 ^ fluents ≡ 0 = eqb-true _ _ (not-false _ e) in
     omega (arith, rw z at (split s fluents), mod-lt s (pow-pos fluents))
@@ -43,9 +44,9 @@ module _ (fluents : ℕ) (results : List ℕ) (ends : List State) (room : ℕ) w
       → (fluents ≤ 64) × (bad-starts results (length ends) ≡ false) × (bad-ends fluents ends ≡ false) × (2 * fluents + 4 ≤ room)
   unfolding refusal
   unrefused-then e =
-      let p20 = pass (ltb 64 fluents) 20 _ (omega arith) e in
-      let p26 = pass (bad-starts results (length ends) || bad-ends fluents ends) 26 _ (omega arith) (p20 .1) in
-      let p27 = pass (ltb room (2 * fluents + 4)) 27 0 (omega arith) (p26 .1) in
+      let p20 = pass (ltb 64 fluents) refusals.bad-counts _ (omega arith) e in
+      let p26 = pass (bad-starts results (length ends) || bad-ends fluents ends) refusals.bad-results _ (omega arith) (p20 .1) in
+      let p27 = pass (ltb room (2 * fluents + 4)) refusals.report-short 0 (omega arith) (p26 .1) in
       let (starts, good) = or-false _ _ (p26 .0) in
       (ltb-false _ _ (p20 .0), starts, good, ltb-false _ _ (p27 .0))
 

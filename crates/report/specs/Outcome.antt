@@ -4,8 +4,9 @@ use mathlib.Core.Bool.{Bool, cond, not, _||_}
 use mathlib.Core.List.{List, _++_}
 use lib.ListN.{getD, length, drop}
 use lib.Dec.{eqb, ltb}
+use Rattle.refusals.specs.Refusals as refusals
 use Rattle.steps.specs.State.{State}
-use Rattle.steps.specs.Acceptance.{each-below, bad-start}
+use Rattle.steps.specs.Acceptance.{each-below, bad-state}
 use Rattle.report.specs.Figures.{starts, unrefused, ends-of, all-ends, report-of}
 
 -- "Result words that are not 4 for each of at most 1,024 starts"
@@ -26,15 +27,15 @@ bad-starts results lent = bad-words results || too-many results || bad-sum resul
 
 -- "an end with a bit at or above the fluent count"
 unfoldable pub bad-ends : (fluents : ℕ) → List State → Bool
-bad-ends fluents ends = not (each-below (length ends) (λ i. not (bad-start fluents (getD ends i 0))))
+bad-ends fluents ends = not (each-below (length ends) (λ i. not (bad-state fluents (getD ends i 0))))
 
 -- "20 for the fluent count, then 26, then 27": 26 is met in the results or in the ends, and 27 is "output room under 2 words for each
 -- fluent and 4 more".
 unfoldable pub refusal : (fluents : ℕ) (results : List ℕ) → List State → (room : ℕ) → ℕ
 refusal fluents results ends room =
-    cond (ltb 64 fluents) 20
-    (cond (bad-starts results (length ends) || bad-ends fluents ends) 26
-    (cond (ltb room (2 * fluents + 4)) 27
+    cond (ltb 64 fluents) refusals.bad-counts
+    (cond (bad-starts results (length ends) || bad-ends fluents ends) refusals.bad-results
+    (cond (ltb room (2 * fluents + 4)) refusals.report-short
     0))
 
 -- The output: the figures, and "the output past them is unchanged"; all of it unchanged where refused.

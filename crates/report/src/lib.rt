@@ -2,7 +2,6 @@
 // an end, and the mean ends per unrefused start, as exact fractions in lowest terms.
 //
 // One pass over the results counts the unrefused starts, one over the ends counts them by fluent; Euclid's steps reduce each fraction.
-use steps::accept::BAD_COUNTS;
 ghost use mathlib.Core.Path.{_≡_};
 ghost use mathlib.Core.List.{[], _∷_, _++_};
 ghost use Prim.Native.Nat.{ℕ, _+_, _*_, _/_, _<_, _≤_, _^_};
@@ -12,11 +11,6 @@ ghost use Rattle.report.specs.Fraction.{common, fraction};
 ghost use Rattle.report.specs.Figures.{fractions};
 ghost use Rattle.report.specs.Outcome.{refusal, output-after};
 ghost use Rattle.report.specs.Passes.{Started, Tallied};
-
-// The refusals that are met here alone.
-pub const BAD_RESULTS: u64 = 26;
-
-pub const REPORT_SHORT: u64 = 27;
 
 // What the results say: whether they are refused, and if not, how many starts are unrefused.
 struct Starts {
@@ -42,19 +36,19 @@ pub fn report(fluents: u64, results: &[u64], ends: &[u64], out: &mut [u64]) -> u
     ensures { λ _. ⌜ now (out .exit) ≡ output-after fluents (now (results .entry)) (now (ends .entry)) (now (out .entry)) ⌝ }
 {
     if 64 < fluents {
-        return BAD_COUNTS;
+        return refusals::BAD_COUNTS;
     }
     let started = check_starts(results, ends.len());
     if started.bad {
-        return BAD_RESULTS;
+        return refusals::BAD_RESULTS;
     }
     let mut counts = [0u64; 64];
     let held = tally(fluents, ends, &mut counts);
     if held.bad {
-        return BAD_RESULTS;
+        return refusals::BAD_RESULTS;
     }
     if (out.len() as u64) < 2 * fluents + 4 {
-        return REPORT_SHORT;
+        return refusals::REPORT_SHORT;
     }
     let lent = ends.len() as u64;
     write_figures(fluents as usize, &counts, held.sum, lent, started.runs, out);

@@ -9,10 +9,10 @@ use native.Mathlib.Decide.{decLt}
 use lib.ListN.{length, getD, replicate, length-append, length-replicate, getD-replicate, List·getD-append}
 use lib.Seq.{getD-append-add}
 use borrow.Author.Tests.{lt-ltb, le-ltb, eq-eqb}
-use Rattle.steps.specs.Words.{head-of, count-of}
-use Rattle.steps.specs.Acceptance.{good-word, good-rule, bad-counts, bad-length, bad-rules, bad-goal, bad-start, words-refusal, refusal-of}
-use Rattle.sheet.specs.Book.{Book, padded, ruleWords, joined}
-use Rattle.sheet.specs.Reader.{readSheet, written}
+use Rattle.steps.specs.Words.{head-of, count-of, rule-width}
+use Rattle.steps.specs.Acceptance.{good-word, good-rule, bad-counts, bad-length, bad-rules, bad-goal, bad-state, words-refusal, refusal-of}
+use Rattle.sheet.specs.Book.{Book, padded, rule-words, joined}
+use Rattle.sheet.specs.Reader.{read-sheet, written}
 use Rattle.steps.proofs.EachBelow.{each-all}
 use Rattle.sheet.proofs.Valid.{Valid, GoodSteps}
 use Rattle.sheet.proofs.ValidSheets.{sheet-valid}
@@ -23,11 +23,11 @@ padded-length ws h =
     let b = length-replicate {A = ℕ} (16 - length ws) 0 in
     omega arith
 
--- rules of 18 words each, one after the other
+-- rules of rule-width words each, one after the other
 abbrev pub Rows : List (List ℕ) → Type 0
-Rows rs = (i : ℕ) → i < length rs → length (getD rs i []) ≡ 18
+Rows rs = (i : ℕ) → i < length rs → length (getD rs i []) ≡ rule-width
 
-joined-length : (rs : List (List ℕ)) → Rows rs → length (joined rs) ≡ 18 * length rs
+joined-length : (rs : List (List ℕ)) → Rows rs → length (joined rs) ≡ rule-width * length rs
 joined-length [] h = refl
 joined-length (r ∷ rs) h =
     let a = length-append r (joined rs) in
@@ -35,16 +35,16 @@ joined-length (r ∷ rs) h =
     let c = joined-length rs (λ i l. h (suc i) (omega arith)) in
     omega arith
 
-joined-at : (rs : List (List ℕ)) → Rows rs → (r j : ℕ) → r < length rs → j < 18 → getD (joined rs) (18 * r + j) 0 ≡ getD (getD rs r []) j 0
+joined-at : (rs : List (List ℕ)) → Rows rs → (r j : ℕ) → r < length rs → j < rule-width → getD (joined rs) (rule-width * r + j) 0 ≡ getD (getD rs r []) j 0
 joined-at [] h r j l m = absurd (omega arith)
 joined-at (x ∷ rs) h zero j l m =
     let b = h 0 (omega arith) in
-    let e : 18 * 0 + j ≡ j = omega arith in
+    let e : rule-width * 0 + j ≡ j = omega arith in
     rw e (List·getD-append x (joined rs) 0 j (omega arith))
 joined-at (x ∷ rs) h (suc r) j l m =
     let b = h 0 (omega arith) in
-    let e : 18 * suc r + j ≡ length x + (18 * r + j) = omega arith in
-    rw e (getD-append-add x (joined rs) (18 * r + j) 0 ∙ joined-at rs (λ i k. h (suc i) (omega arith)) r j (omega arith) m)
+    let e : rule-width * suc r + j ≡ length x + (rule-width * r + j) = omega arith in
+    rw e (getD-append-add x (joined rs) (rule-width * r + j) 0 ∙ joined-at rs (λ i k. h (suc i) (omega arith)) r j (omega arith) m)
 
 -- a step word of a rule, used or not
 module _ (f a : ℕ) (ws : List ℕ) (g : GoodSteps f a ws) where
@@ -73,25 +73,25 @@ module _ (b : Book) (v : Valid b) where
       let p = padded-length (g .steps) (g .good .few) in
       ap length (g .is) ∙ ap (λ (n : ℕ). suc (suc n)) p
 
-  pub words-count : length (joined (b .rules)) ≡ 18 * length (b .rules)
+  pub words-count : length (joined (b .rules)) ≡ rule-width * length (b .rules)
   words-count = joined-length (b .rules) rows
 
-  row-at : (r j : ℕ) (l : r < length (b .rules)) → j < 18 → getD (joined (b .rules)) (18 * r + j) 0 ≡ getD (ruleWords (v .rules r l .head) (v .rules r l .steps)) j 0
+  row-at : (r j : ℕ) (l : r < length (b .rules)) → j < rule-width → getD (joined (b .rules)) (rule-width * r + j) 0 ≡ getD (rule-words (v .rules r l .head) (v .rules r l .steps)) j 0
   row-at r j l m = joined-at (b .rules) rows r j l m ∙ ap (λ (x : List ℕ). getD x j 0) (v .rules r l .is)
 
   rule-good : (r : ℕ) → r < length (b .rules) → good-rule fluents actions (joined (b .rules)) r ≡ true
   unfolding good-rule
   rule-good r l =
       let g = v .rules r l in
-      let z : 18 * r + 0 ≡ 18 * r = omega arith in
+      let z : rule-width * r + 0 ≡ rule-width * r = omega arith in
       let h : head-of (joined (b .rules)) r ≡ g .head = ap (λ (i : ℕ). getD (joined (b .rules)) i 0) (sym z) ∙ row-at r 0 l (omega arith) in
       let n : count-of (joined (b .rules)) r ≡ length (g .steps) = row-at r 1 l (omega arith) in
       let few = g .good .few in
       rw (h, n, lt-ltb (g .head) actions (g .action), lt-ltb (length (g .steps)) 17 (omega arith)) (each-all _ 16 (word r l))
     where
-      word : (r : ℕ) (l : r < length (b .rules)) (i : ℕ) → i < 16 → good-word fluents actions (length (v .rules r l .steps)) i (getD (joined (b .rules)) (18 * r + 2 + i) 0) ≡ true
+      word : (r : ℕ) (l : r < length (b .rules)) (i : ℕ) → i < 16 → good-word fluents actions (length (v .rules r l .steps)) i (getD (joined (b .rules)) (rule-width * r + 2 + i) 0) ≡ true
       word r l i m =
-          let e : 18 * r + 2 + i ≡ 18 * r + suc (suc i) = omega arith in
+          let e : rule-width * r + 2 + i ≡ rule-width * r + suc (suc i) = omega arith in
           let x = ap (λ (j : ℕ). getD (joined (b .rules)) j 0) e ∙ row-at r (suc (suc i)) l (omega arith) in
           rw x (word-at fluents actions (v .rules r l .steps) (v .rules r l .good) i m)
 
@@ -99,15 +99,15 @@ module _ (b : Book) (v : Valid b) where
   unfolding bad-counts
   counts-good = rw (le-ltb 64 fluents (v .few-fluents), le-ltb 64 actions (v .few-actions))
 
-  number : length (joined (b .rules)) / 18 ≡ length (b .rules)
+  number : length (joined (b .rules)) / rule-width ≡ length (b .rules)
   number = let s = words-count in omega arith
 
   length-good : bad-length (joined (b .rules)) ≡ false
   unfolding bad-length
   length-good =
       let s = words-count in
-      let m : length (joined (b .rules)) % 18 ≡ 0 = omega arith in
-      rw (eq-eqb (length (joined (b .rules)) % 18) 0 m, number, le-ltb 256 (length (b .rules)) (v .few-rules))
+      let m : length (joined (b .rules)) % rule-width ≡ 0 = omega arith in
+      rw (eq-eqb (length (joined (b .rules)) % rule-width) 0 m, number, le-ltb 256 (length (b .rules)) (v .few-rules))
 
   rules-good : bad-rules fluents actions (joined (b .rules)) ≡ false
   unfolding bad-rules
@@ -117,8 +117,8 @@ module _ (b : Book) (v : Valid b) where
   unfolding bad-goal
   goal-good = rw (le-ltb 16 (length (b .goal)) (v .goal .few), each-all _ (length (b .goal)) (v .goal .each))
 
-  start-good : bad-start fluents (b .start) ≡ false
-  unfolding bad-start
+  start-good : bad-state fluents (b .start) ≡ false
+  unfolding bad-state
   start-good = rw (eq-eqb (b .start / 2 ^ fluents) 0 (div-eq-of-lt (v .start)))
 
   pub words-accepted : words-refusal fluents actions (joined (b .rules)) (b .goal) ≡ 0
@@ -130,6 +130,6 @@ module _ (b : Book) (v : Valid b) where
   valid-accepted = rw (words-accepted, start-good)
 
 -- counts, rule words, goal and start of an accepted sheet meet none of 20 to 24
-pub sheet-meets-none : (s : List ℕ) (b : Book) → readSheet s ≡ written b
+pub sheet-meets-none : (s : List ℕ) (b : Book) → read-sheet s ≡ written b
     → refusal-of (length (b .names .fluents)) (length (b .names .actions)) (joined (b .rules)) (b .goal) (b .start) ≡ 0
 sheet-meets-none s b e = valid-accepted b (sheet-valid s b e)

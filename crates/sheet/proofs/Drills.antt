@@ -7,10 +7,10 @@ use lib.ListN.{length, replicate, length-replicate}
 use borrow.Author.Tests.{lt-leb}
 use Rattle.chars.specs.Bytes.{text, LF}
 use Rattle.sheet.specs.declared.Sheet.{Sheet}
-use Rattle.sheet.specs.Book.{padded, ruleWords}
-use Rattle.sheet.specs.Reader.{readSheet, wholeSheet, refused}
-use Rattle.sheet.specs.Result.{refusal, resultOf, rulesAfter}
-use Rattle.sheet.specs.FluentName.{nowhere, nameSpan}
+use Rattle.sheet.specs.Book.{padded, rule-words}
+use Rattle.sheet.specs.Reader.{read-sheet, whole-sheet, refused}
+use Rattle.sheet.specs.Result.{refusal, result-of, rules-after}
+use Rattle.sheet.specs.FluentName.{nowhere, name-span}
 use Rattle.sheet.proofs.Results.{sheet-fault}
 
 -- A sheet, the count of rule words lent, and the reader's result.
@@ -37,11 +37,11 @@ steps zero = []
 steps (suc n) = text "\t+a" ++ steps n
 
 -- sheets with a rule, and with a goal, of n steps
-abbrev ruleOf : ℕ → List ℕ
-ruleOf n = text "fluent\ta\naction\tg\nrule\tg" ++ steps n ++ text "\nstart\ngoal\n"
+abbrev rule-of : ℕ → List ℕ
+rule-of n = text "fluent\ta\naction\tg\nrule\tg" ++ steps n ++ text "\nstart\ngoal\n"
 
-abbrev goalOf : ℕ → List ℕ
-goalOf n = text "fluent\ta\nstart\ta\ngoal" ++ steps n ++ text "\n"
+abbrev goal-of : ℕ → List ℕ
+goal-of n = text "fluent\ta\nstart\ta\ngoal" ++ steps n ++ text "\n"
 
 -- a name of 16 bytes
 abbrev sixteen : List ℕ
@@ -58,8 +58,8 @@ drills =
     ∷ refuses (text "start\nstart\n") 13 2
     ∷ refuses (text "start\ngoal\nstart\n") 13 3
     -- a rule and a goal of 17 steps (D13), and before their fields are judged
-    ∷ refuses (ruleOf 17) 17 3
-    ∷ refuses (goalOf 17) 17 3
+    ∷ refuses (rule-of 17) 17 3
+    ∷ refuses (goal-of 17) 17 3
     ∷ refuses (text "goal\t\t\t\t\t\t\t\t\t\t\t\t\t\t\t\t\t\n") 17 1
     -- `goal` and a tab with nothing after (D12); a name of 17 bytes (D13)
     ∷ refuses (text "goal\t\n") 14 1
@@ -75,42 +75,42 @@ drills =
     ∷ refuses (text "goal\n") 18 0
     ∷ record { sheet = example; room = 35; result = refusal 19 0 }
     -- a rule and a goal of 16 steps and a name of 16 bytes are read (D13)
-    ∷ record { sheet = ruleOf 16; room = 18; result = record { refusal = 0; line = 0; fluents = 1; actions = 1; rules = 1; start = 0; «goal_len» = 0; goal = padded [] } }
-    ∷ reads (goalOf 16) 1 1 (replicate 16 256)
+    ∷ record { sheet = rule-of 16; room = 18; result = record { refusal = 0; line = 0; fluents = 1; actions = 1; rules = 1; start = 0; «goal_len» = 0; goal = padded [] } }
+    ∷ reads (goal-of 16) 1 1 (replicate 16 256)
     ∷ reads sixteen 1 0 []
     ∷ []
 
-pub drills-hold : map (λ (d : Drill). resultOf (d .room) (readSheet (d .sheet))) drills ≡ map (λ (d : Drill). d .result) drills
-unfolding drills readSheet resultOf
+pub drills-hold : map (λ (d : Drill). result-of (d .room) (read-sheet (d .sheet))) drills ≡ map (λ (d : Drill). d .result) drills
+unfolding drills read-sheet result-of
 drills-hold = refl
 
 -- the example's rule words, with one word lent past them
-pub example-rules : rulesAfter (replicate 37 7) (readSheet example) ≡ ruleWords 0 (256 ∷ []) ++ ruleWords 1 (768 ∷ 0 ∷ 257 ∷ 512 ∷ []) ++ (7 ∷ [])
-unfolding readSheet rulesAfter
+pub example-rules : rules-after (replicate 37 7) (read-sheet example) ≡ rule-words 0 (256 ∷ []) ++ rule-words 1 (768 ∷ 0 ∷ 257 ∷ 512 ∷ []) ++ (7 ∷ [])
+unfolding read-sheet rules-after
 example-rules = refl
 
 -- the rule words of a rule of 16 steps
-pub sixteen-steps : rulesAfter (replicate 18 7) (readSheet (ruleOf 16)) ≡ ruleWords 0 (replicate 16 256)
-unfolding readSheet rulesAfter
+pub sixteen-steps : rules-after (replicate 18 7) (read-sheet (rule-of 16)) ≡ rule-words 0 (replicate 16 256)
+unfolding read-sheet rules-after
 sixteen-steps = refl
 
 -- names: of the example's two fluents, of a number too high, of 16 bytes, of a refused sheet
-pub names-hold : nameSpan example 0 ∷ nameSpan example 1 ∷ nameSpan example 2 ∷ nameSpan sixteen 0 ∷ nameSpan (text "fluent\ta\n") 0 ∷ []
+pub names-hold : name-span example 0 ∷ name-span example 1 ∷ name-span example 2 ∷ name-span sixteen 0 ∷ name-span (text "fluent\ta\n") 0 ∷ []
     ≡ record { at = 7; len = 4 } ∷ record { at = 19; len = 3 } ∷ nowhere ∷ record { at = 7; len = 16 } ∷ nowhere ∷ []
-unfolding nameSpan
+unfolding name-span
 names-hold = refl
 
 -- names of a sheet with a comment above, CR LF and LF
-pub dressed-names : nameSpan (text "# a\tb c\r\nfluent\ta\r\nfluent\tb\n#\nstart\tb\r\ngoal\n") 0
-    ∷ nameSpan (text "# a\tb c\r\nfluent\ta\r\nfluent\tb\n#\nstart\tb\r\ngoal\n") 1 ∷ []
+pub dressed-names : name-span (text "# a\tb c\r\nfluent\ta\r\nfluent\tb\n#\nstart\tb\r\ngoal\n") 0
+    ∷ name-span (text "# a\tb c\r\nfluent\ta\r\nfluent\tb\n#\nstart\tb\r\ngoal\n") 1 ∷ []
     ≡ record { at = 16; len = 1 } ∷ record { at = 26; len = 1 } ∷ []
-unfolding nameSpan
+unfolding name-span
 dressed-names = refl
 
 -- 10: any sheet of more than 65,536 bytes, as one of 65,537 line ends
-pub whole-too-long : (s : List ℕ) → 65536 < length s → readSheet s ≡ refused 10 0
-unfolding wholeSheet
+pub whole-too-long : (s : List ℕ) → 65536 < length s → read-sheet s ≡ refused 10 0
+unfolding whole-sheet
 whole-too-long s h = sheet-fault s 10 (rw (lt-leb (length s) 65536 h))
 
-pub too-long : readSheet (replicate 65537 LF) ≡ refused 10 0
+pub too-long : read-sheet (replicate 65537 LF) ≡ refused 10 0
 too-long = whole-too-long (replicate 65537 LF) (rw (length-replicate {A = ℕ} 65537 LF) (omega arith))

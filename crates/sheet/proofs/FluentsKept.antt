@@ -12,8 +12,8 @@ use Rattle.chars.specs.Places.{same}
 use Rattle.sheet.specs.declared.lines.Word.{Word}
 use Rattle.sheet.specs.declared.lines.Word.the-variants.{Fluent, Action, Rule, Start, Goal, Other}
 use Rattle.sheet.specs.Book.{Book}
-use Rattle.sheet.specs.Line.{wordOf}
-use Rattle.sheet.specs.Reader.{readLines, written}
+use Rattle.sheet.specs.Line.{Reading, word-of}
+use Rattle.sheet.specs.Reader.{read-lines, written}
 use Rattle.sheet.proofs.AcceptedLines.{Accepted, fluent, action, rule, start, goal, accepted-text, Taken, comment, plain, line-taken, first-accepted, lines-end}
 
 -- the fluents after an accepted line
@@ -25,12 +25,12 @@ after names Start fs = names
 after names Goal fs = names
 after names Other fs = names
 
-pub fluents-after : (b next : Book) (w : Word) (fs : List (List ℕ)) → Accepted b next fs w → next .names .fluents ≡ after (b .names .fluents) w fs
-fluents-after b next w fs (fluent l n e) = ap (λ (x : Book). x .names .fluents) e
-fluents-after b next w fs (action l e) = ap (λ (x : Book). x .names .fluents) e
-fluents-after b next w fs (rule h s l n u t e) = ap (λ (x : Book). x .names .fluents) e
-fluents-after b next w fs (start s t e) = ap (λ (x : Book). x .names .fluents) e
-fluents-after b next w fs (goal s n t e) = ap (λ (x : Book). x .names .fluents) e
+pub fluents-after : (b next : Reading) (w : Word) (fs : List (List ℕ)) → Accepted b next fs w → next .book .names .fluents ≡ after (b .book .names .fluents) w fs
+fluents-after b next w fs (fluent l n e) = ap (λ (x : Reading). x .book .names .fluents) e
+fluents-after b next w fs (action l e) = ap (λ (x : Reading). x .book .names .fluents) e
+fluents-after b next w fs (rule h s l n u t e) = ap (λ (x : Reading). x .book .names .fluents) e
+fluents-after b next w fs (start s t e) = ap (λ (x : Reading). x .book .names .fluents) e
+fluents-after b next w fs (goal s n t e) = ap (λ (x : Reading). x .book .names .fluents) e
 
 -- a fluent keeps its number and its name
 after-kept : (names : List (List ℕ)) (w : Word) (fs : List (List ℕ)) (i : ℕ) → i < length names → (i < length (after names w fs)) × (getD (after names w fs) i [] ≡ getD names i [])
@@ -43,27 +43,27 @@ after-kept names Start fs i l = (l, refl)
 after-kept names Goal fs i l = (l, refl)
 after-kept names Other fs i l = (l, refl)
 
-pub fluent-kept : (n : ℕ) (b last : Book) (ls : List (List ℕ)) → readLines n b ls ≡ written last → (i : ℕ) → i < length (b .names .fluents) → getD (last .names .fluents) i [] ≡ getD (b .names .fluents) i []
-fluent-kept n b last [] e i l = ap (λ (x : Book). getD (x .names .fluents) i []) (sym (lines-end n b last e))
+pub fluent-kept : (n : ℕ) (b : Reading) (last : Book) (ls : List (List ℕ)) → read-lines n b ls ≡ written last → (i : ℕ) → i < length (b .book .names .fluents) → getD (last .names .fluents) i [] ≡ getD (b .book .names .fluents) i []
+fluent-kept n b last [] e i l = ap (λ (x : Reading). getD (x .book .names .fluents) i []) (sym (lines-end n b last e))
 fluent-kept n b last (t ∷ ls) e i l =
     let (next, h, r) = first-accepted n b last t ls e in
     let (m, k) = by next (line-taken b next t h) in
     fluent-kept (n + 1) next last ls r i m ∙ k
   where
-    by : (next : Book) → Taken b next t → (i < length (next .names .fluents)) × (getD (next .names .fluents) i [] ≡ getD (b .names .fluents) i [])
+    by : (next : Reading) → Taken b next t → (i < length (next .book .names .fluents)) × (getD (next .book .names .fluents) i [] ≡ getD (b .book .names .fluents) i [])
     by next (comment h e) = rw e (l, refl)
     by next (plain h e) =
-        let w = wordOf (getD (fields (bare t)) 0 []) in
+        let w = word-of (getD (fields (bare t)) 0 []) in
         let fs = drop 1 (fields (bare t)) in
-        rw (fluents-after b next w fs (accepted-text b next (bare t) e)) (after-kept (b .names .fluents) w fs i l)
+        rw (fluents-after b next w fs (accepted-text b next (bare t) e)) (after-kept (b .book .names .fluents) w fs i l)
 
 -- the word of a line, by whether its first field is `fluent`
-pub word-fluent : (f : List ℕ) → same f (text "fluent") ≡ true → wordOf f ≡ Fluent
-unfolding wordOf
+pub word-fluent : (f : List ℕ) → same f (text "fluent") ≡ true → word-of f ≡ Fluent
+unfolding word-of
 word-fluent f e = rw e
 
-pub after-other : (names : List (List ℕ)) (f : List ℕ) (fs : List (List ℕ)) → same f (text "fluent") ≡ false → after names (wordOf f) fs ≡ names
-unfolding wordOf
+pub after-other : (names : List (List ℕ)) (f : List ℕ) (fs : List (List ℕ)) → same f (text "fluent") ≡ false → after names (word-of f) fs ≡ names
+unfolding word-of
 after-other names f fs e = rw e (by (same f (text "action")) (same f (text "rule")) (same f (text "start")) (same f (text "goal")))
   where
     by : (t u v w : Bool) → after names (cond t Action (cond u Rule (cond v Start (cond w Goal Other)))) fs ≡ names

@@ -8,39 +8,45 @@ use lib.ListN.{length, take}
 use borrow.Author.Tests.{eq-eqb, ne-eqb}
 use Rattle.sheet.specs.declared.lines.Parse.{Parse}
 use Rattle.sheet.specs.Verdict.{Verdict, refuse, accept}
-use Rattle.sheet.specs.Book.{Symbols, Book, empty, withStart}
-use Rattle.sheet.specs.Reader.{refused, written}
-use Rattle.sheet.specs.Held.{bookOf, symbolsOf, rulesIn, Kept, Answers, begun, outcomeOf}
+use Rattle.sheet.specs.Book.{Symbols, with-start}
+use Rattle.sheet.specs.Line.{Reading, empty}
+use Rattle.sheet.specs.Reader.{refused, written, at-end}
+use Rattle.sheet.specs.Held.{book-in, reading-in, symbols-of, rules-in, Kept, Answers, begun, ending, outcome-of}
 use Rattle.sheet.proofs.Verdicts.{answer-no}
+use Rattle.sheet.proofs.Readings.{read-start}
 use Rattle.sheet.proofs.NamePlaces.{names-length}
 use Rattle.sheet.proofs.Bodies.{rules-length}
 
-pub refused-answers : (s w : List ℕ) (r : Parse) (k : ℕ) (v : Verdict Book) → r .refusal ≡ k → (k ≡ 0 → ⊥) → v ≡ refuse k → Answers s w r v
+pub refused-answers : (s w : List ℕ) (r : Parse) (k : ℕ) (v : Verdict Reading) → r .refusal ≡ k → (k ≡ 0 → ⊥) → v ≡ refuse k → Answers s w r v
 refused-answers s w r k v e h q =
     let z : r .refusal ≡ 0 → ⊥ = λ y. h (sym e ∙ y) in
     record {
-      says = answer-no (r .refusal) (bookOf s w r) z ∙ ap (λ (n : ℕ). refuse n) e ∙ sym q;
+      says = answer-no (r .refusal) (reading-in s w r) z ∙ ap (λ (n : ℕ). refuse n) e ∙ sym q;
       keeps = λ y. absurd (z y);
     }
 
-pub fluents-length : (s w : List ℕ) (b : Parse) → length (bookOf s w b .names .fluents) ≡ b .names .fluents
-unfolding bookOf symbolsOf
+pub fluents-length : (s w : List ℕ) (b : Parse) → length (book-in s w b .names .fluents) ≡ b .names .fluents
+unfolding book-in symbols-of
 fluents-length s w b = names-length s (b .names .from) (b .names .to) 0 (b .names .fluents)
 
-pub actions-length : (s w : List ℕ) (b : Parse) → length (bookOf s w b .names .actions) ≡ b .names .actions
-unfolding bookOf symbolsOf
+pub actions-length : (s w : List ℕ) (b : Parse) → length (book-in s w b .names .actions) ≡ b .names .actions
+unfolding book-in symbols-of
 actions-length s w b = names-length s (b .names .from) (b .names .to) (b .names .fluents) (b .names .actions)
 
--- the book of b's rest with this stage and these names
-abbrev pub reading : List ℕ → Parse → ℕ → Symbols → Book
-reading w b k y = record { stage = k; names = y; rules = rulesIn w (b .rules); started = b .started; start = b .start .0; goal = take (b .«goal_len») (b .goal) }
+-- the reading of b's rest with this stage and these names
+abbrev pub reading : List ℕ → Parse → ℕ → Symbols → Reading
+reading w b k y = record {
+  book = record { names = y; rules = rules-in w (b .rules); start = b .start .0; goal = take (b .«goal_len») (b .goal) };
+  stage = k;
+  started = b .started;
+}
 
 pub said : (w : List ℕ) (b : Parse) {k j : ℕ} {y z : Symbols} → k ≡ j → y ≡ z → accept (reading w b k y) ≡ accept (reading w b j z)
 said w b {j = j} {y = y} e f = ap (λ (i : ℕ). accept (reading w b i y)) e ∙ ap (λ (x : Symbols). accept (reading w b j x)) f
 
--- the book with its start read
-pub said-start : (b : Book) (state : ℕ) {k : ℕ} → k ≡ 4 → accept (record { stage = k; names = b .names; rules = b .rules; started = true; start = state; goal = b .goal }) ≡ accept (withStart b state)
-said-start b state e = ap (λ (k : ℕ). accept (record { stage = k; names = b .names; rules = b .rules; started = true; start = state; goal = b .goal })) e
+-- the reading with its start read
+pub said-start : (b : Reading) (state : ℕ) {k : ℕ} → k ≡ 4 → accept (record { book = with-start (b .book) state; stage = k; started = true }) ≡ accept (read-start b state)
+said-start b state e = ap (λ (k : ℕ). accept (record { book = with-start (b .book) state; stage = k; started = true })) e
 
 pub begun-kept : (s : List ℕ) → Kept s begun
 begun-kept s = record {
@@ -50,16 +56,22 @@ begun-kept s = record {
   early = λ e. refl;
 }
 
-pub begun-book : (s w : List ℕ) → bookOf s w begun ≡ empty
-unfolding bookOf
+pub begun-book : (s w : List ℕ) → reading-in s w begun ≡ empty
+unfolding book-in
 begun-book s w = refl
 
-pub outcome-ok : (s w : List ℕ) (n : ℕ) (b : Parse) → b .refusal ≡ 0 → outcomeOf s w n b ≡ written (bookOf s w b)
+pub outcome-ok : (s w : List ℕ) (n : ℕ) (b : Parse) → b .refusal ≡ 0 → outcome-of s w n b ≡ written (book-in s w b)
 outcome-ok s w n b e = rw (eq-eqb (b .refusal) 0 e)
 
-pub outcome-no : (s w : List ℕ) (n : ℕ) (b : Parse) → (b .refusal ≡ 0 → ⊥) → outcomeOf s w n b ≡ refused (b .refusal) n
+pub outcome-no : (s w : List ℕ) (n : ℕ) (b : Parse) → (b .refusal ≡ 0 → ⊥) → outcome-of s w n b ≡ refused (b .refusal) n
 outcome-no s w n b e = rw (ne-eqb (b .refusal) 0 e)
 
-pub rules-count : (s w : List ℕ) (b : Parse) → length (bookOf s w b .rules) ≡ b .rules
-unfolding bookOf
+pub ending-ok : (s w : List ℕ) (n : ℕ) (b : Parse) → b .refusal ≡ 0 → ending s w n b ≡ at-end (reading-in s w b)
+ending-ok s w n b e = rw (eq-eqb (b .refusal) 0 e)
+
+pub ending-no : (s w : List ℕ) (n : ℕ) (b : Parse) → (b .refusal ≡ 0 → ⊥) → ending s w n b ≡ refused (b .refusal) n
+ending-no s w n b e = rw (ne-eqb (b .refusal) 0 e)
+
+pub rules-count : (s w : List ℕ) (b : Parse) → length (book-in s w b .rules) ≡ b .rules
+unfolding book-in
 rules-count s w b = rules-length w (b .rules)

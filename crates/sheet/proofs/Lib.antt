@@ -1,6 +1,7 @@
 -- Laws of the definitions, for this crate's proofs and those of the crates above.
 pub mod Verdicts
 pub mod FieldVerdicts
+pub mod Readings
 pub mod LineHeads
 pub mod LineVerdicts
 pub mod NamePlaces

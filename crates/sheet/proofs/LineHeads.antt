@@ -6,11 +6,12 @@ use native.Mathlib.Omega.{arith}
 use lib.Dec.{leb, ltb, eqb}
 use lib.ListN.{length}
 use borrow.Author.Tests.{lt-ltb, lt-leb, le-leb, leb-true, leb-false, ltb-false, eqb-true, eqb-false, not-true, not-false}
+use Rattle.refusals.specs.Refusals as refusals
 use Rattle.sheet.specs.declared.lines.Word.{Word}
 use Rattle.sheet.specs.declared.lines.Word.the-variants.{Fluent, Action, Rule, Start, Goal, Other}
 use Rattle.sheet.specs.Verdict.{refuse, accept, _>>=_, require}
-use Rattle.sheet.specs.Book.{Book}
-use Rattle.sheet.specs.Line.{row, inOrder, overfull, miscounted, lineHead}
+use Rattle.sheet.specs.Line.{Reading, row, overfull, miscounted}
+use Rattle.sheet.specs.Held.{in-order, line-head}
 use Rattle.sheet.proofs.Verdicts.{required, held, neither}
 
 row-le : (w : Word) → row w ≤ 5
@@ -22,70 +23,70 @@ row-le Goal = omega arith
 row-le Other = omega arith
 
 -- the head of a line
-module _ (b : Book) (w : Word) (n : ℕ) where
-  pub head-no-word : row w ≡ 5 → lineHead b w n ≡ refuse 13
-  unfolding lineHead
+module _ (b : Reading) (w : Word) (n : ℕ) where
+  pub head-no-word : row w ≡ 5 → line-head b w n ≡ refuse refusals.bad-word
+  unfolding line-head
   head-no-word e = rw e
 
-  pub head-late : row w < b .stage → lineHead b w n ≡ refuse 13
-  unfolding lineHead
+  pub head-late : row w < b .stage → line-head b w n ≡ refuse refusals.bad-word
+  unfolding line-head
   head-late h = rw (lt-leb (b .stage) (row w) h, and-false)
 
   module _ (h : row w ≡ 5 → ⊥) (k : b .stage ≤ row w) where
-    timely : inOrder (b .stage) w ≡ true
+    timely : in-order (b .stage) w ≡ true
     timely =
         let l = row-le w in
         rw (lt-ltb (row w) 5 (omega arith), le-leb (b .stage) (row w) k)
 
-    pub head-overfull : overfull b w n ≡ true → lineHead b w n ≡ refuse 17
-    unfolding lineHead
+    pub head-overfull : overfull (b .book) w n ≡ true → line-head b w n ≡ refuse refusals.too-many
+    unfolding line-head
     head-overfull e = rw (timely, e)
 
-    pub head-miscounted : overfull b w n ≡ false → miscounted w n ≡ true → lineHead b w n ≡ refuse 14
-    unfolding lineHead
+    pub head-miscounted : overfull (b .book) w n ≡ false → miscounted w n ≡ true → line-head b w n ≡ refuse refusals.bad-field
+    unfolding line-head
     head-miscounted e f = rw (timely, e, f)
 
-    pub head-passed : overfull b w n ≡ false → miscounted w n ≡ false → lineHead b w n ≡ accept tt
-    unfolding lineHead
+    pub head-passed : overfull (b .book) w n ≡ false → miscounted w n ≡ false → line-head b w n ≡ accept tt
+    unfolding line-head
     head-passed e f = rw (timely, e, f)
 
 -- what a passed head says
-pub record Passed (b : Book) (w : Word) (n : ℕ) : Type 0 where
-  pub in-order : inOrder (b .stage) w ≡ true
-  pub room : overfull b w n ≡ false
+pub record Passed (b : Reading) (w : Word) (n : ℕ) : Type 0 where
+  pub ordered : in-order (b .stage) w ≡ true
+  pub room : overfull (b .book) w n ≡ false
   pub counted : miscounted w n ≡ false
 
-pub passed : (b : Book) (w : Word) (n : ℕ) → lineHead b w n ≡ accept tt → Passed b w n
-unfolding lineHead
+pub passed : (b : Reading) (w : Word) (n : ℕ) → line-head b w n ≡ accept tt → Passed b w n
+unfolding line-head
 passed b w n e =
-    let (i, f) = required (inOrder (b .stage) w) 13 (λ _. require (not (overfull b w n)) 17 >>= (λ _. require (not (miscounted w n)) 14)) tt e in
-    let (o, g) = required (not (overfull b w n)) 17 (λ _. require (not (miscounted w n)) 14) tt f in
-    record { in-order = i; room = not-true (overfull b w n) o; counted = not-true (miscounted w n) (held (not (miscounted w n)) 14 g) }
+    let (i, f) = required (in-order (b .stage) w) refusals.bad-word (λ _. require (not (overfull (b .book) w n)) refusals.too-many >>= (λ _. require (not (miscounted w n)) refusals.bad-field)) tt e in
+    let (o, g) = required (not (overfull (b .book) w n)) refusals.too-many (λ _. require (not (miscounted w n)) refusals.bad-field) tt f in
+    record { ordered = i; room = not-true (overfull (b .book) w n) o; counted = not-true (miscounted w n) (held (not (miscounted w n)) refusals.bad-field g) }
 
-module _ (b : Book) (n : ℕ) where
-  pub fluent-room : lineHead b Fluent n ≡ accept tt → (b .stage ≡ 0) × (length (b .names .fluents) < 64) × (n ≡ 1)
+module _ (b : Reading) (n : ℕ) where
+  pub fluent-room : line-head b Fluent n ≡ accept tt → (b .stage ≡ 0) × (length (b .book .names .fluents) < 64) × (n ≡ 1)
   unfolding overfull
   fluent-room e =
       let p = passed b Fluent n e in
-      (omega (arith, leb-true (b .stage) 0 (p .in-order)), leb-false 64 (length (b .names .fluents)) (p .room), eqb-true n 1 (not-false (eqb n 1) (p .counted)))
+      (omega (arith, leb-true (b .stage) 0 (p .ordered)), leb-false 64 (length (b .book .names .fluents)) (p .room), eqb-true n 1 (not-false (eqb n 1) (p .counted)))
 
-  pub action-room : lineHead b Action n ≡ accept tt → (length (b .names .actions) < 64) × (n ≡ 1)
+  pub action-room : line-head b Action n ≡ accept tt → (length (b .book .names .actions) < 64) × (n ≡ 1)
   unfolding overfull
   action-room e =
       let p = passed b Action n e in
-      (leb-false 64 (length (b .names .actions)) (p .room), eqb-true n 1 (not-false (eqb n 1) (p .counted)))
+      (leb-false 64 (length (b .book .names .actions)) (p .room), eqb-true n 1 (not-false (eqb n 1) (p .counted)))
 
-  pub rule-room : lineHead b Rule n ≡ accept tt → (length (b .rules) < 256) × (0 < n) × (n ≤ 17)
+  pub rule-room : line-head b Rule n ≡ accept tt → (length (b .book .rules) < 256) × (0 < n) × (n ≤ 17)
   unfolding overfull
   rule-room e =
       let p = passed b Rule n e in
-      let (i, j) = neither (leb 256 (length (b .rules))) (ltb 17 n) (p .room) in
+      let (i, j) = neither (leb 256 (length (b .book .rules))) (ltb 17 n) (p .room) in
       let z = eqb-false n 0 (p .counted) in
-      (leb-false 256 (length (b .rules)) i, omega arith, ltb-false 17 n j)
+      (leb-false 256 (length (b .book .rules)) i, omega arith, ltb-false 17 n j)
 
-  pub goal-room : lineHead b Goal n ≡ accept tt → n ≤ 16
+  pub goal-room : line-head b Goal n ≡ accept tt → n ≤ 16
   unfolding overfull
   goal-room e = ltb-false 16 n (passed b Goal n e .room)
 
-  pub other-never : lineHead b Other n ≡ accept tt → ⊥
-  other-never e = true≢false (sym (passed b Other n e .in-order))
+  pub other-never : line-head b Other n ≡ accept tt → ⊥
+  other-never e = true≢false (sym (passed b Other n e .ordered))

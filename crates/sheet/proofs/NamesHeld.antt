@@ -8,19 +8,20 @@ use native.Mathlib.Omega.{arith}
 use native.Mathlib.Decide.{decLt}
 use lib.ListN.{length, getD, set, length-set}
 use lib.Seq.{slice, getD-set-same, getD-set-other}
+use Rattle.refusals.specs.Refusals as refusals
 use Rattle.chars.specs.Places.{place}
-use Rattle.chars.specs.Bytes.{isName}
+use Rattle.chars.specs.Bytes.{is-name}
 use Rattle.sheet.specs.declared.names.Names.{Names}
 use Rattle.sheet.specs.Verdict.{refuse, accept}
-use Rattle.sheet.specs.Field.{newName}
-use Rattle.sheet.specs.Held.{namesIn, symbolsOf, behind, Held}
+use Rattle.sheet.specs.Field.{new-name}
+use Rattle.sheet.specs.Held.{names-in, symbols-of, behind, Held}
 use Rattle.sheet.proofs.FieldVerdicts.{new-known, new-fresh}
 use Rattle.sheet.proofs.NamePlaces.{names-length}
 
 module _ (s from to : List ℕ) where
   -- the names of two neighbouring ranges
-  pub names-append : (lo n m : ℕ) → namesIn s from to lo n ++ namesIn s from to (lo + n) m ≡ namesIn s from to lo (n + m)
-  unfolding namesIn
+  pub names-append : (lo n m : ℕ) → names-in s from to lo n ++ names-in s from to (lo + n) m ≡ names-in s from to lo (n + m)
+  unfolding names-in
   names-append lo zero m =
       let e : lo + 0 ≡ lo = omega arith in
       let f : 0 + m ≡ m = omega arith in
@@ -31,8 +32,8 @@ module _ (s from to : List ℕ) where
       rw (e, f) (ap (λ (l : List (List ℕ)). slice (getD from lo 0) (getD to lo 0) s ∷ l) (names-append (suc lo) n m))
 
   -- names stored elsewhere
-  pub names-other : (k p e lo n : ℕ) → lo + n ≤ k → namesIn s (set from k p) (set to k e) lo n ≡ namesIn s from to lo n
-  unfolding namesIn
+  pub names-other : (k p e lo n : ℕ) → lo + n ≤ k → names-in s (set from k p) (set to k e) lo n ≡ names-in s from to lo n
+  unfolding names-in
   names-other k p e lo zero h = refl
   names-other k p e lo (suc n) h =
       let d : lo ≢ k = omega arith in
@@ -40,8 +41,8 @@ module _ (s from to : List ℕ) where
 
   -- one name more
   pub names-more : (p e lo n : ℕ) → lo + n < length from → lo + n < length to
-      → namesIn s (set from (lo + n) p) (set to (lo + n) e) lo (n + 1) ≡ namesIn s from to lo n ++ (slice p e s ∷ [])
-  unfolding namesIn
+      → names-in s (set from (lo + n) p) (set to (lo + n) e) lo (n + 1) ≡ names-in s from to lo n ++ (slice p e s ∷ [])
+  unfolding names-in
   names-more p e lo zero h k =
       let z : lo + 0 ≡ lo = omega arith in
       rw (z, getD-set-same from lo p 0 (omega arith), getD-set-same to lo e 0 (omega arith))
@@ -52,32 +53,32 @@ module _ (s from to : List ℕ) where
       rw (o, z, getD-set-other from (suc lo + n) lo p 0 d, getD-set-other to (suc lo + n) lo e 0 d, names-more p e (suc lo) n (omega arith) (omega arith))
 
 -- all names, the fluents first
-all-names : (s : List ℕ) (n : Names) → symbolsOf s n .fluents ++ symbolsOf s n .actions ≡ namesIn s (n .from) (n .to) 0 (n .fluents + n .actions)
-unfolding symbolsOf
+all-names : (s : List ℕ) (n : Names) → symbols-of s n .fluents ++ symbols-of s n .actions ≡ names-in s (n .from) (n .to) 0 (n .fluents + n .actions)
+unfolding symbols-of
 all-names s n =
     let e : 0 + n .fluents ≡ n .fluents = omega arith in
     let f = names-append s (n .from) (n .to) 0 (n .fluents) (n .actions) in
     rw e at f
 
 -- a new name that is found, or not, among all names
-module _ (s : List ℕ) (n : Names) (f : List ℕ) (t : isName f ≡ true) where
-  pub name-known : place f (namesIn s (n .from) (n .to) 0 (n .fluents + n .actions)) < n .fluents + n .actions → newName (symbolsOf s n) f ≡ refuse 15
+module _ (s : List ℕ) (n : Names) (f : List ℕ) (t : is-name f ≡ true) where
+  pub name-known : place f (names-in s (n .from) (n .to) 0 (n .fluents + n .actions)) < n .fluents + n .actions → new-name (symbols-of s n) f ≡ refuse refusals.repeated
   name-known h =
       let l = names-length s (n .from) (n .to) 0 (n .fluents + n .actions) in
-      new-known (symbolsOf s n) f t (rw (all-names s n, l) h)
+      new-known (symbols-of s n) f t (rw (all-names s n, l) h)
 
-  pub name-fresh : n .fluents + n .actions ≤ place f (namesIn s (n .from) (n .to) 0 (n .fluents + n .actions)) → newName (symbolsOf s n) f ≡ accept f
+  pub name-fresh : n .fluents + n .actions ≤ place f (names-in s (n .from) (n .to) 0 (n .fluents + n .actions)) → new-name (symbols-of s n) f ≡ accept f
   name-fresh h =
       let l = names-length s (n .from) (n .to) 0 (n .fluents + n .actions) in
-      new-fresh (symbolsOf s n) f t (rw (all-names s n, l) h)
+      new-fresh (symbols-of s n) f t (rw (all-names s n, l) h)
 
 -- the names with the one behind them counted as a fluent or as an action
 abbrev pub counted : Names → ℕ → ℕ → Names
 counted n f a = record { fluents = f; actions = a; from = n .from; to = n .to }
 
 module _ (s : List ℕ) (n : Names) (p e : ℕ) (h : Held s n) where
-  pub fluent-names : n .fluents < 64 → n .actions ≡ 0 → symbolsOf s (counted (behind n p e) (n .fluents + 1) (n .actions)) ≡ record { fluents = symbolsOf s n .fluents ++ (slice p e s ∷ []); actions = symbolsOf s n .actions }
-  unfolding symbolsOf
+  pub fluent-names : n .fluents < 64 → n .actions ≡ 0 → symbols-of s (counted (behind n p e) (n .fluents + 1) (n .actions)) ≡ record { fluents = symbols-of s n .fluents ++ (slice p e s ∷ []); actions = symbols-of s n .actions }
+  unfolding symbols-of
   fluent-names few none =
       let z : 0 + n .fluents ≡ n .fluents = omega arith in
       let y : n .fluents + n .actions ≡ n .fluents = omega arith in
@@ -87,8 +88,8 @@ module _ (s : List ℕ) (n : Names) (p e : ℕ) (h : Held s n) where
       let g = rw z at f in
       rw (y, none, g)
 
-  pub action-names : n .actions < 64 → symbolsOf s (counted (behind n p e) (n .fluents) (n .actions + 1)) ≡ record { fluents = symbolsOf s n .fluents; actions = symbolsOf s n .actions ++ (slice p e s ∷ []) }
-  unfolding symbolsOf
+  pub action-names : n .actions < 64 → symbols-of s (counted (behind n p e) (n .fluents) (n .actions + 1)) ≡ record { fluents = symbols-of s n .fluents; actions = symbols-of s n .actions ++ (slice p e s ∷ []) }
+  unfolding symbols-of
   action-names few =
       let u = h .size-from in
       let v = h .size-to in

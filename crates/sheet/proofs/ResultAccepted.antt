@@ -4,15 +4,16 @@ use mathlib.Core.List.{List}
 use Prim.Native.Nat.{ℕ, _*_}
 use lib.ListN.{length, take}
 use Rattle.steps.specs.Acceptance.{refusal-of}
+use Rattle.steps.specs.Words.{rule-width}
 use Rattle.sheet.specs.declared.Sheet.{Sheet}
-use Rattle.sheet.specs.Reader.{readSheet}
-use Rattle.sheet.specs.Result.{resultOf, rulesAfter}
+use Rattle.sheet.specs.Reader.{read-sheet}
+use Rattle.sheet.specs.Result.{result-of, rules-after}
 use Rattle.sheet.proofs.Acceptance.{sheet-meets-none}
 use Rattle.sheet.proofs.ResultWords.{result-book}
 
 -- the evaluator's refusal of a result and the list lent, as far as the result says
-abbrev pub refusalOf : Sheet → List ℕ → ℕ
-refusalOf r rules = refusal-of (r .fluents) (r .actions) (take (18 * r .rules) rules) (take (r .«goal_len») (r .goal)) (r .start)
+abbrev pub result-refusal : Sheet → List ℕ → ℕ
+result-refusal r rules = refusal-of (r .fluents) (r .actions) (take (rule-width * r .rules) rules) (take (r .«goal_len») (r .goal)) (r .start)
 
-pub result-meets-none : (s lent : List ℕ) → resultOf (length lent) (readSheet s) .refusal ≡ 0 → refusalOf (resultOf (length lent) (readSheet s)) (rulesAfter lent (readSheet s)) ≡ 0
+pub result-meets-none : (s lent : List ℕ) → result-of (length lent) (read-sheet s) .refusal ≡ 0 → result-refusal (result-of (length lent) (read-sheet s)) (rules-after lent (read-sheet s)) ≡ 0
 result-meets-none s lent z = let (b, e, q) = result-book refusal-of s lent z in q ∙ sheet-meets-none s b e

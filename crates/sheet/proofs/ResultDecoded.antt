@@ -4,17 +4,17 @@ use mathlib.Core.List.{List}
 use Prim.Native.Nat.{ℕ, _*_}
 use lib.ListN.{length, take}
 use Rattle.steps.specs.Run.{Run}
-use Rattle.steps.specs.Words.{run-of}
+use Rattle.steps.specs.Words.{run-of, rule-width}
 use Rattle.sheet.specs.declared.Sheet.{Sheet}
 use Rattle.sheet.specs.Book.{Book, joined}
-use Rattle.sheet.specs.Reader.{readSheet, written}
-use Rattle.sheet.specs.Result.{resultOf, rulesAfter}
+use Rattle.sheet.specs.Reader.{read-sheet, written}
+use Rattle.sheet.specs.Result.{result-of, rules-after}
 use Rattle.sheet.proofs.ResultWords.{result-book}
 
 -- the run of a result and the list lent, as far as the result says
-abbrev pub runOf : Sheet → List ℕ → Run
-runOf r rules = run-of (take (18 * r .rules) rules) (take (r .«goal_len») (r .goal)) (r .start)
+abbrev pub result-run : Sheet → List ℕ → Run
+result-run r rules = run-of (take (rule-width * r .rules) rules) (take (r .«goal_len») (r .goal)) (r .start)
 
-pub result-decoded : (s lent : List ℕ) → resultOf (length lent) (readSheet s) .refusal ≡ 0
-    → (b : Book) × (readSheet s ≡ written b) × (runOf (resultOf (length lent) (readSheet s)) (rulesAfter lent (readSheet s)) ≡ run-of (joined (b .rules)) (b .goal) (b .start))
+pub result-decoded : (s lent : List ℕ) → result-of (length lent) (read-sheet s) .refusal ≡ 0
+    → (b : Book) × (read-sheet s ≡ written b) × (result-run (result-of (length lent) (read-sheet s)) (rules-after lent (read-sheet s)) ≡ run-of (joined (b .rules)) (b .goal) (b .start))
 result-decoded = result-book (λ _ _. run-of)

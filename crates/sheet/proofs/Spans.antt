@@ -10,14 +10,14 @@ use borrow.Author.Tests.{eq-eqb, ne-eqb, le-ltb, lt-ltb}
 use Rattle.chars.specs.Bytes.{text}
 use Rattle.chars.specs.Pieces.{lines, fields, bare}
 use Rattle.chars.specs.Places.{same}
-use Rattle.chars.specs.Inner.{fieldsFrom, FieldEnd, BareEnd}
+use Rattle.chars.specs.Inner.{fields-from, FieldEnd, BareEnd}
 use Rattle.chars.proofs.Fields.{fields-first}
 use Rattle.chars.proofs.Names.{same-length}
 use Rattle.sheet.specs.declared.Span.{Span}
 use Rattle.sheet.specs.Book.{Book}
-use Rattle.sheet.specs.Reader.{readSheet, refused, written}
-use Rattle.sheet.specs.FluentName.{nowhere, nameIn, nameSpan}
-use Rattle.sheet.specs.Held.{fieldSpan}
+use Rattle.sheet.specs.Reader.{read-sheet, refused, written}
+use Rattle.sheet.specs.FluentName.{nowhere, name-in, name-span}
+use Rattle.sheet.specs.Held.{field-span}
 
 abbrev span : ℕ → ℕ → Span
 span i n = record { at = i; len = n }
@@ -26,42 +26,42 @@ module _ (s : List ℕ) (at e end q k : ℕ) (ls : List (List ℕ)) (B : BareEnd
   next : at + length (slice at e s) + 1 ≡ e + 1
   next = let l = length-slice at e s w in omega (arith, B .from, B .within)
 
-  first : fields (bare (slice at e s)) ≡ slice at q s ∷ fieldsFrom (q + 1) end s
+  first : fields (bare (slice at e s)) ≡ slice at q s ∷ fields-from (q + 1) end s
   first = ap fields (B .cut) ∙ fields-first s at end q (B .from) f
 
-  pub name-passed : same (slice at q s) (text "fluent") ≡ false → nameIn at k (slice at e s ∷ ls) ≡ nameIn (e + 1) k ls
-  unfolding nameIn
-  name-passed x = rw (← next, first, x, nameIn)
+  pub name-passed : same (slice at q s) (text "fluent") ≡ false → name-in at k (slice at e s ∷ ls) ≡ name-in (e + 1) k ls
+  unfolding name-in
+  name-passed x = rw (← next, first, x, name-in)
 
   module _ (x : same (slice at q s) (text "fluent") ≡ true) where
-    pub name-later : (k ≡ 0 → ⊥) → nameIn at k (slice at e s ∷ ls) ≡ nameIn (e + 1) (k - 1) ls
-    unfolding nameIn
-    name-later z = rw (← next, first, x, ne-eqb k 0 z, nameIn)
+    pub name-later : (k ≡ 0 → ⊥) → name-in at k (slice at e s ∷ ls) ≡ name-in (e + 1) (k - 1) ls
+    unfolding name-in
+    name-later z = rw (← next, first, x, ne-eqb k 0 z, name-in)
 
-    pub name-here : k ≡ 0 → nameIn at k (slice at e s ∷ ls) ≡ fieldSpan s q end
-    unfolding nameIn
+    pub name-here : k ≡ 0 → name-in at k (slice at e s ∷ ls) ≡ field-span s q end
+    unfolding name-in
     name-here z =
         let l = same-length (slice at q s) (text "fluent") x in
         let i = f .within in
         let b = B .within in
         let m = length-slice at q s (omega arith) in
         let j : at + 7 ≡ q + 1 = omega (arith, l, m, f .from) in
-        rw (first, x, eq-eqb k 0 z, nameIn, first) (ap (λ (i : ℕ). span i (length (getD (fieldsFrom (q + 1) end s) 0 []))) j)
+        rw (first, x, eq-eqb k 0 z, name-in, first) (ap (λ (i : ℕ). span i (length (getD (fields-from (q + 1) end s) 0 []))) j)
 
-pub name-nowhere : (at k : ℕ) → nameIn at k [] ≡ nowhere
-unfolding nameIn
+pub name-nowhere : (at k : ℕ) → name-in at k [] ≡ nowhere
+unfolding name-in
 name-nowhere at k = refl
 
 module _ (s : List ℕ) (k : ℕ) where
-  pub span-refused : (n l : ℕ) → readSheet s ≡ refused n l → nameSpan s k ≡ nowhere
-  unfolding nameSpan
-  span-refused n l e = rw (e, nameSpan)
+  pub span-refused : (n l : ℕ) → read-sheet s ≡ refused n l → name-span s k ≡ nowhere
+  unfolding name-span
+  span-refused n l e = rw (e, name-span)
 
-  module _ (b : Book) (e : readSheet s ≡ written b) where
-    pub span-high : length (b .names .fluents) ≤ k → nameSpan s k ≡ nowhere
-    unfolding nameSpan
-    span-high h = rw (e, le-ltb k (length (b .names .fluents)) h, nameSpan)
+  module _ (b : Book) (e : read-sheet s ≡ written b) where
+    pub span-high : length (b .names .fluents) ≤ k → name-span s k ≡ nowhere
+    unfolding name-span
+    span-high h = rw (e, le-ltb k (length (b .names .fluents)) h, name-span)
 
-    pub span-fluent : k < length (b .names .fluents) → nameSpan s k ≡ nameIn 0 k (lines s)
-    unfolding nameSpan
-    span-fluent h = rw (e, lt-ltb k (length (b .names .fluents)) h, nameSpan)
+    pub span-fluent : k < length (b .names .fluents) → name-span s k ≡ name-in 0 k (lines s)
+    unfolding name-span
+    span-fluent h = rw (e, lt-ltb k (length (b .names .fluents)) h, name-span)

@@ -7,15 +7,17 @@ use native.Mathlib.Omega.{arith}
 use lib.Dec.{ltb, eqb}
 use lib.ListN.{length, getD}
 use borrow.Author.Tests.{lt-ltb, ltb-true, not-true}
+use Rattle.refusals.specs.Refusals as refusals
 use Rattle.steps.specs.State.{holds, added}
 use Rattle.steps.specs.Acceptance.{good-step}
 use Rattle.steps.proofs.EachBelow.{both}
 use Rattle.steps.proofs.StateLaws.{room, not-held}
-use Rattle.chars.specs.Bytes.{isName}
-use Rattle.chars.specs.Places.{place, among, byteAt}
+use Rattle.chars.specs.Bytes.{is-name}
+use Rattle.chars.specs.Places.{place, among, byte-at}
 use Rattle.sheet.specs.Verdict.{accept, _>>=_}
-use Rattle.sheet.specs.Book.{Book, Symbols, ruleWords}
-use Rattle.sheet.specs.Field.{usedName, stepWord, stepWords, stepFrom, namesOf, marks, startName, startNames}
+use Rattle.sheet.specs.Book.{Book, Symbols, rule-words}
+use Rattle.sheet.specs.Field.{used-name, step-word, step-words, names-of, marks, start-name, start-names}
+use Rattle.sheet.specs.Held.{step-from}
 use Rattle.sheet.proofs.Verdicts.{followed, required, same-value, not-both}
 use Rattle.sheet.proofs.AcceptedLines.{action, start, goal, judged-accepted}
 
@@ -28,7 +30,7 @@ pub record GoodSteps (fluents actions : ℕ) (steps : List ℕ) : Type 0 where
 pub record GoodRule (fluents actions : ℕ) (words : List ℕ) : Type 0 where
   pub head : ℕ
   pub steps : List ℕ
-  pub is : words ≡ ruleWords head steps
+  pub is : words ≡ rule-words head steps
   pub action : head < actions
   pub good : GoodSteps fluents actions steps
 
@@ -60,10 +62,10 @@ module _ (f f′ a a′ : ℕ) (p : f ≤ f′) (q : a ≤ a′) where
   rule-more words g = record { head = g .head; steps = g .steps; is = g .is; action = omega (arith, g .action); good = steps-more (g .steps) (g .good) }
 
 -- a used name's number is below the count
-pub used-below : (names : List (List ℕ)) (f : List ℕ) (k : ℕ) → usedName names f ≡ accept k → k < length names
-unfolding usedName
+pub used-below : (names : List (List ℕ)) (f : List ℕ) (k : ℕ) → used-name names f ≡ accept k → k < length names
+unfolding used-name
 used-below names f k e =
-    let j = judged-accepted (isName f) true (among f names) (place f names) k e in
+    let j = judged-accepted (is-name f) true (among f names) (place f names) k e in
     omega (arith, ltb-true (place f names) (length names) (j .is-defined), j .value)
 
 -- accepted steps are good steps, where there are at most 64 fluents and 64 actions
@@ -73,7 +75,7 @@ module _ (y : Symbols) (few-fluents : length (y .fluents) ≤ 64) (few-actions :
   Each ws = (i : ℕ) → i < length ws → good-step (length (y .fluents)) (length (y .actions)) (getD ws i 0) ≡ true
 
   -- an index below the count of its kind's names is below 256 too
-  index-below : (kind index : ℕ) → index < length (namesOf y kind) → (index < cond (eqb kind 3) (length (y .actions)) (length (y .fluents))) × (index < 256)
+  index-below : (kind index : ℕ) → index < length (names-of y kind) → (index < cond (eqb kind 3) (length (y .actions)) (length (y .fluents))) × (index < 256)
   index-below kind index = by (eqb kind 3)
     where
       by : (t : Bool) → index < length (cond t (y .actions) (y .fluents)) → (index < cond t (length (y .actions)) (length (y .fluents))) × (index < 256)
@@ -81,7 +83,7 @@ module _ (y : Symbols) (few-fluents : length (y .fluents) ≤ 64) (few-actions :
       by false l = (l, omega arith)
 
   -- 256 times kind plus index is a good step
-  word-good : (kind index : ℕ) → kind < 5 → index < length (namesOf y kind) → good-step (length (y .fluents)) (length (y .actions)) (256 * kind + index) ≡ true
+  word-good : (kind index : ℕ) → kind < 5 → index < length (names-of y kind) → good-step (length (y .fluents)) (length (y .actions)) (256 * kind + index) ≡ true
   unfolding good-step
   word-good kind index k l =
       let (i, j) = index-below kind index l in
@@ -90,14 +92,14 @@ module _ (y : Symbols) (few-fluents : length (y .fluents) ≤ 64) (few-actions :
       rw (d, m, lt-ltb kind 5 k) (lt-ltb index (cond (eqb kind 3) (length (y .actions)) (length (y .fluents))) i)
 
   -- the word of an accepted step is a good step
-  step-good : (f : List ℕ) (w : ℕ) → stepWord y f ≡ accept w → good-step (length (y .fluents)) (length (y .actions)) w ≡ true
-  unfolding stepWord
-  step-good [] w e = absurd (not-both 14 w e)
+  step-good : (f : List ℕ) (w : ℕ) → step-word y f ≡ accept w → good-step (length (y .fluents)) (length (y .actions)) w ≡ true
+  unfolding step-word
+  step-good [] w e = absurd (not-both refusals.bad-field w e)
   step-good (mark ∷ name) w e =
-      let kind = byteAt mark marks in
-      let (k, r) = required (ltb kind 5) 14 (λ _. stepFrom kind (usedName (namesOf y kind) name)) w e in
-      let (index, u, v) = followed (usedName (namesOf y kind) name) (λ index. accept (256 * kind + index)) w r in
-      let g = word-good kind index (ltb-true kind 5 k) (used-below (namesOf y kind) name index u) in
+      let kind = byte-at mark marks in
+      let (k, r) = required (ltb kind 5) refusals.bad-field (λ _. step-from kind (used-name (names-of y kind) name)) w e in
+      let (index, u, v) = followed (used-name (names-of y kind) name) (λ index. accept (256 * kind + index)) w r in
+      let g = word-good kind index (ltb-true kind 5 k) (used-below (names-of y kind) name index u) in
       subst (λ (x : ℕ). good-step (length (y .fluents)) (length (y .actions)) x ≡ true) (same-value v) g
 
   -- one good step before others
@@ -106,27 +108,27 @@ module _ (y : Symbols) (few-fluents : length (y .fluents) ≤ 64) (few-actions :
   each-cons w ws g e (suc i) l = e i (omega arith)
 
   -- the words of accepted steps are good steps, one for each field
-  steps-good : (fs : List (List ℕ)) (ws : List ℕ) → stepWords y fs ≡ accept ws → (length ws ≡ length fs) × Each ws
-  unfolding stepWords
+  steps-good : (fs : List (List ℕ)) (ws : List ℕ) → step-words y fs ≡ accept ws → (length ws ≡ length fs) × Each ws
+  unfolding step-words
   steps-good [] ws e = subst (λ (x : List ℕ). (length x ≡ 0) × Each x) (same-value e) (refl, λ i l. absurd (omega arith))
   steps-good (f ∷ fs) ws e =
-      let (w, u, r) = followed (stepWord y f) (λ w. stepWords y fs >>= (λ us. accept (w ∷ us))) ws e in
-      let (us, v, t) = followed (stepWords y fs) (λ us. accept (w ∷ us)) ws r in
+      let (w, u, r) = followed (step-word y f) (λ w. step-words y fs >>= (λ us. accept (w ∷ us))) ws e in
+      let (us, v, t) = followed (step-words y fs) (λ us. accept (w ∷ us)) ws r in
       let (n, g) = steps-good fs us v in
       subst (λ (x : List ℕ). (length x ≡ suc (length fs)) × Each x) (same-value t) (ap suc n, each-cons w us (step-good f w u) g)
 
   -- the words of at most 16 accepted steps are a good body
-  pub body-good : (fs : List (List ℕ)) (ws : List ℕ) → length fs ≤ 16 → stepWords y fs ≡ accept ws → GoodSteps (length (y .fluents)) (length (y .actions)) ws
+  pub body-good : (fs : List (List ℕ)) (ws : List ℕ) → length fs ≤ 16 → step-words y fs ≡ accept ws → GoodSteps (length (y .fluents)) (length (y .actions)) ws
   body-good fs ws l e = let (n, g) = steps-good fs ws e in record { few = omega arith; each = g }
 
 -- the names of `start` set bits below the count of fluents
 module _ (y : Symbols) where
   -- one name more
-  name-below : (f : List ℕ) (state next : ℕ) → state < 2 ^ length (y .fluents) → startName y state f ≡ accept next → next < 2 ^ length (y .fluents)
-  unfolding startName
+  name-below : (f : List ℕ) (state next : ℕ) → state < 2 ^ length (y .fluents) → start-name y state f ≡ accept next → next < 2 ^ length (y .fluents)
+  unfolding start-name
   name-below f state next l e =
       let k = place f (y .fluents) in
-      let j = judged-accepted (isName f) (not (among f (y .fluents) && holds state k)) (among f (y .fluents)) (added state k) next e in
+      let j = judged-accepted (is-name f) (not (among f (y .fluents) && holds state k)) (among f (y .fluents)) (added state k) next e in
       let h : holds state k ≡ false = fresh (among f (y .fluents)) (holds state k) (j .is-defined) (j .is-fresh) in
       let d : added state k ≡ state + 2 ^ k = ap (λ (t : Bool). cond t state (state + 2 ^ k)) h in
       subst (λ (x : ℕ). x < 2 ^ length (y .fluents)) (sym d ∙ j .value) (room (length (y .fluents)) k state (ltb-true k (length (y .fluents)) (j .is-defined)) l (not-held state k h))
@@ -135,9 +137,9 @@ module _ (y : Symbols) where
       fresh t u e n = not-true u (rw e at n)
 
   -- all names of a line
-  pub start-below : (fs : List (List ℕ)) (state last : ℕ) → state < 2 ^ length (y .fluents) → startNames y state fs ≡ accept last → last < 2 ^ length (y .fluents)
-  unfolding startNames
+  pub start-below : (fs : List (List ℕ)) (state last : ℕ) → state < 2 ^ length (y .fluents) → start-names y state fs ≡ accept last → last < 2 ^ length (y .fluents)
+  unfolding start-names
   start-below [] state last l e = subst (λ (x : ℕ). x < 2 ^ length (y .fluents)) (same-value e) l
   start-below (f ∷ fs) state last l e =
-      let (next, u, r) = followed (startName y state f) (λ next. startNames y next fs) last e in
+      let (next, u, r) = followed (start-name y state f) (λ next. start-names y next fs) last e in
       start-below fs next last (name-below f state next l u) r

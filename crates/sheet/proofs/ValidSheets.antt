@@ -9,10 +9,11 @@ use lib.ListN.{length, getD, drop, length-append, length-drop, List·getD-append
 use lib.Seq.{getD-append-seam}
 use Rattle.chars.specs.Pieces.{lines, fields}
 use Rattle.sheet.specs.declared.lines.Word.{Word}
-use Rattle.sheet.specs.Book.{Book, Symbols, empty, ruleWords, withFluent, withAction, withRule}
-use Rattle.sheet.specs.Line.{wordOf}
-use Rattle.sheet.specs.Reader.{readSheet, written}
-use Rattle.sheet.proofs.AcceptedLines.{Accepted, fluent, action, rule, start, goal, accepted-text, AllRead, done, more, recordLines, sheet-records}
+use Rattle.sheet.specs.Book.{Book, Symbols, rule-words, with-names, with-rule}
+use Rattle.sheet.specs.Line.{Reading, empty, word-of}
+use Rattle.sheet.specs.Reader.{read-sheet, written}
+use Rattle.sheet.proofs.Readings.{whole}
+use Rattle.sheet.proofs.AcceptedLines.{Accepted, fluent, action, rule, start, goal, accepted-text, AllRead, done, more, record-lines, sheet-records}
 use Rattle.sheet.proofs.Valid.{Valid, GoodSteps, GoodRule, steps-more, rule-more, used-below, body-good, start-below}
 
 -- one element more makes a list longer by one
@@ -34,8 +35,8 @@ rules-more f a rs r g h i l = by (decLt i (length rs))
 module _ (b : Book) (v : Valid b) where
   -- more names keep rules, goal and start good
   module _ (y : Symbols) (p : length (b .names .fluents) ≤ length (y .fluents)) (q : length (b .names .actions) ≤ length (y .actions)) where
-    named : (stage : ℕ) → length (y .fluents) ≤ 64 → length (y .actions) ≤ 64 → Valid (record { stage = stage; names = y; rules = b .rules; started = b .started; start = b .start; goal = b .goal })
-    named stage i j = record {
+    named : length (y .fluents) ≤ 64 → length (y .actions) ≤ 64 → Valid (with-names b (y .fluents) (y .actions))
+    named i j = record {
       few-fluents = i;
       few-actions = j;
       few-rules = v .few-rules;
@@ -45,54 +46,59 @@ module _ (b : Book) (v : Valid b) where
     }
 
   -- a fluent more, where there were fewer than 64
-  valid-fluent : (name : List ℕ) → length (b .names .fluents) < 64 → Valid (withFluent b name)
+  valid-fluent : (name : List ℕ) → length (b .names .fluents) < 64 → Valid (with-names b (b .names .fluents ++ (name ∷ [])) (b .names .actions))
   valid-fluent name l =
       let n = one-more (b .names .fluents) name in
-      named (withFluent b name .names) (omega arith) (omega arith) 0 (omega arith) (v .few-actions)
+      named (record { fluents = b .names .fluents ++ (name ∷ []); actions = b .names .actions }) (omega arith) (omega arith) (omega arith) (v .few-actions)
 
   -- an action more, where there were fewer than 64
-  valid-action : (name : List ℕ) → length (b .names .actions) < 64 → Valid (withAction b name)
+  valid-action : (name : List ℕ) → length (b .names .actions) < 64 → Valid (with-names b (b .names .fluents) (b .names .actions ++ (name ∷ [])))
   valid-action name l =
       let n = one-more (b .names .actions) name in
-      named (withAction b name .names) (omega arith) (omega arith) 1 (v .few-fluents) (omega arith)
+      named (record { fluents = b .names .fluents; actions = b .names .actions ++ (name ∷ []) }) (omega arith) (omega arith) (v .few-fluents) (omega arith)
 
   -- a good rule more, where there were fewer than 256
-  valid-rule : (head : ℕ) (steps : List ℕ) → length (b .rules) < 256 → head < length (b .names .actions) → GoodSteps (length (b .names .fluents)) (length (b .names .actions)) steps → Valid (withRule b head steps)
+  valid-rule : (head : ℕ) (steps : List ℕ) → length (b .rules) < 256 → head < length (b .names .actions) → GoodSteps (length (b .names .fluents)) (length (b .names .actions)) steps → Valid (with-rule b head steps)
   valid-rule head steps l h g =
-      let n = one-more (b .rules) (ruleWords head steps) in
+      let n = one-more (b .rules) (rule-words head steps) in
       record {
         few-fluents = v .few-fluents;
         few-actions = v .few-actions;
         few-rules = omega arith;
-        rules = rules-more _ _ (b .rules) (ruleWords head steps) (v .rules) (record { head = head; steps = steps; is = refl; action = h; good = g });
+        rules = rules-more _ _ (b .rules) (rule-words head steps) (v .rules) (record { head = head; steps = steps; is = refl; action = h; good = g });
         goal = v .goal;
         start = v .start;
       }
 
-  -- an accepted line, by its word
-  pub valid-line : (next : Book) (w : Word) (fs : List (List ℕ)) → Accepted b next fs w → Valid next
-  valid-line next w fs (fluent l one e) = subst⁻¹ Valid e (valid-fluent (getD fs 0 []) l)
-  valid-line next w fs (action l e) = subst⁻¹ Valid e (valid-action (getD fs 0 []) l)
+-- a reading whose book is valid
+abbrev pub ValidSoFar : Reading → Type 0
+ValidSoFar r = Valid (r .book)
+
+-- an accepted line, by its word
+module _ (b : Reading) (v : ValidSoFar b) where
+  pub valid-line : (next : Reading) (w : Word) (fs : List (List ℕ)) → Accepted b next fs w → ValidSoFar next
+  valid-line next w fs (fluent l one e) = subst⁻¹ ValidSoFar e (valid-fluent (b .book) v (getD fs 0 []) l)
+  valid-line next w fs (action l e) = subst⁻¹ ValidSoFar e (valid-action (b .book) v (getD fs 0 []) l)
   valid-line next w fs (rule head steps l n u s e) =
       let d = length-drop 1 fs in
-      let g = body-good (b .names) (v .few-fluents) (v .few-actions) (drop 1 fs) steps (omega arith) s in
-      subst⁻¹ Valid e (valid-rule head steps l (used-below (b .names .actions) (getD fs 0 []) head u) g)
+      let g = body-good (b .book .names) (v .few-fluents) (v .few-actions) (drop 1 fs) steps (omega arith) s in
+      subst⁻¹ ValidSoFar e (valid-rule (b .book) v head steps l (used-below (b .book .names .actions) (getD fs 0 []) head u) g)
   valid-line next w fs (start state s e) =
-      let l = start-below (b .names) fs 0 state (pow-pos (length (b .names .fluents))) s in
-      subst⁻¹ Valid e (record { few-fluents = v .few-fluents; few-actions = v .few-actions; few-rules = v .few-rules; rules = v .rules; goal = v .goal; start = l })
+      let l = start-below (b .book .names) fs 0 state (pow-pos (length (b .book .names .fluents))) s in
+      subst⁻¹ ValidSoFar e (record { few-fluents = v .few-fluents; few-actions = v .few-actions; few-rules = v .few-rules; rules = v .rules; goal = v .goal; start = l })
   valid-line next w fs (goal steps n s e) =
-      let g = body-good (b .names) (v .few-fluents) (v .few-actions) fs steps n s in
-      subst⁻¹ Valid e (record { few-fluents = v .few-fluents; few-actions = v .few-actions; few-rules = v .few-rules; rules = v .rules; goal = g; start = v .start })
+      let g = body-good (b .book .names) (v .few-fluents) (v .few-actions) fs steps n s in
+      subst⁻¹ ValidSoFar e (record { few-fluents = v .few-fluents; few-actions = v .few-actions; few-rules = v .few-rules; rules = v .rules; goal = g; start = v .start })
 
 -- accepted lines, from the top
-valid-lines : (b last : Book) (ls : List (List ℕ)) → Valid b → AllRead last b ls → Valid last
-valid-lines b last [] v (done e) = subst Valid e v
-valid-lines b last (l ∷ ls) v (more next h r) = valid-lines next last ls (valid-line b v next (wordOf (getD (fields l) 0 [])) (drop 1 (fields l)) (accepted-text b next l h)) r
+valid-lines : (b last : Reading) (ls : List (List ℕ)) → ValidSoFar b → AllRead last b ls → ValidSoFar last
+valid-lines b last [] v (done e) = subst ValidSoFar e v
+valid-lines b last (l ∷ ls) v (more next h r) = valid-lines next last ls (valid-line b v next (word-of (getD (fields l) 0 [])) (drop 1 (fields l)) (accepted-text b next l h)) r
 
 -- the book before the first line
-pub empty-valid : Valid empty
+pub empty-valid : ValidSoFar empty
 empty-valid = record { few-fluents = omega arith; few-actions = omega arith; few-rules = omega arith; rules = λ r l. absurd (omega arith); goal = record { few = omega arith; each = λ i l. absurd (omega arith) }; start = omega arith }
 
 -- the book of an accepted sheet is valid
-pub sheet-valid : (s : List ℕ) (b : Book) → readSheet s ≡ written b → Valid b
-sheet-valid s b e = valid-lines empty b (recordLines (lines s)) empty-valid (sheet-records s b e)
+pub sheet-valid : (s : List ℕ) (b : Book) → read-sheet s ≡ written b → Valid b
+sheet-valid s b e = valid-lines empty (whole b) (record-lines (lines s)) empty-valid (sheet-records s b e)

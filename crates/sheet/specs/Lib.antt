@@ -1,5 +1,5 @@
--- What a sheet says, each file a paragraph of document 01: the numbers of the refusals; what a sheet is read into; a field, a line, the whole sheet; what the reader gives; where a fluent's name stands.
-pub mod Refusals
+-- What a sheet says, each file a paragraph of document 01: what a sheet is read into; a field, a line, the whole sheet; what the reader
+-- gives; where a fluent's name stands.
 pub mod Verdict
 pub mod Book
 pub mod Field

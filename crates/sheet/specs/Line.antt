@@ -1,23 +1,23 @@
--- A line of a sheet: 13, 17 and the count part of 14, then its fields by its word. Assumes nothing.
-use Prim.Native.Nat.{ℕ}
+-- A line of a sheet, read after those above it: 13, 17 and the count part of 14, then its fields by its word. Assumes nothing.
+use Prim.Native.Nat.{ℕ, suc}
 use mathlib.Core.Bool.{Bool, false, cond, not, _&&_, _||_}
-use mathlib.Core.List.{List, []}
+use mathlib.Core.List.{List, [], _∷_, _++_}
 use lib.ListN.{length, getD, drop}
 use lib.Dec.{leb, ltb, eqb}
+use Rattle.refusals.specs.Refusals as refusals
 use Rattle.chars.specs.Bytes.{text, HASH, begins}
 use Rattle.chars.specs.Pieces.{fields, bare}
 use Rattle.chars.specs.Places.{same}
 use Rattle.sheet.specs.declared.lines.Word.{Word}
 use Rattle.sheet.specs.declared.lines.Word.the-variants.{Fluent, Action, Rule, Start, Goal, Other}
-use Rattle.sheet.specs.Refusals.{badWord, tooMany, badField}
 use Rattle.sheet.specs.Verdict.{Verdict, refuse, accept, _>>=_, require}
-use Rattle.sheet.specs.Book.{Book, withFluent, withAction, withRule, withStart, withGoal}
-use Rattle.sheet.specs.Field.{newName, usedName, stepWords, startNames}
+use Rattle.sheet.specs.Book.{Book, with-names, with-rule, with-start, with-goal}
+use Rattle.sheet.specs.Field.{new-name, used-name, step-words, start-names}
 
 -- A line's first field: a record word, or another.
-unfoldable pub wordOf : List ℕ → Word
+unfoldable pub word-of : List ℕ → Word
 unfolding same
-wordOf f =
+word-of f =
     cond (same f (text "fluent")) Fluent
     (cond (same f (text "action")) Action
     (cond (same f (text "rule")) Rule
@@ -34,9 +34,20 @@ row Start = 3
 row Goal = 4
 row Other = 5
 
--- A record word that is not out of order: no line above has a word later in the row, and no `start` or `goal` is the second.
-abbrev pub inOrder : ℕ → Word → Bool
-inOrder stage w = ltb (row w) 5 && leb stage (row w)
+-- The reading of the lines so far: what they say, the place of the first word of the row that the next line may have, and whether a `start`
+-- stood above.
+pub record Reading : Type 0 where
+  pub book : Book
+  pub stage : ℕ
+  pub started : Bool
+
+-- Before the first line nothing is said.
+abbrev pub empty : Reading
+empty = record { book = record { names = record { fluents = []; actions = [] }; rules = []; start = 0; goal = [] }; stage = 0; started = false }
+
+-- The reading after a line with this word, which made the book: the word may come again, but no second `start` or `goal`.
+abbrev pub after : Reading → Word → Book → Reading
+after r w book = record { book = book; stage = cond (ltb (row w) 3) (row w) (suc (row w)); started = eqb (row w) 3 || r .started }
 
 -- 65th fluent or action, 257th rule, or more than 16 steps, for a word with n fields after it.
 unfoldable pub overfull : Book → Word → ℕ → Bool
@@ -57,46 +68,42 @@ miscounted Goal n = false
 miscounted Other n = false
 
 -- What a line's fields add to the book, by its word.
-unfoldable pub recordLine : Book → Word → List (List ℕ) → Verdict Book
-unfolding newName usedName stepWords startNames
-recordLine b Fluent fs = do
-  name ← newName (b .names) (getD fs 0 [])
-  accept (withFluent b name)
-recordLine b Action fs = do
-  name ← newName (b .names) (getD fs 0 [])
-  accept (withAction b name)
-recordLine b Rule fs = do
-  head ← usedName (b .names .actions) (getD fs 0 [])
-  steps ← stepWords (b .names) (drop 1 fs)
-  accept (withRule b head steps)
-recordLine b Start fs = do
-  state ← startNames (b .names) 0 fs
-  accept (withStart b state)
-recordLine b Goal fs = do
-  steps ← stepWords (b .names) fs
-  accept (withGoal b steps)
-recordLine b Other fs = refuse badWord
+unfoldable pub record-line : Book → Word → List (List ℕ) → Verdict Book
+unfolding new-name used-name step-words start-names
+record-line b Fluent fs = do
+  name ← new-name (b .names) (getD fs 0 [])
+  accept (with-names b (b .names .fluents ++ (name ∷ [])) (b .names .actions))
+record-line b Action fs = do
+  name ← new-name (b .names) (getD fs 0 [])
+  accept (with-names b (b .names .fluents) (b .names .actions ++ (name ∷ [])))
+record-line b Rule fs = do
+  head ← used-name (b .names .actions) (getD fs 0 [])
+  steps ← step-words (b .names) (drop 1 fs)
+  accept (with-rule b head steps)
+record-line b Start fs = do
+  state ← start-names (b .names) 0 fs
+  accept (with-start b state)
+record-line b Goal fs = do
+  steps ← step-words (b .names) fs
+  accept (with-goal b steps)
+record-line b Other fs = refuse refusals.bad-word
 
--- In a line 13, 17 and the count part of 14 come first, for a word with n fields after it.
-unfoldable pub lineHead : Book → Word → ℕ → Verdict (Unit {0})
-unfolding overfull
-lineHead b w n = do
-  _ ← require (inOrder (b .stage) w) badWord
-  _ ← require (not (overfull b w n)) tooMany
-  require (not (miscounted w n)) badField
-
--- A line by its word and the fields after it: its head, then fields from the left.
-abbrev pub lineOf : Book → Word → List (List ℕ) → Verdict Book
-lineOf b w fs = do
-  _ ← lineHead b w (length fs)
-  recordLine b w fs
+-- A line by its word and the fields after it: 13, 17 and the count part of 14 come first, then fields from the left. A record word is not out
+-- of order where no line above has a word later in the row, and no `start` or `goal` is the second.
+abbrev pub line-of : Reading → Word → List (List ℕ) → Verdict Reading
+line-of r w fs = do
+  _ ← require (ltb (row w) 5 && leb (r .stage) (row w)) refusals.bad-word
+  _ ← require (not (overfull (r .book) w (length fs))) refusals.too-many
+  _ ← require (not (miscounted w (length fs))) refusals.bad-field
+  book ← record-line (r .book) w fs
+  accept (after r w book)
 
 -- A line that is no comment: its first field is its word.
-unfoldable pub plainLine : Book → List ℕ → Verdict Book
-unfolding fields wordOf lineHead recordLine
-plainLine b l = lineOf b (wordOf (getD (fields l) 0 [])) (drop 1 (fields l))
+unfoldable pub plain-line : Reading → List ℕ → Verdict Reading
+unfolding fields word-of overfull record-line
+plain-line r l = line-of r (word-of (getD (fields l) 0 [])) (drop 1 (fields l))
 
 -- A line: one that starts with `#` is a comment and adds nothing; of any other the CR at its end is no part.
-unfoldable pub line : Book → List ℕ → Verdict Book
-unfolding plainLine bare
-line b l = cond (begins HASH l) (accept b) (plainLine b (bare l))
+unfoldable pub line : Reading → List ℕ → Verdict Reading
+unfolding plain-line bare
+line r l = cond (begins HASH l) (accept r) (plain-line r (bare l))

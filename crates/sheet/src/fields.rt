@@ -3,18 +3,17 @@ ghost use mathlib.Core.Path.{_≡_};
 ghost use Prim.Native.Nat.{_+_, _≤_};
 ghost use lib.ListN.{length};
 ghost use lib.Seq.{slice};
-ghost use Rattle.chars.specs.Inner.{fieldsFrom};
-ghost use Rattle.sheet.specs.Field.{stepWords, startName, startNames};
-ghost use Rattle.sheet.specs.Held.{Held, symbolsOf, answer, stepsOf, Filled};
+ghost use Rattle.chars.specs.Inner.{fields-from};
+ghost use Rattle.sheet.specs.Field.{step-words, start-name, start-names};
+ghost use Rattle.sheet.specs.Held.{Held, symbols-of, answer, steps-of, Filled};
 use crate::names;
 use crate::names::Names;
-use crate::refusals;
 use steps::state::State;
 
 // How many fields there are.
 pub fn count_fields(s: &[u8], p: usize, e: usize) -> usize
     requires { ⌜ (p ≤ e + 1) × (e ≤ length (now s)) ⌝ }
-    ensures { λ r. ⌜ r ≡ length (fieldsFrom p e (now (s .entry))) ⌝ }
+    ensures { λ r. ⌜ r ≡ length (fields-from p e (now (s .entry))) ⌝ }
 {
     let mut n = 0;
     let mut at = p;
@@ -36,8 +35,8 @@ pub struct Body {
 pub fn steps(s: &[u8], p: usize, e: usize, n: Names) -> Body
     requires { ⌜ Held (now s) n ⌝ }
     requires { ⌜ (p ≤ e + 1) × (e ≤ length (now s)) ⌝ }
-    requires { ⌜ length (fieldsFrom p e (now s)) ≤ 16 ⌝ }
-    ensures { λ r. ⌜ answer (r .refusal) (stepsOf r) ≡ stepWords (symbolsOf (now (s .entry)) n) (fieldsFrom p e (now (s .entry))) ⌝ }
+    requires { ⌜ length (fields-from p e (now s)) ≤ 16 ⌝ }
+    ensures { λ r. ⌜ answer (r .refusal) (steps-of r) ≡ step-words (symbols-of (now (s .entry)) n) (fields-from p e (now (s .entry))) ⌝ }
     ensures { λ r. ⌜ Filled (r .len) (r .words) ⌝ }
 {
     let mut words = [0u16; 16];
@@ -76,7 +75,7 @@ pub struct Started {
 fn start_name(s: &[u8], a: usize, e: usize, n: Names, state: State) -> Started
     requires { ⌜ Held (now s) n ⌝ }
     requires { ⌜ (a ≤ e) × (e ≤ length (now s)) ⌝ }
-    ensures { λ r. ⌜ answer (r .refusal) (r .state .0) ≡ startName (symbolsOf (now (s .entry)) n) (state .0) (slice a e (now (s .entry))) ⌝ }
+    ensures { λ r. ⌜ answer (r .refusal) (r .state .0) ≡ start-name (symbols-of (now (s .entry)) n) (state .0) (slice a e (now (s .entry))) ⌝ }
 {
     let fluents = n.fluents;
     let name = names::used_name(s, a, e, n, 0, fluents);
@@ -104,7 +103,7 @@ fn start_name(s: &[u8], a: usize, e: usize, n: Names, state: State) -> Started
 pub fn start_names(s: &[u8], p: usize, e: usize, n: Names) -> Started
     requires { ⌜ Held (now s) n ⌝ }
     requires { ⌜ (p ≤ e + 1) × (e ≤ length (now s)) ⌝ }
-    ensures { λ r. ⌜ answer (r .refusal) (r .state .0) ≡ startNames (symbolsOf (now (s .entry)) n) 0 (fieldsFrom p e (now (s .entry))) ⌝ }
+    ensures { λ r. ⌜ answer (r .refusal) (r .state .0) ≡ start-names (symbols-of (now (s .entry)) n) 0 (fields-from p e (now (s .entry))) ⌝ }
 {
     let mut state = State::NOTHING;
     let mut at = p;

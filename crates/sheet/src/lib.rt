@@ -2,17 +2,16 @@
 mod fields;
 mod lines;
 mod names;
-pub mod refusals;
 
 ghost use mathlib.Core.Path.{_≡_};
 ghost use mathlib.Core.List.{_++_};
 ghost use Prim.Native.Nat.{_≤_, _<_};
 ghost use lib.ListN.{length, take, drop};
 ghost use Rattle.chars.specs.Pieces.{lines};
-ghost use Rattle.sheet.specs.Reader.{wholeSheet, readSheet};
-ghost use Rattle.sheet.specs.Result.{refusal, resultOf, rulesAfter};
-ghost use Rattle.sheet.specs.FluentName.{nameIn, nameSpan, partOf, addressOf};
-ghost use Rattle.sheet.specs.Held.{answer, Gives, fieldSpan};
+ghost use Rattle.sheet.specs.Reader.{whole-sheet, read-sheet};
+ghost use Rattle.sheet.specs.Result.{refusal, result-of, rules-after};
+ghost use Rattle.sheet.specs.FluentName.{name-in, name-span, part-of, address-of};
+ghost use Rattle.sheet.specs.Held.{answer, Gives, field-span};
 use lines::Scan;
 
 // What a sheet says beside its rule words. Refusal 0 is none.
@@ -37,7 +36,7 @@ pub struct Span {
 
 // The refusal of the whole sheet, before its lines are read, or 0.
 fn whole_refusal(s: &[u8]) -> u64
-    ensures { λ r. ⌜ answer r tt ≡ wholeSheet (now (s .entry)) ⌝ }
+    ensures { λ r. ⌜ answer r tt ≡ whole-sheet (now (s .entry)) ⌝ }
 {
     if 65536 < s.len() {
         return refusals::TOO_LONG;
@@ -58,7 +57,7 @@ fn whole_refusal(s: &[u8]) -> u64
 // What the sheet says, with its rule words in `words`, or its refusal and line.
 fn scan_sheet(s: &[u8], words: &mut [u16]) -> Scan
     requires { ⌜ length (now words) ≡ 4608 ⌝ }
-    ensures { λ r. ⌜ Gives (now (s .entry)) (now (words .exit)) (r .line) (r .said) (readSheet (now (s .entry))) ⌝ }
+    ensures { λ r. ⌜ Gives (now (s .entry)) (now (words .exit)) (r .line) (r .said) (read-sheet (now (s .entry))) ⌝ }
 {
     let fault = whole_refusal(s);
     if fault != 0 {
@@ -112,8 +111,8 @@ fn copy_words(to: &mut [u16], from: &[u16], n: usize)
 
 // Reads a sheet: the rule words of an accepted one go to `rules`, which is unchanged past them and by a refusal.
 pub fn read(sheet: &[u8], rules: &mut [u16]) -> Sheet
-    ensures { λ r. ⌜ r ≡ resultOf (length (now (rules .entry))) (readSheet (now (sheet .entry))) ⌝ }
-    ensures { λ _. ⌜ now (rules .exit) ≡ rulesAfter (now (rules .entry)) (readSheet (now (sheet .entry))) ⌝ }
+    ensures { λ r. ⌜ r ≡ result-of (length (now (rules .entry))) (read-sheet (now (sheet .entry))) ⌝ }
+    ensures { λ _. ⌜ now (rules .exit) ≡ rules-after (now (rules .entry)) (read-sheet (now (sheet .entry))) ⌝ }
 {
     let mut words = [0u16; 4608];
     let got = scan_sheet(sheet, &mut words);
@@ -124,10 +123,10 @@ pub fn read(sheet: &[u8], rules: &mut [u16]) -> Sheet
         return refused(r, line);
     }
     let count = b.rules;
-    if rules.len() < 18 * count {
+    if rules.len() < steps::word::RULE_WORDS * count {
         return refused(refusals::NO_ROOM, 0);
     }
-    copy_words(rules, &words, 18 * count);
+    copy_words(rules, &words, steps::word::RULE_WORDS * count);
     let goal = b.goal;
     let n = b.names;
     let start = b.start;
@@ -147,7 +146,7 @@ pub fn read(sheet: &[u8], rules: &mut [u16]) -> Sheet
 fn field_span(s: &[u8], q: usize, e: usize) -> Span
     requires { ⌜ (q ≤ e) × (e ≤ length (now s)) ⌝ }
     requires { ⌜ e < 18446744073709551615 ⌝ }
-    ensures { λ r. ⌜ r ≡ fieldSpan (now (s .entry)) q e ⌝ }
+    ensures { λ r. ⌜ r ≡ field-span (now (s .entry)) q e ⌝ }
 {
     if q == e {
         return Span { at: q + 1, len: 0 };
@@ -159,9 +158,9 @@ fn field_span(s: &[u8], q: usize, e: usize) -> Span
     }
 }
 
-// The name on `fluent` line k, counted from 0.
-fn name_in(s: &[u8], k: u64) -> Span
-    ensures { λ r. ⌜ r ≡ nameIn 0 k (lines (now (s .entry))) ⌝ }
+// The name on `fluent` line k, counted from 0: that of fluent k in an accepted sheet. The rest of the sheet is not looked at.
+pub fn name_in(s: &[u8], k: u64) -> Span
+    ensures { λ r. ⌜ r ≡ name-in 0 k (lines (now (s .entry))) ⌝ }
 {
     let mut at = 0;
     let mut left = k;
@@ -182,7 +181,7 @@ fn name_in(s: &[u8], k: u64) -> Span
 
 // Where the fluent's name stands in the sheet; nothing at 0 for a refused sheet or a number too high.
 pub fn fluent_span(sheet: &[u8], number: u64) -> Span
-    ensures { λ r. ⌜ r ≡ nameSpan (now (sheet .entry)) number ⌝ }
+    ensures { λ r. ⌜ r ≡ name-span (now (sheet .entry)) number ⌝ }
 {
     let mut words = [0u16; 4608];
     let got = scan_sheet(sheet, &mut words);
@@ -201,8 +200,8 @@ pub fn fluent_span(sheet: &[u8], number: u64) -> Span
 
 // The very part of the lent sheet that defines the fluent; for a refused sheet or a number too high, the empty part at the sheet's first byte.
 pub fn fluent_name<'a>(sheet: &'a [u8], number: u64) -> &'a [u8]
-    ensures { λ r. ⌜ now r ≡ partOf (now (sheet .entry)) (nameSpan (now (sheet .entry)) number) ⌝ }
-    ensures { λ r. ⌜ r .ptr ≡ addressOf (sheet .entry .ptr) (nameSpan (now (sheet .entry)) number) ⌝ }
+    ensures { λ r. ⌜ now r ≡ part-of (now (sheet .entry)) (name-span (now (sheet .entry)) number) ⌝ }
+    ensures { λ r. ⌜ r .ptr ≡ address-of (sheet .entry .ptr) (name-span (now (sheet .entry)) number) ⌝ }
 {
     let name = fluent_span(sheet, number);
     let at = name.at;

@@ -5,15 +5,14 @@ ghost use Prim.Native.Nat.{ℕ, _+_, _*_, _≤_, _<_};
 ghost use lib.ListN.{length, take, drop};
 ghost use lib.Seq.{slice};
 ghost use Rattle.chars.specs.Pieces.{lines};
-ghost use Rattle.chars.specs.Inner.{fieldsFrom};
-ghost use Rattle.sheet.specs.Book.{empty};
-ghost use Rattle.sheet.specs.Line.{wordOf, row, overfull, miscounted, lineHead, recordLine, plainLine, line};
-ghost use Rattle.sheet.specs.Reader.{readLines};
-ghost use Rattle.sheet.specs.Held.{Kept, Answers, Gives, answer, bookOf, begun};
+ghost use Rattle.chars.specs.Inner.{fields-from};
+ghost use Rattle.steps.specs.Words.{rule-width};
+ghost use Rattle.sheet.specs.Line.{empty, word-of, row, overfull, miscounted, plain-line, line};
+ghost use Rattle.sheet.specs.Reader.{read-lines};
+ghost use Rattle.sheet.specs.Held.{line-head, Kept, Answers, Reads, answer, recorded, book-in, reading-in, begun};
 use crate::fields;
 use crate::names;
 use crate::names::Names;
-use crate::refusals;
 use steps::state::State;
 
 // A line's first field: a record word, or another.
@@ -72,7 +71,7 @@ pub fn blank(refusal: u64) -> Parse
 // The record word from a up to e.
 fn word_at(s: &[u8], a: usize, e: usize) -> Word
     requires { ⌜ (a ≤ e) × (e ≤ length (now s)) ⌝ }
-    ensures { λ r. ⌜ r ≡ wordOf (slice a e (now (s .entry))) ⌝ }
+    ensures { λ r. ⌜ r ≡ word-of (slice a e (now (s .entry))) ⌝ }
 {
     if chars::is_word(s, a, e, b"fluent") {
         return Word::Fluent;
@@ -108,7 +107,7 @@ fn row(w: Word) -> u64
 
 // Whether a word with n fields after it would be the 65th fluent or action, the 257th rule, or have more than 16 steps.
 fn overfull(b: Parse, w: Word, n: usize) -> bool
-    ensures { λ r. ⌜ ((s words : List ℕ) → r ≡ overfull (bookOf s words b) w n) ⌝ }
+    ensures { λ r. ⌜ ((s words : List ℕ) → r ≡ overfull (book-in s words b) w n) ⌝ }
 {
     let names = b.names;
     match w {
@@ -142,7 +141,7 @@ fn miscounted(w: Word, n: usize) -> bool
 
 // The refusal of a line by its word and the n fields after it, before these are read, or 0.
 fn head_refusal(b: Parse, w: Word, n: usize) -> u64
-    ensures { λ r. ⌜ ((s words : List ℕ) → answer r tt ≡ lineHead (bookOf s words b) w n) ⌝ }
+    ensures { λ r. ⌜ ((s words : List ℕ) → answer r tt ≡ line-head (reading-in s words b) w n) ⌝ }
 {
     let place = row(w);
     if place == 5 {
@@ -166,8 +165,9 @@ fn head_refusal(b: Parse, w: Word, n: usize) -> u64
 fn fluent_line(s: &[u8], p: usize, e: usize, b: Parse) -> Parse
     requires { ⌜ Kept (now s) b ⌝ }
     requires { ⌜ (b .refusal ≡ 0) × (b .stage ≡ 0) × (b .names .fluents < 64) ⌝ }
-    requires { ⌜ (e ≤ length (now s)) × (length (fieldsFrom p e (now s)) ≡ 1) ⌝ }
-    ensures { λ r. ⌜ ((w : List ℕ) → Answers (now (s .entry)) w r (recordLine (bookOf (now (s .entry)) w b) Word.Fluent (fieldsFrom p e (now (s .entry))))) ⌝ }
+    requires { ⌜ (e ≤ length (now s)) × (length (fields-from p e (now s)) ≡ 1) ⌝ }
+    ensures { λ r. ⌜ ((w : List ℕ) → Answers (now (s .entry)) w r
+        (recorded (reading-in (now (s .entry)) w b) Word.Fluent (fields-from p e (now (s .entry))))) ⌝ }
 {
     let n = b.names;
     let r = names::new_name(s, p, e, n);
@@ -185,8 +185,9 @@ fn fluent_line(s: &[u8], p: usize, e: usize, b: Parse) -> Parse
 fn action_line(s: &[u8], p: usize, e: usize, b: Parse) -> Parse
     requires { ⌜ Kept (now s) b ⌝ }
     requires { ⌜ (b .refusal ≡ 0) × (b .names .actions < 64) ⌝ }
-    requires { ⌜ (e ≤ length (now s)) × (length (fieldsFrom p e (now s)) ≡ 1) ⌝ }
-    ensures { λ r. ⌜ ((w : List ℕ) → Answers (now (s .entry)) w r (recordLine (bookOf (now (s .entry)) w b) Word.Action (fieldsFrom p e (now (s .entry))))) ⌝ }
+    requires { ⌜ (e ≤ length (now s)) × (length (fields-from p e (now s)) ≡ 1) ⌝ }
+    ensures { λ r. ⌜ ((w : List ℕ) → Answers (now (s .entry)) w r
+        (recorded (reading-in (now (s .entry)) w b) Word.Action (fields-from p e (now (s .entry))))) ⌝ }
 {
     let n = b.names;
     let r = names::new_name(s, p, e, n);
@@ -203,9 +204,9 @@ fn action_line(s: &[u8], p: usize, e: usize, b: Parse) -> Parse
 
 // Writes a rule's 18 words from `at` on.
 fn put_rule(words: &mut [u16], at: usize, head: u16, count: u16, body: [u16; 16])
-    requires { ⌜ at + 18 ≤ length (now words) ⌝ }
+    requires { ⌜ at + rule-width ≤ length (now words) ⌝ }
     requires { ⌜ length body ≡ 16 ⌝ }
-    ensures { λ _. ⌜ now (words .exit) ≡ take at (now (words .entry)) ++ ((head ∷ count ∷ body) ++ drop (at + 18) (now (words .entry))) ⌝ }
+    ensures { λ _. ⌜ now (words .exit) ≡ take at (now (words .entry)) ++ ((head ∷ count ∷ body) ++ drop (at + rule-width) (now (words .entry))) ⌝ }
 {
     words[at] = head;
     words[at + 1] = count;
@@ -220,9 +221,10 @@ fn put_rule(words: &mut [u16], at: usize, head: u16, count: u16, body: [u16; 16]
 fn rule_line(s: &[u8], p: usize, e: usize, b: Parse, words: &mut [u16]) -> Parse
     requires { ⌜ Kept (now s) b ⌝ }
     requires { ⌜ (b .refusal ≡ 0) × (b .rules < 256) ⌝ }
-    requires { ⌜ (e ≤ length (now s)) × (0 < length (fieldsFrom p e (now s))) × (length (fieldsFrom p e (now s)) ≤ 17) ⌝ }
+    requires { ⌜ (e ≤ length (now s)) × (0 < length (fields-from p e (now s))) × (length (fields-from p e (now s)) ≤ 17) ⌝ }
     requires { ⌜ length (now words) ≡ 4608 ⌝ }
-    ensures { λ r. ⌜ Answers (now (s .entry)) (now (words .exit)) r (recordLine (bookOf (now (s .entry)) (now (words .entry)) b) Word.Rule (fieldsFrom p e (now (s .entry)))) ⌝ }
+    ensures { λ r. ⌜ Answers (now (s .entry)) (now (words .exit)) r
+        (recorded (reading-in (now (s .entry)) (now (words .entry)) b) Word.Rule (fields-from p e (now (s .entry)))) ⌝ }
 {
     let n = b.names;
     let q = chars::field_end(s, p, e);
@@ -242,7 +244,13 @@ fn rule_line(s: &[u8], p: usize, e: usize, b: Parse, words: &mut [u16]) -> Parse
         return blank(t);
     }
     let rules = b.rules;
-    put_rule(words, 18 * rules, h as u16, len as u16, list);
+    put_rule(
+        words,
+        steps::word::RULE_WORDS * rules,
+        h as u16,
+        len as u16,
+        list,
+    );
     let mut next = b;
     next.rules = rules + 1;
     next.stage = 2;
@@ -254,7 +262,8 @@ fn start_line(s: &[u8], p: usize, e: usize, b: Parse) -> Parse
     requires { ⌜ Kept (now s) b ⌝ }
     requires { ⌜ b .refusal ≡ 0 ⌝ }
     requires { ⌜ (p ≤ e + 1) × (e ≤ length (now s)) ⌝ }
-    ensures { λ r. ⌜ ((w : List ℕ) → Answers (now (s .entry)) w r (recordLine (bookOf (now (s .entry)) w b) Word.Start (fieldsFrom p e (now (s .entry))))) ⌝ }
+    ensures { λ r. ⌜ ((w : List ℕ) → Answers (now (s .entry)) w r
+        (recorded (reading-in (now (s .entry)) w b) Word.Start (fields-from p e (now (s .entry))))) ⌝ }
 {
     let n = b.names;
     let got = fields::start_names(s, p, e, n);
@@ -274,8 +283,9 @@ fn start_line(s: &[u8], p: usize, e: usize, b: Parse) -> Parse
 fn goal_line(s: &[u8], p: usize, e: usize, b: Parse) -> Parse
     requires { ⌜ Kept (now s) b ⌝ }
     requires { ⌜ b .refusal ≡ 0 ⌝ }
-    requires { ⌜ (p ≤ e + 1) × (e ≤ length (now s)) × (length (fieldsFrom p e (now s)) ≤ 16) ⌝ }
-    ensures { λ r. ⌜ ((w : List ℕ) → Answers (now (s .entry)) w r (recordLine (bookOf (now (s .entry)) w b) Word.Goal (fieldsFrom p e (now (s .entry))))) ⌝ }
+    requires { ⌜ (p ≤ e + 1) × (e ≤ length (now s)) × (length (fields-from p e (now s)) ≤ 16) ⌝ }
+    ensures { λ r. ⌜ ((w : List ℕ) → Answers (now (s .entry)) w r
+        (recorded (reading-in (now (s .entry)) w b) Word.Goal (fields-from p e (now (s .entry))))) ⌝ }
 {
     let n = b.names;
     let body = fields::steps(s, p, e, n);
@@ -299,7 +309,7 @@ fn plain_line(s: &[u8], a: usize, e: usize, b: Parse, words: &mut [u16]) -> Pars
     requires { ⌜ b .refusal ≡ 0 ⌝ }
     requires { ⌜ length (now words) ≡ 4608 ⌝ }
     ensures { λ r. ⌜ Answers (now (s .entry)) (now (words .exit)) r
-        (plainLine (bookOf (now (s .entry)) (now (words .entry)) b) (slice a e (now (s .entry)))) ⌝ }
+        (plain-line (reading-in (now (s .entry)) (now (words .entry)) b) (slice a e (now (s .entry)))) ⌝ }
 {
     let q = chars::field_end(s, a, e);
     let w = word_at(s, a, q);
@@ -325,7 +335,7 @@ fn next_line(s: &[u8], a: usize, e: usize, b: Parse, words: &mut [u16]) -> Parse
     requires { ⌜ b .refusal ≡ 0 ⌝ }
     requires { ⌜ length (now words) ≡ 4608 ⌝ }
     ensures { λ r. ⌜ Answers (now (s .entry)) (now (words .exit)) r
-        (line (bookOf (now (s .entry)) (now (words .entry)) b) (slice a e (now (s .entry)))) ⌝ }
+        (line (reading-in (now (s .entry)) (now (words .entry)) b) (slice a e (now (s .entry)))) ⌝ }
 {
     if chars::is_comment(s, a, e) {
         return b;
@@ -343,7 +353,7 @@ pub struct Scan {
 // All lines, from the top.
 pub fn read_lines(s: &[u8], words: &mut [u16]) -> Scan
     requires { ⌜ length (now words) ≡ 4608 ⌝ }
-    ensures { λ r. ⌜ Gives (now (s .entry)) (now (words .exit)) (r .line) (r .said) (readLines 1 empty (lines (now (s .entry)))) ⌝ }
+    ensures { λ r. ⌜ Reads (now (s .entry)) (now (words .exit)) (r .line) (r .said) (read-lines 1 empty (lines (now (s .entry)))) ⌝ }
 {
     let mut b = fresh();
     let mut n = 1u64;

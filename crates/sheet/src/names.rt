@@ -3,10 +3,9 @@ ghost use mathlib.Core.Path.{_≡_};
 ghost use Prim.Native.Nat.{_+_, _-_, _≤_, _<_};
 ghost use lib.ListN.{length};
 ghost use lib.Seq.{slice};
-ghost use Rattle.chars.specs.Places.{place, byteAt};
-ghost use Rattle.sheet.specs.Field.{newName, usedName, stepWord, stepFrom, marks};
-ghost use Rattle.sheet.specs.Held.{Held, namesIn, symbolsOf, behind, answer};
-use crate::refusals;
+ghost use Rattle.chars.specs.Places.{place, byte-at};
+ghost use Rattle.sheet.specs.Field.{new-name, used-name, step-word, marks};
+ghost use Rattle.sheet.specs.Held.{Held, names-in, symbols-of, behind, answer, step-from};
 
 // The names defined so far, the fluents first: name k is the sheet's part from from[k] up to to[k].
 pub struct Names {
@@ -34,7 +33,7 @@ fn find_name(s: &[u8], a: usize, e: usize, n: Names, lo: usize, hi: usize) -> us
     requires { ⌜ Held (now s) n ⌝ }
     requires { ⌜ (a ≤ e) × (e ≤ length (now s)) ⌝ }
     requires { ⌜ (lo ≤ hi) × (hi ≤ n .fluents + n .actions) ⌝ }
-    ensures { λ r. ⌜ r ≡ lo + place (slice a e (now (s .entry))) (namesIn (now (s .entry)) (n .from) (n .to) lo (hi - lo)) ⌝ }
+    ensures { λ r. ⌜ r ≡ lo + place (slice a e (now (s .entry))) (names-in (now (s .entry)) (n .from) (n .to) lo (hi - lo)) ⌝ }
     ensures { λ r. ⌜ r ≤ hi ⌝ }
 {
     let mut k = lo;
@@ -53,7 +52,7 @@ fn find_name(s: &[u8], a: usize, e: usize, n: Names, lo: usize, hi: usize) -> us
 pub fn new_name(s: &[u8], a: usize, e: usize, n: Names) -> u64
     requires { ⌜ Held (now s) n ⌝ }
     requires { ⌜ (a ≤ e) × (e ≤ length (now s)) ⌝ }
-    ensures { λ r. ⌜ answer r (slice a e (now (s .entry))) ≡ newName (symbolsOf (now (s .entry)) n) (slice a e (now (s .entry))) ⌝ }
+    ensures { λ r. ⌜ answer r (slice a e (now (s .entry))) ≡ new-name (symbols-of (now (s .entry)) n) (slice a e (now (s .entry))) ⌝ }
 {
     if !chars::is_name(s, a, e) {
         return refusals::BAD_FIELD;
@@ -76,7 +75,8 @@ pub fn used_name(s: &[u8], a: usize, e: usize, n: Names, lo: usize, hi: usize) -
     requires { ⌜ Held (now s) n ⌝ }
     requires { ⌜ (a ≤ e) × (e ≤ length (now s)) ⌝ }
     requires { ⌜ (lo ≤ hi) × (hi ≤ n .fluents + n .actions) × (hi ≤ lo + 64) ⌝ }
-    ensures { λ r. ⌜ answer (r .refusal) (r .value) ≡ usedName (namesIn (now (s .entry)) (n .from) (n .to) lo (hi - lo)) (slice a e (now (s .entry))) ⌝ }
+    ensures { λ r. ⌜ answer (r .refusal) (r .value)
+        ≡ used-name (names-in (now (s .entry)) (n .from) (n .to) lo (hi - lo)) (slice a e (now (s .entry))) ⌝ }
     ensures { λ r. ⌜ r .value < 64 ⌝ }
 {
     if !chars::is_name(s, a, e) {
@@ -100,7 +100,7 @@ pub fn used_name(s: &[u8], a: usize, e: usize, n: Names, lo: usize, hi: usize) -
 
 // The kind of the step with this mark, or 5.
 fn mark_kind(mark: u8) -> usize
-    ensures { λ r. ⌜ r ≡ byteAt mark marks ⌝ }
+    ensures { λ r. ⌜ r ≡ byte-at mark marks ⌝ }
 {
     match mark {
         b'?' => 0,
@@ -115,7 +115,7 @@ fn mark_kind(mark: u8) -> usize
 // The word of a step of this kind, from the number of its name.
 fn step_of(kind: usize, name: Checked) -> Checked
     requires { ⌜ (kind < 5) × (name .value < 64) ⌝ }
-    ensures { λ r. ⌜ answer (r .refusal) (r .value) ≡ stepFrom kind (answer (name .refusal) (name .value)) ⌝ }
+    ensures { λ r. ⌜ answer (r .refusal) (r .value) ≡ step-from kind (answer (name .refusal) (name .value)) ⌝ }
     ensures { λ r. ⌜ r .value < 1280 ⌝ }
 {
     let r = name.refusal;
@@ -133,7 +133,7 @@ fn step_of(kind: usize, name: Checked) -> Checked
 pub fn step(s: &[u8], a: usize, e: usize, n: Names) -> Checked
     requires { ⌜ Held (now s) n ⌝ }
     requires { ⌜ (a ≤ e) × (e ≤ length (now s)) ⌝ }
-    ensures { λ r. ⌜ answer (r .refusal) (r .value) ≡ stepWord (symbolsOf (now (s .entry)) n) (slice a e (now (s .entry))) ⌝ }
+    ensures { λ r. ⌜ answer (r .refusal) (r .value) ≡ step-word (symbols-of (now (s .entry)) n) (slice a e (now (s .entry))) ⌝ }
     ensures { λ r. ⌜ r .value < 1280 ⌝ }
 {
     if a == e {

@@ -11,11 +11,12 @@ use Rattle.steps.specs.State.{State}
 use Rattle.steps.specs.Step.{query, insert, delete, call, deny, Body}
 use Rattle.steps.specs.Run.{Run, Goal}
 use Rattle.steps.specs.Counting.{Rising, rising-nil, rising-cons}
-use Rattle.starred.specs.Drills.{Shown, Drill, run, Shows, Holds, AllHold, DenialsHold, word, drills, denials, drill, path, _⟵_}
+use Rattle.steps.proofs.Counting.{rising-distinct}
+use Rattle.starred.specs.Drills.{Drill, run, Holds, AllHold, DenialsHold, word, drills, denials, drill, path, _⟵_}
 use Rattle.steps.specs.Words.{step-by, rules-from}
-use Rattle.steps.specs.Acceptance.{each-below, good-step, good-word, good-rule, bad-counts, bad-length, bad-rules, bad-goal, bad-start, words-refusal, refusal-of}
+use Rattle.steps.specs.Acceptance.{each-below, good-step, good-word, good-rule, bad-counts, bad-length, bad-rules, bad-goal, bad-state, words-refusal, refusal-of}
 use Rattle.starred.proofs.ListTests.{both, both-l, both-r, either, holds-true, every, any, every-at, any-at, distinct, distinct-of}
-use Rattle.starred.proofs.Paths.{paths-show}
+use Rattle.starred.proofs.Paths.{path-answer, path-shows}
 use Rattle.starred.proofs.Certified.{CallRow, AnswerRow, Place, places, bodies, next, certified, certified-exact, separate, closed, justified, reached, owned, kept, apart, some-place, every-place, ends-at, comes-at, call-row, answer-row, call-row-refl, answer-row-refl, has-answer}
 
 -- ---- tables by rounds, newest row first
@@ -77,10 +78,10 @@ proves d C A =
     eqb (refusal-of (d .fluents) (d .actions) (d .rules) (d .goal) (d .start)) 0 && certified (run d) C A && distinct call-row C && distinct answer-row A && eqb (length C) (d .calls) && eqb (length A) (d .answers)
     && rising (d .ends) && every (answered d A) (d .ends) && every (listed d) A
 
-proved : (d : Drill) (C : List CallRow) (A : List AnswerRow) → T (proves d C A) → ((p : Shown) → List·Memᴰ p (d .paths) → Shows d p) → Holds d
+proved : (d : Drill) → List·Memᴰ d (drills ++ denials) → (C : List CallRow) (A : List AnswerRow) → T (proves d C A) → Holds d
 unfolding proves answered listed
-proved d C A t shows =
-    let ok : T (eqb (refusal-of (d .fluents) (d .actions) (d .rules) (d .goal) (d .start)) 0) = search (both-l, both-r) depth 10 in
+proved d row C A t =
+    let ok = eqb→eq (refusal-of (d .fluents) (d .actions) (d .rules) (d .goal) (d .start)) 0 (search (both-l, both-r) depth 10) in
     let c : T (certified (run d) C A) = search (both-l, both-r) depth 10 in
     let dC : T (distinct call-row C) = search (both-l, both-r) depth 10 in
     let dA : T (distinct answer-row A) = search (both-l, both-r) depth 10 in
@@ -91,12 +92,16 @@ proved d C A t shows =
     let only : T (every (listed d) A) = search (both-l, both-r) depth 10 in
     let x = certified-exact (run d) C A c in
     record {
-      accepted = eqb→eq (refusal-of (d .fluents) (d .actions) (d .rules) (d .goal) (d .start)) 0 ok;
+      accepted = ok;
       rising = rising-of (d .ends) up;
-      ends = λ D. (λ m. x .ends D .0 (from-list D (every-at (answered d A) all m)), λ f. in-list D (x .ends D .1 f) only);
-      calls = (C, distinct-of call-row call-row-refl C dC, (λ k. x .calls (k .0) (k .1)), eqb→eq (length C) (d .calls) nC);
-      answers = (A, distinct-of answer-row answer-row-refl A dA, (λ k. x .answers (k .0) (k .1) (k .2)), eqb→eq (length A) (d .answers) nA);
-      paths = shows;
+      ends = record {
+        once = rising-distinct (rising-of (d .ends) up);
+        members = λ D. (λ m. x .ends D .0 (from-list D (every-at (answered d A) all m)), λ f. in-list D (x .ends D .1 f) only);
+      };
+      calls = (C, record { once = distinct-of call-row call-row-refl C dC; members = λ k. x .calls (k .0) (k .1) }, eqb→eq (length C) (d .calls) nC);
+      answers = (A, record { once = distinct-of answer-row answer-row-refl A dA; members = λ k. x .answers (k .0) (k .1) (k .2) }, eqb→eq (length A) (d .answers) nA);
+      tables = path-answer d row;
+      paths = λ p k. path-shows d row p k ok;
     }
   where
     from-list : (D : State) → T (answered d A D) → List·Memᴰ {A = AnswerRow} (Goal, d .start, D) A
@@ -112,12 +117,12 @@ passes : Drill → Bool
 passes d = let t = tables (run d) in proves d (t .0) (t .1)
 
 pass : T (every passes (drills ++ denials))
-unfolding passes proves listed answered tables certified drills denials drill path _⟵_ separate apart closed every-place kept justified some-place ends-at reached comes-at owned call-row answer-row word step-by rules-from refusal-of words-refusal bad-counts bad-length bad-rules bad-goal bad-start each-below good-step good-word good-rule
+unfolding passes proves listed answered tables certified drills denials drill path _⟵_ separate apart closed every-place kept justified some-place ends-at reached comes-at owned call-row answer-row word step-by rules-from refusal-of words-refusal bad-counts bad-length bad-rules bad-goal bad-state each-below good-step good-word good-rule
 pass = tt
 
 row-holds : (d : Drill) → List·Memᴰ d (drills ++ denials) → Holds d
 unfolding passes
-row-holds d m = proved d (tables (run d) .0) (tables (run d) .1) (every-at passes pass m) (paths-show d m)
+row-holds d m = proved d m (tables (run d) .0) (tables (run d) .1) (every-at passes pass m)
 
 -- Every row holds.
 pub drills-hold : AllHold

@@ -1,22 +1,22 @@
 -- The starred drills D1 to D10 of document 01, ten rows of one table, rows for request R-2 beside them, and what a row says of its run and its
 -- paths. Assumes nothing.
-use Prim.Native.Nat.{ℕ, _+_, _-_}
+use Prim.Native.Nat.{ℕ, _+_, _-_, _<_}
 use mathlib.Core.Path.{_≡_}
+use mathlib.Core.Bool.{false}
 use mathlib.Core.List.{List, [], _∷_, _++_, map, List·Memᴰ}
-use mathlib.Core.Logic.{_↔_}
 use lib.ListN.{length, replicate}
 use Rattle.steps.specs.State.{State}
 use Rattle.steps.specs.Step.{Step, query, insert, delete, call, deny, Body}
-use Rattle.steps.specs.Run.{Run, Goal, End}
-use Rattle.steps.specs.Counting.{Counts, Rising}
+use Rattle.steps.specs.Run.{Run, Goal, Call, Answer, End}
+use Rattle.steps.specs.Counting.{Exactly, Rising}
 use Rattle.steps.specs.Words.{run-of}
-use Rattle.steps.specs.Acceptance.{Accepted}
-use Rattle.evaluator.specs.Full.{Calls, Answers}
-use Rattle.evaluator.specs.Finished.{Finished}
-use Rattle.path.specs.Outcome.{Lent, call-records, answer-records, fault, refusal-of, count-of, list-after}
+use Rattle.steps.specs.Acceptance.{refusal-of}
+use Rattle.records.specs.Finished.{Finished}
+use Rattle.checks.specs.Checks.{over-room}
+use Rattle.path.specs.Outcome.{Handed, call-records, answer-records, fault, path-refusal, state-count, list-after}
 
--- A path of a row: the words of both tables, the answer record asked for and the list lent; then the refusal, the count of states and the list
--- afterwards.
+-- A path of a row: words of both tables, the answer record asked for and the list lent; then the refusal, the count of states and the list
+-- afterwards, which are the same for all tables of the row's run.
 pub record Shown : Type 0 where
   pub calls : List ℕ
   pub answers : List ℕ
@@ -42,38 +42,48 @@ pub record Drill : Type 0 where
 abbrev pub run : Drill → Run
 run d = run-of (d .rules) (d .goal) (d .start)
 
--- What is lent for a path of a row: the row's counts, rules and goal, and the path's tables with as many records as the row has calls and answers.
-abbrev pub lent : Drill → Shown → Lent
-lent d p = record {
+-- What is handed over for a path of a row: the row's counts, rules and goal, and tables with as many records as the row has calls and answers.
+abbrev pub handed-of : Drill → List ℕ → List ℕ → Handed
+handed-of d calls answers = record {
   fluents = d .fluents;
   actions = d .actions;
   rules = d .rules;
   goal = d .goal;
-  calls = p .calls;
+  calls = calls;
   call-count = d .calls;
-  answers = p .answers;
+  answers = answers;
   answer-count = d .answers;
 }
 
--- What a path of a row says: its tables are those of a finished run of the row; what is lent meets none of 20 to 23 and 40 to 42; the record
--- asked for is an answer of the goal at the start; and this is the result of its path.
-pub record Shows (d : Drill) (p : Shown) : Type 0 where
-  pub finished : Finished (d .rules) (d .goal) (d .start) (p .calls) (p .answers) (d .calls) (d .answers)
-  pub sound : fault (lent d p) (p .asked) ≡ 0
-  pub action : call-records (lent d p) .action (answer-records (lent d p) .call (p .asked)) ≡ Goal
-  pub state : call-records (lent d p) .state (answer-records (lent d p) .call (p .asked)) ≡ d .start
-  pub refusal : refusal-of (lent d p) (p .asked) (p .list) ≡ p .refusal
-  pub count : count-of (lent d p) (p .asked) (p .list) ≡ p .count
-  pub after : list-after (lent d p) (p .asked) (p .list) ≡ p .after
+-- Tables of a finished run of the row, their counts not over their rooms, and the number in them of an answer of the goal at the start.
+pub record GoalAnswer (d : Drill) (calls answers : List ℕ) (x : ℕ) : Type 0 where
+  pub finished : Finished (d .rules) (d .goal) (d .start) calls answers (d .calls) (d .answers)
+  pub fits : over-room calls (d .calls) answers (d .answers) ≡ false
+  pub below : x < d .answers
+  pub action : call-records (handed-of d calls answers) .action (answer-records (handed-of d calls answers) .call x) ≡ Goal
+  pub state : call-records (handed-of d calls answers) .state (answer-records (handed-of d calls answers) .call x) ≡ d .start
+
+-- What a path of a row says of such tables: what is lent meets none of 20 to 23 and 40 to 42, and this is the result of the path.
+pub record Shows (d : Drill) (p : Shown) (calls answers : List ℕ) (x : ℕ) : Type 0 where
+  pub sound : fault (handed-of d calls answers) x ≡ 0
+  pub refusal : path-refusal (handed-of d calls answers) x (p .list) ≡ p .refusal
+  pub count : state-count (handed-of d calls answers) x (p .list) ≡ p .count
+  pub after : list-after (handed-of d calls answers) x (p .list) ≡ p .after
+
+-- Exactly n things satisfy P: a list that holds exactly these has length n.
+abbrev pub Counts : {A : Type 0} → (A → Type 0) → ℕ → Type 0
+Counts {A} P n = (xs : List A) × Exactly P xs × (length xs ≡ n)
 
 -- What a row says: no refusal of 20 to 24; the ends, calls and answers of its run; its paths.
 pub record Holds (d : Drill) : Type 0 where
-  pub accepted : Accepted (d .fluents) (d .actions) (d .rules) (d .goal) (d .start)
+  pub accepted : refusal-of (d .fluents) (d .actions) (d .rules) (d .goal) (d .start) ≡ 0
   pub rising : Rising (d .ends)
-  pub ends : (D : State) → List·Memᴰ D (d .ends) ↔ End (run d) D
-  pub calls : Counts (Calls (run d)) (d .calls)
-  pub answers : Counts (Answers (run d)) (d .answers)
-  pub paths : (p : Shown) → List·Memᴰ p (d .paths) → Shows d p
+  pub ends : Exactly (End (run d)) (d .ends)
+  pub calls : Counts (Call (run d)) (d .calls)
+  pub answers : Counts (Answer (run d)) (d .answers)
+  -- Each path is shown of all tables of a finished run, and those that stand in the row are some.
+  pub tables : (p : Shown) → List·Memᴰ p (d .paths) → GoalAnswer d (p .calls) (p .answers) (p .asked)
+  pub paths : (p : Shown) → List·Memᴰ p (d .paths) → {calls answers : List ℕ} {x : ℕ} → GoalAnswer d calls answers x → Shows d p calls answers x
 
 -- ---- steps and rules in their words
 
@@ -91,7 +101,7 @@ head ⟵ body = head ∷ length body ∷ map word body ++ replicate (16 - length
 
 unfoldable pub drill : ℕ → ℕ → List ℕ → State → Body → List State → ℕ → ℕ → List Shown → Drill
 unfolding word
-drill fluents actions rules start goal ends calls answers paths = record { fluents = fluents; actions = actions; rules = rules; start = start; goal = map word goal; ends = ends; calls = calls; answers = answers; paths = paths }
+drill f a r s g e c m p = record { fluents = f; actions = a; rules = r; start = s; goal = map word g; ends = e; calls = c; answers = m; paths = p }
 
 -- ---- records in their words
 
@@ -103,7 +113,7 @@ abbrev answered : ℕ → State → ℕ → List ℕ → List ℕ
 answered row final rule evidence = row ∷ final ∷ rule ∷ evidence ++ replicate (16 - length evidence) 0
 
 unfoldable pub path : List ℕ → List ℕ → ℕ → List ℕ → ℕ → ℕ → List ℕ → Shown
-path calls answers asked list refusal count after = record { calls = calls; answers = answers; asked = asked; list = list; refusal = refusal; count = count; after = after }
+path c m x l r n a = record { calls = c; answers = m; asked = x; list = l; refusal = r; count = n; after = a }
 
 -- the tables of D9: the calls are the goal, q and p, the answers those of p, q and the goal
 abbrev calls-9 : List ℕ
@@ -112,14 +122,15 @@ calls-9 = called 64 0 ++ called 1 0 ++ called 0 0
 abbrev answers-9 : List ℕ
 answers-9 = answered 2 0 0 [] ++ answered 1 0 1 (0 ∷ 0 ∷ []) ++ answered 0 0 256 (1 ∷ [])
 
--- Counts of fluents and actions, rules, start and goal; then ends, calls, answers and paths. Fluents a and b are 0 and 1; actions are numbered from 0.
--- Each list is lent with words of 9.
+-- Counts of fluents and actions, rules, start and goal; then ends, calls, answers and paths. Fluents a and b are 0 and 1; actions are numbered
+-- from 0. Each list is lent with words of 9.
 unfoldable pub drills : List Drill
 unfolding _⟵_ drill path
 drills =
     -- D1: purge is 0, light is 1; open is 0, lit is 1; the calls are the goal, light and purge, the answers those of purge, light and the goal
     drill 2 2 ((0 ⟵ insert 0 ∷ []) ++ (1 ⟵ call 0 ∷ query 0 ∷ insert 1 ∷ delete 0 ∷ [])) 0 (call 1 ∷ []) (2 ∷ []) 3 3
-    (path (called 64 0 ++ called 1 0 ++ called 0 0) (answered 2 1 0 [] ++ answered 1 2 1 (0 ∷ []) ++ answered 0 2 256 (1 ∷ [])) 2 (replicate 5 9) 0 4 (0 ∷ 1 ∷ 3 ∷ 2 ∷ 9 ∷ []) ∷ [])
+    (path (called 64 0 ++ called 1 0 ++ called 0 0) (answered 2 1 0 [] ++ answered 1 2 1 (0 ∷ []) ++ answered 0 2 256 (1 ∷ []))
+    2 (replicate 5 9) 0 4 (0 ∷ 1 ∷ 3 ∷ 2 ∷ 9 ∷ []) ∷ [])
     -- D2: a rule that calls itself first
     ∷ drill 2 1 ((0 ⟵ call 0 ∷ query 0 ∷ insert 1 ∷ []) ++ (0 ⟵ insert 0 ∷ [])) 0 (call 0 ∷ []) (1 ∷ 3 ∷ []) 2 4 []
     -- D3: a rule that only calls itself

@@ -12,12 +12,13 @@ use lib.Pow.{pow-pos}
 use lib.Seq.{getD-take, getD-drop}
 use lib.Dec.{eqb, ltb}
 use borrow.Author.Tests.{lt-ltb, ltb-true, ltb-false, eqb-true, not-false}
+use Rattle.refusals.specs.Refusals as refusals
 use Rattle.steps.specs.State.{State, holds, added, removed}
 use Rattle.steps.specs.Step.{Step, query, insert, delete, call, deny, Body, Rule, Book}
 use Rattle.steps.specs.Deduction.{ComesToCall, _⊢_, Move, queries, inserts, deletes, calls, denies, Deduction, done, move}
 use Rattle.steps.specs.Run.{Goal}
-use Rattle.steps.specs.Words.{step-by, step-of, body-of, head-of, count-of, words-of, book-of, run-of}
-use Rattle.steps.specs.Acceptance.{good-step, good-word, good-rule, bad-counts, bad-length, bad-rules, bad-goal, bad-start, words-refusal, refusal-of}
+use Rattle.steps.specs.Words.{step-by, step-of, body-of, head-of, count-of, words-of, book-of, run-of, rule-width}
+use Rattle.steps.specs.Acceptance.{good-step, good-word, good-rule, bad-counts, bad-length, bad-rules, bad-goal, bad-state, words-refusal, refusal-of}
 use Rattle.steps.proofs.StateLaws.{room, not-held}
 use Rattle.steps.proofs.EachBelow.{both, each-at, true-not-false}
 use Rattle.steps.proofs.Lists.{member-at}
@@ -38,11 +39,11 @@ Indexed fluents actions (deny p) = p < fluents
 pub record AcceptedWords (fluents actions : ℕ) (rules goal : List ℕ) : Type 0 where
   pub few-fluents : fluents ≤ 64
   pub few-actions : actions ≤ 64
-  pub whole : length rules % 18 ≡ 0
-  pub few-rules : length rules / 18 ≤ 256
-  pub heads : (r : ℕ) → r < length rules / 18 → head-of rules r < actions
-  pub counts : (r : ℕ) → r < length rules / 18 → count-of rules r ≤ 16
-  pub steps : (r i : ℕ) → r < length rules / 18 → i < count-of rules r → good-step fluents actions (getD rules (18 * r + 2 + i) 0) ≡ true
+  pub whole : length rules % rule-width ≡ 0
+  pub few-rules : length rules / rule-width ≤ 256
+  pub heads : (r : ℕ) → r < length rules / rule-width → head-of rules r < actions
+  pub counts : (r : ℕ) → r < length rules / rule-width → count-of rules r ≤ 16
+  pub steps : (r i : ℕ) → r < length rules / rule-width → i < count-of rules r → good-step fluents actions (getD rules (rule-width * r + 2 + i) 0) ≡ true
   pub short : length goal ≤ 16
   pub goal-steps : (i : ℕ) → i < length goal → good-step fluents actions (getD goal i 0) ≡ true
 
@@ -55,7 +56,7 @@ next-test true n m fault e = absurd (fault e)
 next-test false n m fault e = (refl, e)
 
 rule-good : (fluents actions : ℕ) (rules : List ℕ) (r : ℕ) → good-rule fluents actions rules r ≡ true
-    → (head-of rules r < actions) × (count-of rules r ≤ 16) × ((i : ℕ) → i < count-of rules r → good-step fluents actions (getD rules (18 * r + 2 + i) 0) ≡ true)
+    → (head-of rules r < actions) × (count-of rules r ≤ 16) × ((i : ℕ) → i < count-of rules r → good-step fluents actions (getD rules (rule-width * r + 2 + i) 0) ≡ true)
 unfolding good-rule good-word
 rule-good fluents actions rules r e =
     let (h, t) = both (ltb (head-of rules r) actions) _ e in
@@ -63,25 +64,25 @@ rule-good fluents actions rules r e =
     let few : count-of rules r < 17 = ltb-true (count-of rules r) 17 n in (
       ltb-true (head-of rules r) actions h,
       omega arith,
-      λ i l. rw (lt-ltb i (count-of rules r) l) at (each-at (λ i. good-word fluents actions (count-of rules r) i (getD rules (18 * r + 2 + i) 0)) 16 ws i (omega arith)),
+      λ i l. rw (lt-ltb i (count-of rules r) l) at (each-at (λ i. good-word fluents actions (count-of rules r) i (getD rules (rule-width * r + 2 + i) 0)) 16 ws i (omega arith)),
     )
 
 pub accepted : (fluents actions : ℕ) (rules goal : List ℕ) → words-refusal fluents actions rules goal ≡ 0 → AcceptedWords fluents actions rules goal
 unfolding words-refusal bad-counts bad-length bad-rules bad-goal
 accepted fluents actions rules goal e =
-    let (c, e₁) = next-test (bad-counts fluents actions) 20 _ (λ z. omega arith) e in
-    let (l, e₂) = next-test (bad-length rules) 21 _ (λ z. omega arith) e₁ in
-    let (r, e₃) = next-test (bad-rules fluents actions rules) 22 _ (λ z. omega arith) e₂ in
-    let (g, e₄) = next-test (bad-goal fluents actions goal) 23 0 (λ z. omega arith) e₃ in
+    let (c, e₁) = next-test (bad-counts fluents actions) refusals.bad-counts _ (λ z. omega arith) e in
+    let (l, e₂) = next-test (bad-length rules) refusals.bad-length _ (λ z. omega arith) e₁ in
+    let (r, e₃) = next-test (bad-rules fluents actions rules) refusals.bad-rule _ (λ z. omega arith) e₂ in
+    let (g, e₄) = next-test (bad-goal fluents actions goal) refusals.bad-goal 0 (λ z. omega arith) e₃ in
     let (cf, ca) = neither (ltb 64 fluents) (ltb 64 actions) c in
-    let (lw, lf) = neither (not (eqb (length rules % 18) 0)) (ltb 256 (length rules / 18)) l in
+    let (lw, lf) = neither (not (eqb (length rules % rule-width) 0)) (ltb 256 (length rules / rule-width)) l in
     let (gs, ge) = neither (ltb 16 (length goal)) _ g in
-    let rule : (k : ℕ) → k < length rules / 18 → good-rule fluents actions rules k ≡ true = each-at (good-rule fluents actions rules) (length rules / 18) (not-false _ r) in
+    let rule : (k : ℕ) → k < length rules / rule-width → good-rule fluents actions rules k ≡ true = each-at (good-rule fluents actions rules) (length rules / rule-width) (not-false _ r) in
     record {
       few-fluents = ltb-false 64 fluents cf;
       few-actions = ltb-false 64 actions ca;
-      whole = eqb-true (length rules % 18) 0 (not-false _ lw);
-      few-rules = ltb-false 256 (length rules / 18) lf;
+      whole = eqb-true (length rules % rule-width) 0 (not-false _ lw);
+      few-rules = ltb-false 256 (length rules / rule-width) lf;
       heads = λ k h. rule-good fluents actions rules k (rule k h) .0;
       counts = λ k h. rule-good fluents actions rules k (rule k h) .1;
       steps = λ k i h. rule-good fluents actions rules k (rule k h) .2 i;
@@ -89,20 +90,25 @@ accepted fluents actions rules goal e =
       goal-steps = each-at (λ i. good-step fluents actions (getD goal i 0)) (length goal) (not-false _ ge);
     }
 
--- none of 20 to 24: none of 20 to 23, and the start has no bit at or above the fluent count
+-- none of 20 to 24: none of 20 to 23
+pub words-accepted : (fluents actions : ℕ) (rules goal : List ℕ) (start : ℕ) → refusal-of fluents actions rules goal start ≡ 0 → words-refusal fluents actions rules goal ≡ 0
+unfolding refusal-of
+words-accepted fluents actions rules goal start e = by (eqb (words-refusal fluents actions rules goal) 0) refl e
+  where
+    by : (b : Bool) → eqb (words-refusal fluents actions rules goal) 0 ≡ b → cond b (cond (bad-state fluents start) refusals.bad-start 0) (words-refusal fluents actions rules goal) ≡ 0
+        → words-refusal fluents actions rules goal ≡ 0
+    by true z e = eqb-true (words-refusal fluents actions rules goal) 0 z
+    by false z e = e
+
+-- and the start has no bit at or above the fluent count
 pub start-accepted : (fluents actions : ℕ) (rules goal : List ℕ) (start : ℕ) → refusal-of fluents actions rules goal start ≡ 0
     → AcceptedWords fluents actions rules goal × (start < 2 ^ fluents)
-unfolding refusal-of bad-start
-start-accepted fluents actions rules goal start e = by (eqb (words-refusal fluents actions rules goal) 0) refl e
-  where
-    by : (b : Bool) → eqb (words-refusal fluents actions rules goal) 0 ≡ b → cond b (cond (bad-start fluents start) 24 0) (words-refusal fluents actions rules goal) ≡ 0
-        → AcceptedWords fluents actions rules goal × (start < 2 ^ fluents)
-    by true f h =
-        let z = eqb-true (words-refusal fluents actions rules goal) 0 f in
-        let (s, _) = next-test (bad-start fluents start) 24 0 (λ z. omega arith) h in
-        let q : start / 2 ^ fluents ≡ 0 = eqb-true (start / 2 ^ fluents) 0 (not-false _ s) in
-        (accepted fluents actions rules goal z, omega (arith, div-lt-iff-lt-mul {k = 2 ^ fluents} {x = start} {y = 1} (pow-pos fluents) .0 (omega arith)))
-    by false f h = absurd (true-not-false (rw h at f))
+unfolding refusal-of bad-state
+start-accepted fluents actions rules goal start e =
+    let z = words-accepted fluents actions rules goal start e in
+    let (s, _) = next-test (bad-state fluents start) refusals.bad-start 0 (λ z. omega arith) (rw z at e) in
+    let q : start / 2 ^ fluents ≡ 0 = eqb-true (start / 2 ^ fluents) 0 (not-false _ s) in
+    (accepted fluents actions rules goal z, omega (arith, div-lt-iff-lt-mul {k = 2 ^ fluents} {x = start} {y = 1} (pow-pos fluents) .0 (omega arith)))
 
 -- ---- indices
 
@@ -132,20 +138,20 @@ words-indexed fluents actions ws good x m =
     subst (Indexed fluents actions) (ap step-of f ∙ e) (good-indexed fluents actions (getD ws i 0) (good i l))
 
 module _ {fluents actions : ℕ} {rules goal : List ℕ} (acc : AcceptedWords fluents actions rules goal) where
-  pub rule-step : (r i : ℕ) → r < length rules / 18 → i < length (words-of rules r) → good-step fluents actions (getD (words-of rules r) i 0) ≡ true
+  pub rule-step : (r i : ℕ) → r < length rules / rule-width → i < length (words-of rules r) → good-step fluents actions (getD (words-of rules r) i 0) ≡ true
   rule-step r i h l =
       let b : i < count-of rules r = omega (arith, words-short rules r) in
-      rw (getD-take (count-of rules r) (drop (18 * r + 2) rules) i 0 b, getD-drop (18 * r + 2) rules i 0) (acc .steps r i h b)
+      rw (getD-take (count-of rules r) (drop (rule-width * r + 2) rules) i 0 b, getD-drop (rule-width * r + 2) rules i 0) (acc .steps r i h b)
 
   pub goal-indexed : IndexedBody fluents actions (body-of goal)
   goal-indexed = words-indexed fluents actions goal (acc .goal-steps)
 
-  pub words-indexed-of : (i : ℕ) → i < length rules / 18 → IndexedBody fluents actions (body-of (words-of rules i))
+  pub words-indexed-of : (i : ℕ) → i < length rules / rule-width → IndexedBody fluents actions (body-of (words-of rules i))
   words-indexed-of i l = words-indexed fluents actions (words-of rules i) (λ k j. rule-step i k l j)
 
   pub rule-indexed : (r : Rule) → List·Memᴰ r (book-of rules) → (r .head < actions) × IndexedBody fluents actions (r .body)
   rule-indexed r m =
-      let (i, l, e) = book-member rules 0 (length rules / 18) r m in
+      let (i, l, e) = book-member rules 0 (length rules / rule-width) r m in
       rw e (acc .heads i (omega arith), words-indexed-of i (omega arith))
 
   apart : {body : Body} → IndexedBody fluents actions body → (b : ℕ) → List·Memᴰ (call b) body → b ≢ Goal

@@ -1,11 +1,11 @@
--- Laws of counting: the pigeonhole, `Outnumbers` against `Counts`, and rising lists by their members. Assumes nothing.
+-- Laws of counting: the pigeonhole, `Outnumbers` against `Exactly`, and rising lists by their members. Assumes nothing.
 use Prim.Native.Nat.{ℕ, zero, suc, _+_, _≤_, _<_, zero-le}
 use native.Mathlib.Omega.{arith}
 use mathlib.Core.Path.{_≡_, refl, sym, _∙_, ap, ap₂}
 use mathlib.Core.List.{List, [], _∷_, List·Memᴰ, List·Memᴰ·head, List·Memᴰ·tail, List·Memᴰ·not-nil, List·Memᴰ·cases-cons}
 use mathlib.Core.Logic.{_↔_, _≢_, _⊎_, inl, inr, ⊎-elim}
 use lib.ListN.{length, take, length-take}
-use Rattle.steps.specs.Counting.{Distinct, none, more, Counts, Outnumbers, Rising, rising-nil, rising-cons}
+use Rattle.steps.specs.Counting.{Distinct, none, more, Exactly, Outnumbers, Rising, rising-nil, rising-cons}
 
 module _ {A : Type 0} where
   -- the list without the member at a place
@@ -43,23 +43,23 @@ module _ {A : Type 0} where
   take-distinct (suc n) none = none
   take-distinct (suc n) (more {xs = xs} new d) = more (λ y m. new y (take-member n xs m)) (take-distinct n d)
 
-  -- Where P is counted, it outnumbers just the numbers below its count.
-  pub counts-outnumbers : (P : A → Type 0) (n k : ℕ) → Counts P n → Outnumbers P k ↔ (k < n)
-  counts-outnumbers P n k (xs, d, e, len) = (
-    λ (ys, dys, all, over). omega (arith, len, over, pigeonhole dys (λ y m. e y .1 (all y m))),
-    λ l. (take (k + 1) xs, take-distinct (k + 1) d, (λ x m. e x .0 (take-member (k + 1) xs m)), omega (arith, len, length-take (k + 1) xs)),
+  -- Where a list holds exactly P, P outnumbers just the numbers below its length.
+  pub exactly-outnumbers : {P : A → Type 0} {xs : List A} (k : ℕ) → Exactly P xs → Outnumbers P k ↔ (k < length xs)
+  exactly-outnumbers {xs = xs} k e = (
+    λ (ys, d, all, over). omega (arith, over, pigeonhole d (λ y m. e .members y .1 (all y m))),
+    λ l. (take (k + 1) xs, take-distinct (k + 1) (e .once), (λ x m. e .members x .0 (take-member (k + 1) xs m)), omega (arith, length-take (k + 1) xs)),
   )
 
-  pub counts-map : {P Q : A → Type 0} (n : ℕ) → ((x : A) → P x ↔ Q x) → Counts P n → Counts Q n
-  counts-map n f (xs, d, e, len) = (xs, d, (λ x. (λ m. f x .0 (e x .0 m), λ q. e x .1 (f x .1 q))), len)
+  pub exactly-map : {P Q : A → Type 0} {xs : List A} → ((x : A) → P x ↔ Q x) → Exactly P xs → Exactly Q xs
+  exactly-map f e = record { once = e .once; members = λ x. (λ m. f x .0 (e .members x .0 m), λ q. e .members x .1 (f x .1 q)) }
 
   pub outnumbers-map : {P Q : A → Type 0} (n : ℕ) → ((x : A) → P x → Q x) → Outnumbers P n → Outnumbers Q n
   outnumbers-map n f (xs, d, all, len) = (xs, d, (λ x m. f x (all x m)), len)
 
-  -- Nothing has two counts.
-  pub counts-unique : (P : A → Type 0) (m n : ℕ) → Counts P m → Counts P n → m ≡ n
-  counts-unique P m n (xs, dx, ex, lx) (ys, dy, ey, ly) =
-      omega (arith, lx, ly, pigeonhole dx (λ x k. ey x .1 (ex x .0 k)), pigeonhole dy (λ y k. ex y .1 (ey y .0 k)))
+  -- Two lists that hold exactly the same are equally long.
+  pub exactly-long : {P : A → Type 0} {xs ys : List A} → Exactly P xs → Exactly P ys → length xs ≡ length ys
+  exactly-long e f =
+      omega (arith, pigeonhole (e .once) (λ x k. f .members x .1 (e .members x .0 k)), pigeonhole (f .once) (λ y k. e .members y .1 (f .members y .0 k)))
 
   -- a list of things of P, and one thing of P more: P outnumbers the list
   pub full-outnumbers : (P : A → Type 0) (xs : List A) (y : A) → Distinct xs → ((x : A) → List·Memᴰ x xs → P x) → P y → ((x : A) → List·Memᴰ x xs → x ≢ y) → Outnumbers P (length xs)
@@ -83,3 +83,7 @@ rising-unique (rising-cons {x = x} low r) rising-nil f g = absurd (List·Memᴰ�
 rising-unique (rising-cons {x = x} lx rx) (rising-cons {x = y} ly ry) f g =
     let e : x ≡ y = omega (arith, least ly f, least lx g) in
     ap₂ _∷_ e (rising-unique rx ry (rest-of e lx f) (rest-of (sym e) ly g))
+
+pub rising-distinct : {xs : List ℕ} → Rising xs → Distinct xs
+rising-distinct rising-nil = none
+rising-distinct (rising-cons {x = x} {xs = xs} low r) = more (λ y (m : List·Memᴰ y xs) (e : y ≡ x). omega (arith, low y m)) (rising-distinct r)

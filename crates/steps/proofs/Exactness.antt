@@ -77,12 +77,12 @@ module _ {run : Run} (separate : Separate run) where
   rule-comes apart (after h i p) = let (r, below) = body-rule (apart-head apart) h in after r (rule-runs below i) (rule-comes (apart-tail apart) p)
 
   -- what the root reaches are the run's calls
-  pub reached-call : {a : ℕ} {D : State} → Reached run a D → Call run a D
+  pub reached-call : {a : ℕ} {D : State} → Reached run a D → Call run (a, D)
   reached-call (inl r) = inl r
   reached-call {a} {D} (inr (c, E, body, (g, s), h, p)) =
       inr (of-comes (rule-comes (separate .goal) (subst (λ (E : State). Comes Does (BodyOf run) a D E (run .goal)) s (goal-body (λ (body : Body). Comes Does (BodyOf run) a D E body) g h p))))
 
-  pub call-reached : {a : ℕ} {D : State} → Call run a D → Reached run a D
+  pub call-reached : {a : ℕ} {D : State} → Call run (a, D) → Reached run a D
   call-reached (inl r) = inl r
   call-reached (inr (rest, d)) = inr (Goal, run .start, run .goal, (refl, refl), of-goal refl, comes-map rule-body (to-comes d))
 
@@ -106,8 +106,8 @@ module _ {run : Run} (separate : Separate run) where
 
 -- The tables hold exactly the run's calls and answers, and the goal's answers are exactly the ends.
 pub record Exact (run : Run) (C : ℕ → State → Type 0) (A : ℕ → State → State → Type 0) : Type 0 where
-  pub calls : (a : ℕ) (D : State) → C a D ↔ Call run a D
-  pub answers : (a : ℕ) (D D′ : State) → A a D D′ ↔ Answer run a D D′
+  pub calls : (a : ℕ) (D : State) → C a D ↔ Call run (a, D)
+  pub answers : (a : ℕ) (D D′ : State) → A a D D′ ↔ Answer run (a, D, D′)
   pub ends : (D′ : State) → A Goal (run .start) D′ ↔ End run D′
 
 pub exact : {run : Run} {C : ℕ → State → Type 0} {A : ℕ → State → State → Type 0} → Separate run → Closed run C A → Sound run C A → Exact run C A
@@ -116,10 +116,10 @@ exact {run} {C} {A} separate closed sound = record { calls = calls; answers = an
     held : tables.Exact Does (BodyOf run) (Root run) C A
     held = tables.exact Does (BodyOf run) (Root run) closed sound
 
-    calls : (a : ℕ) (D : State) → C a D ↔ Call run a D
+    calls : (a : ℕ) (D : State) → C a D ↔ Call run (a, D)
     calls a D = (λ h. reached-call separate (held .calls a D .0 h), λ c. held .calls a D .1 (call-reached separate c))
 
-    answers : (a : ℕ) (D D′ : State) → A a D D′ ↔ Answer run a D D′
+    answers : (a : ℕ) (D D′ : State) → A a D D′ ↔ Answer run (a, D, D′)
     answers a D D′ = (
       λ h. let (r, e) = held .answers a D D′ .0 h in (reached-call separate r, ends-final separate e),
       λ (c, d). held .answers a D D′ .1 (call-reached separate c, final-ends separate d),
@@ -128,5 +128,5 @@ exact {run} {C} {A} separate closed sound = record { calls = calls; answers = an
 -- A record of a call that is justified by records of smaller number is an answer.
 pub justified-answer : {run : Run} → Separate run → (R : ℕ → ℕ → State → State → Type 0)
     → ((n a : ℕ) (D D′ : State) → R n a D D′ → (body : Body) × BodyOf run a body × Walk Does (λ b E E′. (m : ℕ) × (m < n) × R m b E E′) D body D′ [])
-    → (n a : ℕ) (D D′ : State) → Call run a D → R n a D D′ → Answer run a D D′
+    → (n a : ℕ) (D D′ : State) → Call run (a, D) → R n a D D′ → Answer run (a, D, D′)
 justified-answer {run} separate R justified n a D D′ c h = (c, ends-final separate (tables.justified-ends Does (BodyOf run) (Root run) R justified n a D D′ h))

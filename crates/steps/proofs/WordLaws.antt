@@ -12,7 +12,7 @@ use borrow.Author.Tests.{lt-ltb, eqb-true, eqb-false}
 use Rattle.steps.specs.State.{State, holds, added}
 use Rattle.steps.specs.Step.{Step, query, insert, delete, call, deny, Body, Rule, Book}
 use Rattle.steps.specs.Deduction.{_⊢_, Move}
-use Rattle.steps.specs.Words.{is-call, step-by, step-of, count-of, words-of, rule-of, rules-from, book-of}
+use Rattle.steps.specs.Words.{is-call, step-by, step-of, count-of, words-of, rule-of, rules-from, book-of, rule-width}
 use Rattle.steps.specs.Elementary.{on, stuck, elementary}
 use Rattle.steps.proofs.Lists.{at-member}
 use Rattle.steps.proofs.Deductions.{Does, asks, adds, drops, lacks, does-move, move-does}
@@ -117,10 +117,10 @@ book-member rules k (suc n) r (List·Memᴰ·head e) = (k, omega arith, e)
 book-member rules k (suc n) r (List·Memᴰ·tail m) = let (i, l, e) = book-member rules (suc k) n r m in (i, omega arith, e)
 
 -- rule number i is in the book
-pub rule-member : (rules : List ℕ) (i : ℕ) → i < length rules / 18 → List·Memᴰ (rule-of rules i) (book-of rules)
+pub rule-member : (rules : List ℕ) (i : ℕ) → i < length rules / rule-width → List·Memᴰ (rule-of rules i) (book-of rules)
 rule-member rules i l =
-    subst (λ (r : Rule). List·Memᴰ r (book-of rules)) (book-at rules 0 (length rules / 18) i (rule-of rules 0) l ∙ ap (rule-of rules) (omega arith))
-    (at-member (book-of rules) i (rule-of rules 0) (rw (book-length rules 0 (length rules / 18)) l))
+    subst (λ (r : Rule). List·Memᴰ r (book-of rules)) (book-at rules 0 (length rules / rule-width) i (rule-of rules 0) l ∙ ap (rule-of rules) (omega arith))
+    (at-member (book-of rules) i (rule-of rules 0) (rw (book-length rules 0 (length rules / rule-width)) l))
 
 pub words-short : (rules : List ℕ) (r : ℕ) → length (words-of rules r) ≤ count-of rules r
-words-short rules r = omega (arith, length-take (count-of rules r) (drop (18 * r + 2) rules))
+words-short rules r = omega (arith, length-take (count-of rules r) (drop (rule-width * r + 2) rules))

@@ -1,11 +1,11 @@
 -- Which rules, goal and start are accepted: the refusals 20 to 24, computed in the order of the table "Refusals by place". Assumes nothing.
 use Prim.Native.Nat.{ℕ, zero, suc, _+_, _*_, _/_, _%_, _^_}
-use mathlib.Core.Path.{_≡_}
 use mathlib.Core.Bool.{Bool, true, cond, not, _&&_, _||_}
 use mathlib.Core.List.{List}
 use lib.ListN.{getD, length}
 use lib.Dec.{eqb, ltb}
-use Rattle.steps.specs.Words.{kind-of, index-of, is-call, head-of, count-of}
+use Rattle.refusals.specs.Refusals as refusals
+use Rattle.steps.specs.Words.{kind-of, index-of, is-call, head-of, count-of, rule-width}
 
 -- The test holds of each number below n.
 unfoldable pub each-below : ℕ → (ℕ → Bool) → Bool
@@ -23,7 +23,8 @@ good-word fluents actions n i w = cond (ltb i n) (good-step fluents actions w) (
 -- Rule r: its head is an action, its count is at most 16, and its 16 step words are good.
 unfoldable pub good-rule : ℕ → ℕ → List ℕ → ℕ → Bool
 good-rule fluents actions rules r =
-    ltb (head-of rules r) actions && (ltb (count-of rules r) 17 && each-below 16 (λ i. good-word fluents actions (count-of rules r) i (getD rules (18 * r + 2 + i) 0)))
+    ltb (head-of rules r) actions
+    && (ltb (count-of rules r) 17 && each-below 16 (λ i. good-word fluents actions (count-of rules r) i (getD rules (rule-width * r + 2 + i) 0)))
 
 -- 20: over 64 fluents or over 64 actions
 unfoldable pub bad-counts : ℕ → ℕ → Bool
@@ -31,36 +32,30 @@ bad-counts fluents actions = ltb 64 fluents || ltb 64 actions
 
 -- 21: length not a multiple of 18, or over 256 rules
 unfoldable pub bad-length : List ℕ → Bool
-bad-length rules = not (eqb (length rules % 18) 0) || ltb 256 (length rules / 18)
+bad-length rules = not (eqb (length rules % rule-width) 0) || ltb 256 (length rules / rule-width)
 
 -- 22: bad head, count over 16, bad step, unused word not 0
 unfoldable pub bad-rules : ℕ → ℕ → List ℕ → Bool
-bad-rules fluents actions rules = not (each-below (length rules / 18) (good-rule fluents actions rules))
+bad-rules fluents actions rules = not (each-below (length rules / rule-width) (good-rule fluents actions rules))
 
 -- 23: over 16 steps or a bad step
 unfoldable pub bad-goal : ℕ → ℕ → List ℕ → Bool
 bad-goal fluents actions goal = ltb 16 (length goal) || not (each-below (length goal) (λ i. good-step fluents actions (getD goal i 0)))
 
--- 24: a bit at or above the fluent count
-unfoldable pub bad-start : ℕ → ℕ → Bool
-bad-start fluents start = not (eqb (start / 2 ^ fluents) 0)
+-- A bit at or above the fluent count: of a start it is 24.
+unfoldable pub bad-state : ℕ → ℕ → Bool
+bad-state fluents s = not (eqb (s / 2 ^ fluents) 0)
 
 -- The first of 20 to 23 that is met, down the table, or 0.
 unfoldable pub words-refusal : ℕ → ℕ → List ℕ → List ℕ → ℕ
 words-refusal fluents actions rules goal =
-    cond (bad-counts fluents actions) 20
-    (cond (bad-length rules) 21
-    (cond (bad-rules fluents actions rules) 22
-    (cond (bad-goal fluents actions goal) 23
+    cond (bad-counts fluents actions) refusals.bad-counts
+    (cond (bad-length rules) refusals.bad-length
+    (cond (bad-rules fluents actions rules) refusals.bad-rule
+    (cond (bad-goal fluents actions goal) refusals.bad-goal
     0)))
 
--- The first of 20 to 24 that is met, down the table, or 0.
+-- The first of 20 to 24 that is met, down the table, or 0. "Rules, goal and start are accepted if they meet none of 20 to 24."
 unfoldable pub refusal-of : ℕ → ℕ → List ℕ → List ℕ → ℕ → ℕ
 refusal-of fluents actions rules goal start =
-    cond (eqb (words-refusal fluents actions rules goal) 0)
-    (cond (bad-start fluents start) 24 0)
-    (words-refusal fluents actions rules goal)
-
--- "Rules, goal and start are accepted if they meet none of 20 to 24."
-abbrev pub Accepted : ℕ → ℕ → List ℕ → List ℕ → ℕ → Type 0
-Accepted fluents actions rules goal start = refusal-of fluents actions rules goal start ≡ 0
+    let refusal = words-refusal fluents actions rules goal in cond (eqb refusal 0) (cond (bad-state fluents start) refusals.bad-start 0) refusal

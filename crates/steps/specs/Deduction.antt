@@ -12,7 +12,7 @@ infix 20 _⊢_
 pub data Sequent : Type 0 where
   _⊢_ : State → Body → Sequent
 
--- The moves, by the step in front, each a rule of figure 4 read from its conclusion to its premise. Where no constructor fits there is no continuation.
+-- The moves, by the step in front, each a rule of figure 4 read from its conclusion to its premise. Where none fits there is no continuation.
 pub data Move (book : Book) : Sequent → Sequent → Type 0 where
   -- "A query of p in front: goes on in the same state if p holds" (Querying the database).
   queries : {D : State} {p : ℕ} {rest : Body} → holds D p ≡ true → Move book (D ⊢ query p ∷ rest) (D ⊢ rest)

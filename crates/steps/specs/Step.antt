@@ -11,9 +11,8 @@ abbrev pub Body : Type 0
 Body = List Step
 
 -- A rule: its head, an action, and its body.
-pub record Rule : Type 0 where
-  pub head : ℕ
-  pub body : Body
+abbrev pub Rule : Type 0
+Rule = record { head : ℕ; body : Body }
 
 -- The rules, in order.
 abbrev pub Book : Type 0

@@ -19,7 +19,7 @@ index-of w = w % 256
 abbrev pub is-call : ℕ → Bool
 is-call w = eqb (kind-of w) 3
 
--- "Kinds: 0 query, 1 insert, 2 delete, 3 call"; "a fifth step, kind 4". (A word of another kind is refused, so what it would mean is of no account.)
+-- "Kinds: 0 query, 1 insert, 2 delete, 3 call"; "a fifth step, kind 4". A word of any other kind is refused, so its meaning is never used.
 unfoldable pub step-by : ℕ → ℕ → Step
 step-by zero i = query i
 step-by (suc zero) i = insert i
@@ -35,17 +35,21 @@ step-of w = step-by (kind-of w) (index-of w)
 abbrev pub body-of : List ℕ → Body
 body-of words = map step-of words
 
--- "Rule: 18 words: head, step count, 16 step words, unused ones zero." Of rule r, its head,
+-- "Rule: 18 words: head, step count, 16 step words, unused ones zero."
+abbrev pub rule-width : ℕ
+rule-width = 18
+
+-- Of rule r, its head,
 abbrev pub head-of : List ℕ → ℕ → ℕ
-head-of rules r = getD rules (18 * r) 0
+head-of rules r = getD rules (rule-width * r) 0
 
 -- its step count,
 abbrev pub count-of : List ℕ → ℕ → ℕ
-count-of rules r = getD rules (18 * r + 1) 0
+count-of rules r = getD rules (rule-width * r + 1) 0
 
 -- the step words that are used,
 abbrev pub words-of : List ℕ → ℕ → List ℕ
-words-of rules r = take (count-of rules r) (drop (18 * r + 2) rules)
+words-of rules r = take (count-of rules r) (drop (rule-width * r + 2) rules)
 
 -- and the rule itself.
 abbrev pub rule-of : List ℕ → ℕ → Rule
@@ -58,7 +62,7 @@ rules-from rules r (suc n) = rule-of rules r ∷ rules-from rules (suc r) n
 
 -- and all rules of the lent words.
 abbrev pub book-of : List ℕ → Book
-book-of rules = rules-from rules 0 (length rules / 18)
+book-of rules = rules-from rules 0 (length rules / rule-width)
 
 -- The run of lent rule words, goal words and start.
 abbrev pub run-of : List ℕ → List ℕ → State → Run

@@ -3,18 +3,8 @@ use crate::word;
 ghost use mathlib.Core.Path.{_≡_};
 ghost use Prim.Native.Nat.{_+_, _*_, _/_, _≤_};
 ghost use lib.ListN.{length, getD};
-ghost use Rattle.steps.specs.Acceptance.{each-below, good-step, good-word, good-rule, bad-counts, bad-length, bad-rules, bad-goal, bad-start, words-refusal, refusal-of};
-
-// The refusals, by the part that is bad.
-pub const BAD_COUNTS: u64 = 20;
-
-pub const BAD_LENGTH: u64 = 21;
-
-pub const BAD_RULES: u64 = 22;
-
-pub const BAD_GOAL: u64 = 23;
-
-pub const BAD_START: u64 = 24;
+ghost use Rattle.steps.specs.Acceptance.{each-below, good-step, good-word, good-rule, bad-counts, bad-length, bad-rules, bad-goal, bad-state, words-refusal, refusal-of};
+ghost use Rattle.steps.specs.Words.{rule-width};
 
 // Whether a step word is a step of these fluents and actions.
 pub fn good_step(fluents: u64, actions: u64, step: u16) -> bool
@@ -43,12 +33,12 @@ fn good_word(fluents: u64, actions: u64, n: usize, i: usize, step: u16) -> bool
 
 // Whether the 16 step words of rule r, which has n steps, are good.
 fn good_body(fluents: u64, actions: u64, rules: &[u16], r: usize, n: usize) -> bool
-    requires { ⌜ 18 * r + 18 ≤ length (now rules) ⌝ }
-    ensures { λ b. ⌜ b ≡ each-below 16 (λ i. good-word fluents actions n i (getD (now (rules .entry)) (18 * r + 2 + i) 0)) ⌝ }
+    requires { ⌜ rule-width * r + rule-width ≤ length (now rules) ⌝ }
+    ensures { λ b. ⌜ b ≡ each-below 16 (λ i. good-word fluents actions n i (getD (now (rules .entry)) (rule-width * r + 2 + i) 0)) ⌝ }
 {
     let mut i = 0;
     while i < 16 {
-        if !good_word(fluents, actions, n, i, rules[18 * r + 2 + i]) {
+        if !good_word(fluents, actions, n, i, rules[word::RULE_WORDS * r + 2 + i]) {
             return false;
         }
         i += 1;
@@ -58,11 +48,11 @@ fn good_body(fluents: u64, actions: u64, rules: &[u16], r: usize, n: usize) -> b
 
 // Whether rule r is good.
 fn good_rule(fluents: u64, actions: u64, rules: &[u16], r: usize) -> bool
-    requires { ⌜ 18 * r + 18 ≤ length (now rules) ⌝ }
+    requires { ⌜ rule-width * r + rule-width ≤ length (now rules) ⌝ }
     ensures { λ b. ⌜ b ≡ good-rule fluents actions (now (rules .entry)) r ⌝ }
 {
-    let head = rules[18 * r] as u64;
-    let n = rules[18 * r + 1] as usize;
+    let head = rules[word::RULE_WORDS * r] as u64;
+    let n = rules[word::RULE_WORDS * r + 1] as usize;
     if head < actions {
         if n < 17 {
             return good_body(fluents, actions, rules, r, n);
@@ -75,7 +65,7 @@ fn good_rule(fluents: u64, actions: u64, rules: &[u16], r: usize) -> bool
 fn bad_rules(fluents: u64, actions: u64, rules: &[u16]) -> bool
     ensures { λ b. ⌜ b ≡ bad-rules fluents actions (now (rules .entry)) ⌝ }
 {
-    let count = rules.len() / 18;
+    let count = rules.len() / word::RULE_WORDS;
     let mut r = 0;
     while r < count {
         if !good_rule(fluents, actions, rules, r) {
@@ -100,8 +90,8 @@ fn bad_counts(fluents: u64, actions: u64) -> bool
 fn bad_length(rules: &[u16]) -> bool
     ensures { λ b. ⌜ b ≡ bad-length (now (rules .entry)) ⌝ }
 {
-    if rules.len() % 18 == 0 {
-        return 256 < rules.len() / 18;
+    if rules.len() % word::RULE_WORDS == 0 {
+        return 256 < rules.len() / word::RULE_WORDS;
     }
     true
 }
@@ -123,9 +113,9 @@ fn bad_goal(fluents: u64, actions: u64, goal: &[u16]) -> bool
     false
 }
 
-// Whether the start has a bit at or above the fluent count: 24.
-fn bad_start(fluents: u64, start: u64) -> bool
-    ensures { λ b. ⌜ b ≡ bad-start fluents start ⌝ }
+// Whether a state has a bit at or above the fluent count: of a start it is 24.
+pub fn bad_state(fluents: u64, start: u64) -> bool
+    ensures { λ b. ⌜ b ≡ bad-state fluents start ⌝ }
 {
     if fluents < 64 {
         return start >> fluents != 0;
@@ -138,16 +128,16 @@ pub fn words_refusal(fluents: u64, actions: u64, rules: &[u16], goal: &[u16]) ->
     ensures { λ r. ⌜ r ≡ words-refusal fluents actions (now (rules .entry)) (now (goal .entry)) ⌝ }
 {
     if bad_counts(fluents, actions) {
-        return BAD_COUNTS;
+        return refusals::BAD_COUNTS;
     }
     if bad_length(rules) {
-        return BAD_LENGTH;
+        return refusals::BAD_LENGTH;
     }
     if bad_rules(fluents, actions, rules) {
-        return BAD_RULES;
+        return refusals::BAD_RULE;
     }
     if bad_goal(fluents, actions, goal) {
-        return BAD_GOAL;
+        return refusals::BAD_GOAL;
     }
     0
 }
@@ -160,8 +150,8 @@ pub fn refusal(fluents: u64, actions: u64, rules: &[u16], goal: &[u16], start: u
     if words != 0 {
         return words;
     }
-    if bad_start(fluents, start) {
-        return BAD_START;
+    if bad_state(fluents, start) {
+        return refusals::BAD_START;
     }
     0
 }

@@ -10,7 +10,7 @@ impl State {
     // The state in which nothing holds.
     pub const NOTHING: State = State(0);
 
-    // The same by a function, under a contract.
+    // The same as a function: a contract can speak of what a function gives, not of a constant.
     pub fn nothing() -> State
         ensures { λ r. ⌜ r .0 ≡ 0 ⌝ }
     {

@@ -5,6 +5,9 @@ ghost use Rattle.steps.specs.Words.{kind-of, index-of, is-call, step-of}
 ghost use Rattle.steps.specs.Elementary.{elementary};
 ghost use Rattle.steps.specs.Next.{onward};
 
+// Words of a rule: its head, the count of its steps, and 16 steps.
+pub const RULE_WORDS: usize = 18;
+
 // The kind of a step word: 0 query, 1 insert, 2 delete, 3 call, 4 denial.
 pub(crate) fn kind(word: u16) -> u64
     ensures { λ r. ⌜ r ≡ kind-of word ⌝ }

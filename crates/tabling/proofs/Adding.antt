@@ -1,5 +1,5 @@
 -- Tables with one record more, and tables that have no room for one. Assumes nothing.
-use Prim.Native.Nat.{ℕ, _+_, _<_}
+use Prim.Native.Nat.{ℕ, _+_, _<_, _-_}
 use native.Mathlib.Omega.{arith}
 use native.Mathlib.Decide.{decLt}
 use mathlib.Core.Path.{_≡_, refl, sym, ap, _∙_}
@@ -11,10 +11,10 @@ use Rattle.steps.proofs.Deductions.{Does}
 use Rattle.steps.proofs.Execution.{Ends}
 use Rattle.steps.proofs.Tables.{Reached}
 use Rattle.steps.proofs.Rows.{table-full}
-use Rattle.tabling.specs.Records.{Calls, Answers, Bodies}
-use Rattle.tabling.proofs.Storage.{CallAt, AnswerAt, NoCall, NoAnswer, CallAdded, AnswerAdded}
-use Rattle.tabling.proofs.Growth.{Tables, tables, Grew, grew-call, grew-answer, held-call-up, call-down, answer-down, row-once}
-use Rattle.tabling.proofs.Justification.{Has, Proper, Justified, justified-up, record-ends}
+use Rattle.records.specs.Records.{Calls, Answers, Bodies}
+use Rattle.records.specs.Storage.{CallAt, AnswerAt, NoCall, NoAnswer, CallAdded, AnswerAdded}
+use Rattle.records.proofs.Growth.{Tables, tables, Grew, grew-call, grew-answer, held-call-up, call-down, answer-down, row-once}
+use Rattle.records.proofs.Justification.{Has, Proper, Justified, justified-up, record-ends}
 use Rattle.tabling.proofs.Evidence.{Valid, inside-of}
 
 -- a number below n + 1 is below n or is n
@@ -95,3 +95,9 @@ module _ {bodies : Bodies} {Root : ℕ → State → Type 0} {t : Tables} (v : V
 
   pub full-answers : {row : ℕ} {f : State} → row < t .calls .count → NoAnswer (t .answers) row f → Ends Does (Has bodies) (t .calls .action row) (t .calls .state row) f → Outnumbers Answers-of (t .answers .count)
   full-answers {row} {f} h none c = table-full answer-row Answers-of (t .answers .count) answers-apart answer-true (t .calls .action row, t .calls .state row, f) (v .reached row h, c) (λ x l e. none x l (answer-here l h e))
+
+-- More calls or answers than the tables have places.
+abbrev pub Outgrown : Bodies → (ℕ → State → Type 0) → ℕ → ℕ → Type 0
+Outgrown bodies Root call-places answer-places =
+    Outnumbers (λ (c : ℕ × State). Reached Does (Has bodies) Root (c .0) (c .1)) call-places
+    ⊎ Outnumbers (λ (c : ℕ × State × State). Reached Does (Has bodies) Root (c .0) (c .1) × Ends Does (Has bodies) (c .0) (c .1) (c .2)) answer-places

@@ -15,12 +15,12 @@ use Rattle.steps.proofs.WordLaws.{call-word, elementary-does}
 use Rattle.steps.proofs.Deductions.{Does}
 use Rattle.steps.proofs.Execution.{Ends}
 use Rattle.steps.proofs.Tables.{Walk, stands, walks, takes, Reached, walk-reached, walk-runs}
-use Rattle.tabling.specs.Records.{Bodies}
-use Rattle.tabling.proofs.Growth.{Tables, HeldCall, Grew, Inside, CallsOnce, AnswersOnce}
-use Rattle.tabling.proofs.Justification.{Has, Justified, Follow, names, steps, Follows, ends, goes, record-ends}
+use Rattle.records.specs.Records.{Bodies}
+use Rattle.records.proofs.Growth.{Tables, HeldCall, Grew, Inside, CallsOnce, AnswersOnce}
+use Rattle.records.proofs.Justification.{Has, Justified, Follow, names, steps, Follows, ends, goes, record-ends}
 use Rattle.tabling.proofs.Sweep.{Way}
 use Rattle.tabling.proofs.Graph.{Leads}
-use Rattle.tabling.proofs.Walking.{front, move-step, Of, final, EdgeT}
+use Rattle.tabling.proofs.Moves.{front, move-step, Of, final, EdgeT}
 
 -- Roots given as a list.
 abbrev pub Among : List (ℕ × State) → ℕ → State → Type 0

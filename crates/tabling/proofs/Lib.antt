@@ -1,24 +1,9 @@
--- Laws of the tables and of the search.
-pub mod Storage
-pub mod Finals
+-- The theory of the search: it knows no bucket and no note.
 pub mod Sweep
 pub mod Graph
-pub mod Marks
 pub mod Measure
-pub mod Growth
-pub mod Uses
-pub mod Heat
-pub mod Justification
-pub mod Walking
+pub mod Moves
 pub mod Evidence
 pub mod Adding
-pub mod Cold
-pub mod Turn
-pub mod Rounds
-pub mod Going
-pub mod StorageLaws
-pub mod Index
-pub mod FinalsLaws
-pub mod Numbers
+pub mod Closed
 pub mod RunTables
-pub mod Filling

@@ -1,1 +1,1 @@
-// The tables of an evaluation, and why its search leaves nothing out: definitions and laws, no code.
+// The theory of the search: why walks that end leave nothing out, and closed tables hold exactly a run's calls and answers. Laws, no code.

@@ -12,8 +12,8 @@ use Rattle.steps.specs.Words.{body-of}
 use Rattle.steps.specs.Elementary.{Onward, on, stuck}
 use Rattle.steps.proofs.EachBelow.{both}
 use Rattle.steps.proofs.WordLaws.{not-on}
-use Rattle.tabling.specs.Records.{Calls, Answers, Bodies, calls-in, answers-in, follow, follows}
-use Rattle.unfolding.specs.Path.{adds, walked, below, added, path-of}
+use Rattle.records.specs.Records.{Calls, Answers, Bodies, follow, follows, call-table, answer-table}
+use Rattle.unfolding.specs.Path.{adds, walked, below, states-added, path-of}
 
 -- a call goes on only by a record of smaller number
 pub call-below : (calls : Calls) (answers : Answers) (n a : ℕ) (s t : State) (e : ℕ) → follow calls answers n (call a) s e ≡ on t → e < n
@@ -54,39 +54,39 @@ module _ (calls : Calls) (answers : Answers) (bodies : Bodies) where
   below-other n x h = rw (ne-eqb x n h) refl
 
   -- what record x adds is the same among any records that it is one of
-  pub below-added : (n x : ℕ) → x < n → below calls answers bodies n x ≡ added calls answers bodies x
+  pub below-added : (n x : ℕ) → x < n → below calls answers bodies n x ≡ states-added calls answers bodies x
   below-added zero x h = absurd (omega arith)
   below-added (suc n) x h = by (below-added n x) (eqb x n) refl
     where
-      by : (x < n → below calls answers bodies n x ≡ added calls answers bodies x) → (b : Bool) → eqb x n ≡ b → below calls answers bodies (suc n) x ≡ added calls answers bodies x
+      by : (x < n → below calls answers bodies n x ≡ states-added calls answers bodies x) → (b : Bool) → eqb x n ≡ b → below calls answers bodies (suc n) x ≡ states-added calls answers bodies x
       by ih true e = ap (λ (k : ℕ). below calls answers bodies (suc k) x) (sym (eqb-true x n e))
       by ih false e = let d : (x ≡ n → ⊥) = eqb-false x n e in below-other n x d ∙ ih (omega arith)
 
-  below-same : (n : ℕ) → added calls answers bodies n
+  below-same : (n : ℕ) → states-added calls answers bodies n
       ≡ walked calls answers n (below calls answers bodies n) (body-of (bodies .words (answers .rule n))) 0 (calls .state (answers .call n))
   unfolding below
   below-same n = rw (eq-eqb n n refl) refl
 
   -- what record n adds is what walking its body adds
-  pub added-walk : (n : ℕ) → added calls answers bodies n
-      ≡ walked calls answers n (added calls answers bodies) (body-of (bodies .words (answers .rule n))) 0 (calls .state (answers .call n))
-  added-walk n = below-same n ∙ walked-same calls answers n (below calls answers bodies n) (added calls answers bodies) (below-added n) _ 0 _
+  pub added-walk : (n : ℕ) → states-added calls answers bodies n
+      ≡ walked calls answers n (states-added calls answers bodies) (body-of (bodies .words (answers .rule n))) 0 (calls .state (answers .call n))
+  added-walk n = below-same n ∙ walked-same calls answers n (below calls answers bodies n) (states-added calls answers bodies) (below-added n) _ 0 _
 
 -- ---- however many records are counted
 
 module _ (calls answers : List ℕ) (k m k′ m′ : ℕ) where
   -- the two views
   abbrev C : Calls
-  C = calls-in 2 calls k
+  C = call-table calls k
 
   abbrev C′ : Calls
-  C′ = calls-in 2 calls k′
+  C′ = call-table calls k′
 
   abbrev A : Answers
-  A = answers-in 19 answers m
+  A = answer-table answers m
 
   abbrev A′ : Answers
-  A′ = answers-in 19 answers m′
+  A′ = answer-table answers m′
 
   follow-uncounted : (n : ℕ) (x : Step) (s : State) (e : ℕ) → follow C A n x s e ≡ follow C′ A′ n x s e
   unfolding follow

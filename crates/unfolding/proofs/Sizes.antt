@@ -12,7 +12,7 @@ use borrow.Author.Tests.{eqb-true, eqb-false}
 use Rattle.steps.specs.State.{State}
 use Rattle.steps.specs.Words.{step-of, is-call}
 use Rattle.unfolding.specs.Path.{shown, adds}
-use Rattle.unfolding.proofs.Walk.{LeadsTo, leads-below, adds-call, adds-shown, shown-small, wordsAt, stepAt, evidenceAt, addedBy, startAt, Stands, left, stands-next, left-first, left-next, left-end}
+use Rattle.unfolding.proofs.Walk.{LeadsTo, leads-below, adds-call, adds-shown, shown-small, words-at, step-at, evidence-at, added-by, start-at, Stands, left, stands-next, left-first, left-next, left-end}
 
 -- Of each record below count: how many states it adds, at most the cap.
 pub record Sized (f : ℕ → List State) (sizes : List ℕ) (count cap : ℕ) : Type 0 where
@@ -92,23 +92,23 @@ module _ (rules goal calls answers : List ℕ) where
   pub record Counted (n q : ℕ) (s : State) (sum cap : ℕ) : Type 0 where
     pub stands : Stands rules goal calls answers n q s
     pub most : sum ≤ cap
-    pub whole : min cap (sum + length (left rules goal calls answers n q s)) ≡ min cap (length (addedBy rules goal calls answers n))
+    pub whole : min cap (sum + length (left rules goal calls answers n q s)) ≡ min cap (length (added-by rules goal calls answers n))
 
-  pub counted-none : {n cap : ℕ} → Stands rules goal calls answers n 0 (startAt calls answers n) → Counted n 0 (startAt calls answers n) 0 cap
+  pub counted-none : {n cap : ℕ} → Stands rules goal calls answers n 0 (start-at calls answers n) → Counted n 0 (start-at calls answers n) 0 cap
   counted-none {n} {cap} h = record { stands = h; most = omega arith; whole = rw zero-add (ap (λ (l : List State). min cap (length l)) (sym (left-first rules goal calls answers n))) }
 
-  pub counted-more : (n q : ℕ) (s : State) (sum cap : ℕ) {t : State} {size : ℕ} {sizes : List ℕ} → Counted n q s sum cap → q < length (wordsAt rules goal answers n)
-      → Sized (addedBy rules goal calls answers) sizes n cap → Turned calls answers sizes n (stepAt rules goal answers n q) s (evidenceAt answers n q) t size
+  pub counted-more : (n q : ℕ) (s : State) (sum cap : ℕ) {t : State} {size : ℕ} {sizes : List ℕ} → Counted n q s sum cap → q < length (words-at rules goal answers n)
+      → Sized (added-by rules goal calls answers) sizes n cap → Turned calls answers sizes n (step-at rules goal answers n q) s (evidence-at answers n q) t size
       → Counted n (q + 1) t (min cap (sum + size)) cap
   counted-more n q s sum cap {t} {size} {sizes} c l z u = record {
     stands = stands-next rules goal calls answers n q s l t (c .stands) (u .to);
     most = omega arith;
-    whole = (let e : length (left rules goal calls answers n q s) ≡ length (adds (addedBy rules goal calls answers) (step-of (stepAt rules goal answers n q)) t (evidenceAt answers n q)) + length (left rules goal calls answers n (q + 1) t) =
-        ap length (left-next rules goal calls answers n q s l t (u .to)) ∙ length-append (adds (addedBy rules goal calls answers) (step-of (stepAt rules goal answers n q)) t (evidenceAt answers n q)) (left rules goal calls answers n (q + 1) t) in
-        omega (arith, c .whole, turned-size (addedBy rules goal calls answers) z u));
+    whole = (let e : length (left rules goal calls answers n q s) ≡ length (adds (added-by rules goal calls answers) (step-of (step-at rules goal answers n q)) t (evidence-at answers n q)) + length (left rules goal calls answers n (q + 1) t) =
+        ap length (left-next rules goal calls answers n q s l t (u .to)) ∙ length-append (adds (added-by rules goal calls answers) (step-of (step-at rules goal answers n q)) t (evidence-at answers n q)) (left rules goal calls answers n (q + 1) t) in
+        omega (arith, c .whole, turned-size (added-by rules goal calls answers) z u));
   }
 
-  pub counted-all : (n q : ℕ) (s : State) (sum cap : ℕ) → Counted n q s sum cap → length (wordsAt rules goal answers n) ≤ q → sum ≡ min cap (length (addedBy rules goal calls answers n))
+  pub counted-all : (n q : ℕ) (s : State) (sum cap : ℕ) → Counted n q s sum cap → length (words-at rules goal answers n) ≤ q → sum ≡ min cap (length (added-by rules goal calls answers n))
   counted-all n q s sum cap c l =
       let e : length (left rules goal calls answers n q s) ≡ 0 = ap length (left-end rules goal calls answers n q s l) in
       omega (arith, c .whole, c .most)

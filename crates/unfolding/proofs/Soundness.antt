@@ -19,8 +19,8 @@ use Rattle.steps.proofs.WordLaws.{elementary-does, not-on, on-same, rule-member
 use Rattle.steps.proofs.Deductions.{Does, asks, adds, drops, lacks}
 use Rattle.steps.proofs.Exactness.{Apart, Separate}
 use Rattle.steps.proofs.AcceptanceLaws.{AcceptedWords, separate}
-use Rattle.tabling.specs.Records.{Calls, Answers, Bodies, bodies-of, follow, follows, justified}
-use Rattle.bodies.proofs.Laws.{fits-rule, fits-goal}
+use Rattle.records.specs.Records.{Calls, Answers, Bodies, bodies-of, follow, follows, justified, goal-rule}
+use Rattle.records.proofs.BodyLaws.{fits-rule, fits-goal}
 use Rattle.unfolding.specs.Path as path
 use Rattle.unfolding.specs.Path.{shown, walked, path-of}
 use Rattle.unfolding.specs.States.{move-states, states, updates, Chain}
@@ -53,15 +53,15 @@ module _ (rules goal : List ℕ) (calls : Calls) (answers : Answers) (apart : Se
 
   -- What record n adds are the states of a complete deduction of its body.
   abbrev Deduced : ℕ → Type 0
-  Deduced n = (d : Final book (calls .state (answers .call n)) (body n) (answers .final n)) × (path.added calls answers bodies n ≡ states d)
+  Deduced n = (d : Final book (calls .state (answers .call n)) (body n) (answers .final n)) × (path.states-added calls answers bodies n ≡ states d)
 
   -- a rule number that goes with an action other than the goal's
   module _ (i a : ℕ) (fits : bodies .fits i a ≡ true) (ne : a ≢ Goal) where
-    ruled : i ≢ 256
+    ruled : i ≢ goal-rule
     ruled e = ne (fits-goal rules goal i a fits e)
 
     the-body : bodies .words i ≡ words-of rules i
-    the-body = rw (ne-eqb i 256 ruled) refl
+    the-body = rw (ne-eqb i goal-rule ruled) refl
 
     -- a call of the action, by a deduction of the rule's body
     by-rule : {D D′ : State} (rest : Body) {E : State} (d : Final book D (body-of (bodies .words i)) E) (d₂ : Final book E rest D′)
@@ -76,7 +76,7 @@ module _ (rules goal : List ℕ) (calls : Calls) (answers : Answers) (apart : Se
   module _ (n : ℕ) (fitted : (e : ℕ) → e < n → bodies .fits (answers .rule e) (calls .action (answers .call e)) ≡ true) (earlier : (e : ℕ) → e < n → Deduced e) where
     -- one step more in front
     step : (x : Step) (rest : Body) (s t : State) (e : ℕ) → ((b : ℕ) → x ≡ call b → b ≢ Goal) → follow calls answers n x s e ≡ on t
-        → (d : Final book t rest (answers .final n)) → (d′ : Final book s (x ∷ rest) (answers .final n)) × (path.adds (path.added calls answers bodies) x t e ++ states d ≡ states d′)
+        → (d : Final book t rest (answers .final n)) → (d′ : Final book s (x ∷ rest) (answers .final n)) × (path.adds (path.states-added calls answers bodies) x t e ++ states d ≡ states d′)
     unfolding follow path.adds
     step (query p) rest s t e ne h d = done-step (query p) (eqb e 0) h d
     step (insert p) rest s t e ne h d = done-step (insert p) (eqb e 0) h d
@@ -85,7 +85,7 @@ module _ (rules goal : List ℕ) (calls : Calls) (answers : Answers) (apart : Se
     step (call a) rest s t e ne h d = by (ltb e n && (eqb (calls .action (answers .call e)) a && eqb (calls .state (answers .call e)) s)) refl h
       where
         by : (b : Bool) → (ltb e n && (eqb (calls .action (answers .call e)) a && eqb (calls .state (answers .call e)) s)) ≡ b → cond b (on (answers .final e)) stuck ≡ on t
-            → (d′ : Final book s (call a ∷ rest) (answers .final n)) × (path.added calls answers bodies e ++ states d ≡ states d′)
+            → (d′ : Final book s (call a ∷ rest) (answers .final n)) × (path.states-added calls answers bodies e ++ states d ≡ states d′)
         by false z k = absurd (not-on k)
         by true z k =
             let (l, r) = both (ltb e n) _ z in
@@ -100,15 +100,15 @@ module _ (rules goal : List ℕ) (calls : Calls) (answers : Answers) (apart : Se
 
     -- the steps from place q on
     walk : (xs : Body) (q : ℕ) (s : State) → Apart xs → follows calls answers n xs q s ≡ true
-        → (d : Final book s xs (answers .final n)) × (walked calls answers n (path.added calls answers bodies) xs q s ≡ states d)
+        → (d : Final book s xs (answers .final n)) × (walked calls answers n (path.states-added calls answers bodies) xs q s ≡ states d)
     unfolding follows walked states
     walk [] q s free h = subst (λ (f : State). (d : Final book s [] f) × ([] ≡ states d)) (eqb-true s _ (both (eqb s (answers .final n)) _ h .0)) (done, refl)
     walk (x ∷ rest) q s free h = by (follow calls answers n x s (answers .evidence n q)) refl h (walk rest (suc q))
       where
         by : (o : Onward) → follow calls answers n x s (answers .evidence n q) ≡ o → elim o [ on t ↦ follows calls answers n rest (suc q) t | stuck ↦ false ] ≡ true
-            → ((t : State) → Apart rest → follows calls answers n rest (suc q) t ≡ true → (d : Final book t rest (answers .final n)) × (walked calls answers n (path.added calls answers bodies) rest (suc q) t ≡ states d))
+            → ((t : State) → Apart rest → follows calls answers n rest (suc q) t ≡ true → (d : Final book t rest (answers .final n)) × (walked calls answers n (path.states-added calls answers bodies) rest (suc q) t ≡ states d))
             → (d : Final book s (x ∷ rest) (answers .final n))
-            × _≡_ {A = List State} (elim o [ on t ↦ path.adds (path.added calls answers bodies) x t (answers .evidence n q) ++ walked calls answers n (path.added calls answers bodies) rest (suc q) t | stuck ↦ [] ]) (states d)
+            × _≡_ {A = List State} (elim o [ on t ↦ path.adds (path.states-added calls answers bodies) x t (answers .evidence n q) ++ walked calls answers n (path.states-added calls answers bodies) rest (suc q) t | stuck ↦ [] ]) (states d)
         by stuck e k later = absurd (true-not-false (sym k))
         by (on t) e k later =
             let (d, f) = later t (λ b m. free b (List·Memᴰ·tail m)) k in
@@ -117,20 +117,20 @@ module _ (rules goal : List ℕ) (calls : Calls) (answers : Answers) (apart : Se
 
   -- no body calls the goal
   body-apart : (i a : ℕ) → bodies .fits i a ≡ true → Apart (body-of (bodies .words i))
-  body-apart i a fits = by (eqb i 256) refl
+  body-apart i a fits = by (eqb i goal-rule) refl
     where
-      by : (b : Bool) → eqb i 256 ≡ b → Apart (body-of (cond b goal (words-of rules i)))
+      by : (b : Bool) → eqb i goal-rule ≡ b → Apart (body-of (cond b goal (words-of rules i)))
       by true z = apart .goal
-      by false z = apart .bodies (rule-of rules i) (rule-member rules i (fits-rule rules goal i a fits (eqb-false i 256 z) .0))
+      by false z = apart .bodies (rule-of rules i) (rule-member rules i (fits-rule rules goal i a fits (eqb-false i goal-rule z) .0))
 
   -- action 64 has only the goal
   goal-body : (i : ℕ) → bodies .fits i Goal ≡ true → bodies .words i ≡ goal
-  goal-body i fits = by (eqb i 256) refl
+  goal-body i fits = by (eqb i goal-rule) refl
     where
-      by : (b : Bool) → eqb i 256 ≡ b → cond b goal (words-of rules i) ≡ goal
+      by : (b : Bool) → eqb i goal-rule ≡ b → cond b goal (words-of rules i) ≡ goal
       by true z = refl
       by false z =
-          let (l, h) = fits-rule rules goal i Goal fits (eqb-false i 256 z) in
+          let (l, h) = fits-rule rules goal i Goal fits (eqb-false i goal-rule z) in
           absurd (apart .heads (rule-of rules i) (rule-member rules i l) h)
 
   module _ (m : ℕ) (all : (n : ℕ) → n < m → justified calls answers n bodies ≡ true) where
@@ -152,7 +152,7 @@ module _ (rules goal : List ℕ) (calls : Calls) (answers : Answers) (apart : Se
       where
         by : (b : Bool) → eqb (calls .action (answers .call x)) Goal ≡ b → Deduced x
             → (d : Final book (calls .state (answers .call x)) (cond b (body-of goal) (call (calls .action (answers .call x)) ∷ [])) (answers .final x))
-            × (calls .state (answers .call x) ∷ path.added calls answers bodies x ≡ calls .state (answers .call x) ∷ states d)
+            × (calls .state (answers .call x) ∷ path.states-added calls answers bodies x ≡ calls .state (answers .call x) ∷ states d)
         by true z (d, e) =
             let fit : bodies .fits (answers .rule x) Goal ≡ true = rw (eqb-true (calls .action (answers .call x)) Goal z) at (fitted x l) in
             let (d′, e′) = subst (λ (ws : List ℕ). (d′ : Final book (calls .state (answers .call x)) (body-of ws) (answers .final x)) × (states d′ ≡ states d)) (goal-body (answers .rule x) fit) (d, refl) in

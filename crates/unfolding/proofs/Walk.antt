@@ -15,44 +15,44 @@ use Rattle.steps.specs.Words.{step-by, step-of, body-of, is-call}
 use Rattle.steps.specs.Elementary.{Onward, on, stuck, elementary}
 use Rattle.steps.proofs.EachBelow.{true-not-false}
 use Rattle.steps.proofs.WordLaws.{call-word, no-call, not-on}
-use Rattle.tabling.specs.Records.{Calls, Answers, calls-in, answers-in, bodies-of, follow, follows}
-use Rattle.bodies.specs.Short.{Short}
+use Rattle.records.specs.Records.{Calls, Answers, bodies-of, follow, follows, call-table, answer-table, call-width, answer-width}
+use Rattle.records.specs.Bodies.{Short}
 use Rattle.checks.specs.Readable.{Readable}
 use Rattle.checks.proofs.FollowLaws.{follow-elementary, follows-on, follows-stuck}
-use Rattle.unfolding.specs.Path.{shown, adds, walked, added}
+use Rattle.unfolding.specs.Path.{shown, adds, walked, states-added}
 use Rattle.unfolding.proofs.Below.{call-below, added-walk}
 
 -- ---- the records of lent words, however many are counted
 
-abbrev pub callsOf : List ℕ → Calls
-callsOf calls = calls-in 2 calls 0
+abbrev pub calls-of : List ℕ → Calls
+calls-of calls = call-table calls 0
 
-abbrev pub answersOf : List ℕ → Answers
-answersOf answers = answers-in 19 answers 0
+abbrev pub answers-of : List ℕ → Answers
+answers-of answers = answer-table answers 0
 
 -- the step words of record n, and the state of its call
-abbrev pub wordsAt : List ℕ → List ℕ → List ℕ → ℕ → List ℕ
-wordsAt rules goal answers n = bodies-of rules goal .words (getD answers (19 * n + 2) 0)
+abbrev pub words-at : List ℕ → List ℕ → List ℕ → ℕ → List ℕ
+words-at rules goal answers n = bodies-of rules goal .words (getD answers (answer-width * n + 2) 0)
 
-abbrev pub startAt : List ℕ → List ℕ → ℕ → State
-startAt calls answers n = getD calls (2 * getD answers (19 * n) 0 + 1) 0
+abbrev pub start-at : List ℕ → List ℕ → ℕ → State
+start-at calls answers n = getD calls (call-width * getD answers (answer-width * n) 0 + 1) 0
 
-abbrev pub stepAt : List ℕ → List ℕ → List ℕ → ℕ → ℕ → ℕ
-stepAt rules goal answers n q = getD (wordsAt rules goal answers n) q 0
+abbrev pub step-at : List ℕ → List ℕ → List ℕ → ℕ → ℕ → ℕ
+step-at rules goal answers n q = getD (words-at rules goal answers n) q 0
 
-abbrev pub evidenceAt : List ℕ → ℕ → ℕ → ℕ
-evidenceAt answers n q = getD answers (19 * n + 3 + q) 0
+abbrev pub evidence-at : List ℕ → ℕ → ℕ → ℕ
+evidence-at answers n q = getD answers (answer-width * n + 3 + q) 0
 
 -- what record n adds
-abbrev pub addedBy : List ℕ → List ℕ → List ℕ → List ℕ → ℕ → List State
-addedBy rules goal calls answers = added (callsOf calls) (answersOf answers) (bodies-of rules goal)
+abbrev pub added-by : List ℕ → List ℕ → List ℕ → List ℕ → ℕ → List State
+added-by rules goal calls answers = states-added (calls-of calls) (answers-of answers) (bodies-of rules goal)
 
 -- The records below count are checked.
 pub record Checked (rules goal calls answers : List ℕ) (count : ℕ) : Type 0 where
   pub short : Short rules goal
   pub readable : Readable calls answers count
-  pub fits : (n : ℕ) → n < count → (a : ℕ) × (bodies-of rules goal .fits (getD answers (19 * n + 2) 0) a ≡ true)
-  pub followed : (n : ℕ) → n < count → follows (callsOf calls) (answersOf answers) n (body-of (wordsAt rules goal answers n)) 0 (startAt calls answers n) ≡ true
+  pub fits : (n : ℕ) → n < count → (a : ℕ) × (bodies-of rules goal .fits (getD answers (answer-width * n + 2) 0) a ≡ true)
+  pub followed : (n : ℕ) → n < count → follows (calls-of calls) (answers-of answers) n (body-of (words-at rules goal answers n)) 0 (start-at calls answers n) ≡ true
 
 pub checked-less : {rules goal calls answers : List ℕ} {count n : ℕ} → n ≤ count → Checked rules goal calls answers count → Checked rules goal calls answers n
 checked-less l c =
@@ -67,12 +67,12 @@ checked-less l c =
 
 -- A step of record n leads from s to t with evidence e.
 pub record LeadsTo (calls answers : List ℕ) (n w : ℕ) (s : State) (e : ℕ) (t : State) : Type 0 where
-  pub leads : follow (callsOf calls) (answersOf answers) n (step-of w) s e ≡ on t
+  pub leads : follow (calls-of calls) (answers-of answers) n (step-of w) s e ≡ on t
 
 -- a call uses a smaller record
 pub leads-below : {calls answers : List ℕ} {n w : ℕ} {s : State} {e : ℕ} {t : State} → is-call w ≡ true → LeadsTo calls answers n w s e t → e < n
 leads-below {calls} {answers} {n} {w} {s} {e} {t} l h =
-    call-below (callsOf calls) (answersOf answers) n (w % 256) s t e (rw (call-word w l) at (h .leads))
+    call-below (calls-of calls) (answers-of answers) n (w % 256) s t e (rw (call-word w l) at (h .leads))
 
 -- any evidence is at most the record's own number
 pub leads-most : {calls answers : List ℕ} {n w : ℕ} {s : State} {e : ℕ} {t : State} → LeadsTo calls answers n w s e t → e ≤ n
@@ -84,7 +84,7 @@ leads-most {calls} {answers} {n} {w} {s} {e} {t} h = by (is-call w) refl
 
     by : (b : Bool) → is-call w ≡ b → e ≤ n
     by true z = omega (arith, leads-below z h)
-    by false z = none (eqb e 0) refl (sym (follow-elementary (callsOf calls) (answersOf answers) n w s e z) ∙ h .leads)
+    by false z = none (eqb e 0) refl (sym (follow-elementary (calls-of calls) (answers-of answers) n w s e z) ∙ h .leads)
 
 pub adds-call : (f : ℕ → List State) (w : ℕ) (t : State) (e : ℕ) → is-call w ≡ true → adds f (step-of w) t e ≡ f e
 unfolding adds
@@ -143,40 +143,40 @@ walked-next calls answers n f x rest q s t e =
 module _ (rules goal calls answers : List ℕ) where
   -- The walk of record n stands at place q in state s.
   pub record Stands (n q : ℕ) (s : State) : Type 0 where
-    pub within : q ≤ length (wordsAt rules goal answers n)
-    pub goes : follows (callsOf calls) (answersOf answers) n (body-of (drop q (wordsAt rules goal answers n))) q s ≡ true
+    pub within : q ≤ length (words-at rules goal answers n)
+    pub goes : follows (calls-of calls) (answers-of answers) n (body-of (drop q (words-at rules goal answers n))) q s ≡ true
 
   -- what the steps from there on add
   abbrev pub left : ℕ → ℕ → State → List State
-  left n q s = walked (callsOf calls) (answersOf answers) n (addedBy rules goal calls answers) (body-of (drop q (wordsAt rules goal answers n))) q s
+  left n q s = walked (calls-of calls) (answers-of answers) n (added-by rules goal calls answers) (body-of (drop q (words-at rules goal answers n))) q s
 
-  pub stands-first : {count n : ℕ} → Checked rules goal calls answers count → n < count → Stands n 0 (startAt calls answers n)
+  pub stands-first : {count n : ℕ} → Checked rules goal calls answers count → n < count → Stands n 0 (start-at calls answers n)
   stands-first {count} {n} c l = record { within = omega arith; goes = c .followed n l }
 
-  pub left-first : (n : ℕ) → addedBy rules goal calls answers n ≡ left n 0 (startAt calls answers n)
-  left-first n = added-walk (callsOf calls) (answersOf answers) (bodies-of rules goal) n
+  pub left-first : (n : ℕ) → added-by rules goal calls answers n ≡ left n 0 (start-at calls answers n)
+  left-first n = added-walk (calls-of calls) (answers-of answers) (bodies-of rules goal) n
 
-  module _ (n q : ℕ) (s : State) (l : q < length (wordsAt rules goal answers n)) where
-    pub stands-goes : Stands n q s → (t : State) × LeadsTo calls answers n (stepAt rules goal answers n q) s (evidenceAt answers n q) t
-    stands-goes h = by (follow (callsOf calls) (answersOf answers) n (step-of (stepAt rules goal answers n q)) s (evidenceAt answers n q)) refl
+  module _ (n q : ℕ) (s : State) (l : q < length (words-at rules goal answers n)) where
+    pub stands-goes : Stands n q s → (t : State) × LeadsTo calls answers n (step-at rules goal answers n q) s (evidence-at answers n q) t
+    stands-goes h = by (follow (calls-of calls) (answers-of answers) n (step-of (step-at rules goal answers n q)) s (evidence-at answers n q)) refl
       where
-        by : (o : Onward) → follow (callsOf calls) (answersOf answers) n (step-of (stepAt rules goal answers n q)) s (evidenceAt answers n q) ≡ o
-            → (t : State) × LeadsTo calls answers n (stepAt rules goal answers n q) s (evidenceAt answers n q) t
+        by : (o : Onward) → follow (calls-of calls) (answers-of answers) n (step-of (step-at rules goal answers n q)) s (evidence-at answers n q) ≡ o
+            → (t : State) × LeadsTo calls answers n (step-at rules goal answers n q) s (evidence-at answers n q) t
         by (on t) e = (t, record { leads = e })
-        by stuck e = absurd (true-not-false (sym (h .goes) ∙ follows-stuck (callsOf calls) (answersOf answers) n (wordsAt rules goal answers n) q s l (sym e)))
+        by stuck e = absurd (true-not-false (sym (h .goes) ∙ follows-stuck (calls-of calls) (answers-of answers) n (words-at rules goal answers n) q s l (sym e)))
 
-    pub stands-next : (t : State) → Stands n q s → LeadsTo calls answers n (stepAt rules goal answers n q) s (evidenceAt answers n q) t → Stands n (q + 1) t
+    pub stands-next : (t : State) → Stands n q s → LeadsTo calls answers n (step-at rules goal answers n q) s (evidence-at answers n q) t → Stands n (q + 1) t
     stands-next t h e = record {
       within = omega arith;
-      goes = sym (follows-on (callsOf calls) (answersOf answers) n (wordsAt rules goal answers n) q s t l (sym (e .leads))) ∙ h .goes;
+      goes = sym (follows-on (calls-of calls) (answers-of answers) n (words-at rules goal answers n) q s t l (sym (e .leads))) ∙ h .goes;
     }
 
-    pub left-next : (t : State) → LeadsTo calls answers n (stepAt rules goal answers n q) s (evidenceAt answers n q) t
-        → left n q s ≡ adds (addedBy rules goal calls answers) (step-of (stepAt rules goal answers n q)) t (evidenceAt answers n q) ++ left n (q + 1) t
+    pub left-next : (t : State) → LeadsTo calls answers n (step-at rules goal answers n q) s (evidence-at answers n q) t
+        → left n q s ≡ adds (added-by rules goal calls answers) (step-of (step-at rules goal answers n q)) t (evidence-at answers n q) ++ left n (q + 1) t
     left-next t e =
-        rw (drop-cons (wordsAt rules goal answers n) q 0 l, add-one q)
-        (walked-next (callsOf calls) (answersOf answers) n (addedBy rules goal calls answers) (step-of (stepAt rules goal answers n q)) (body-of (drop (suc q) (wordsAt rules goal answers n))) q s t (e .leads))
+        rw (drop-cons (words-at rules goal answers n) q 0 l, add-one q)
+        (walked-next (calls-of calls) (answers-of answers) n (added-by rules goal calls answers) (step-of (step-at rules goal answers n q)) (body-of (drop (suc q) (words-at rules goal answers n))) q s t (e .leads))
 
-  pub left-end : (n q : ℕ) (s : State) → length (wordsAt rules goal answers n) ≤ q → left n q s ≡ []
+  pub left-end : (n q : ℕ) (s : State) → length (words-at rules goal answers n) ≤ q → left n q s ≡ []
   unfolding walked
-  left-end n q s l = rw (drop-of-length-le (wordsAt rules goal answers n) l) refl
+  left-end n q s l = rw (drop-of-length-le (words-at rules goal answers n) l) refl

@@ -7,7 +7,7 @@ use Rattle.steps.specs.State.{State}
 use Rattle.steps.specs.Step.{Step, query, insert, delete, call, deny, Body}
 use Rattle.steps.specs.Words.{body-of}
 use Rattle.steps.specs.Elementary.{on, stuck}
-use Rattle.tabling.specs.Records.{Calls, Answers, Bodies, follow}
+use Rattle.records.specs.Records.{Calls, Answers, Bodies, follow}
 
 -- "One state for each update": an elementary step that leads to t adds t if it is an update, also where t is the state that it leads from;
 -- "queries add none", and no more does a denial. (A call is no elementary step: see `adds`.)
@@ -41,9 +41,9 @@ module _ (calls : Calls) (answers : Answers) (bodies : Bodies) where
       cond (eqb x n) (walked calls answers n (below n) (body-of (bodies .words (answers .rule n))) 0 (calls .state (answers .call n))) (below n x)
 
   -- What record x adds after its call's state: the state after each update.
-  abbrev pub added : ℕ → List State
-  added x = below (suc x) x
+  abbrev pub states-added : ℕ → List State
+  states-added x = below (suc x) x
 
   -- The path of record x: first the call's state, then the state after each update.
   unfoldable pub path-of : ℕ → List State
-  path-of x = calls .state (answers .call x) ∷ added x
+  path-of x = calls .state (answers .call x) ∷ states-added x

@@ -1,20 +1,21 @@
--- How a turn of the walk comes out, by the search's invariants. No one but the evaluator's proof reads these. Assumes nothing.
+-- How a turn of the walk comes out, by the search's invariants. Read by the proofs of `walk` and `rounds` alone. Assumes nothing.
 use Prim.Native.Nat.{ℕ, _+_, _<_}
 use mathlib.Core.Path.{_≡_}
 use mathlib.Core.List.{List}
 use lib.ListN.{length}
 use Rattle.steps.specs.State.{State}
-use Rattle.tabling.specs.Records.{Bodies, room}
-use Rattle.tabling.proofs.Growth.{Tables}
+use Rattle.records.specs.Records.{Bodies, room, call-width, answer-width}
+use Rattle.records.proofs.Growth.{Tables}
 use Rattle.tabling.proofs.Measure.{left}
-use Rattle.tabling.proofs.Uses.{UsesGrew}
-use Rattle.tabling.proofs.Turn.{Before, before, Turning, Turned, Over, Outgrown}
-use Rattle.tabling.proofs.Walking.{Node}
-use Rattle.tabling.proofs.Going.{Kept, Indexed}
+use Rattle.notes.specs.Uses.{UsesGrew}
+use Rattle.loops.proofs.Turn.{Before, before, Turning, Turned, Over}
+use Rattle.tabling.proofs.Adding.{Outgrown}
+use Rattle.tabling.proofs.Moves.{Node}
+use Rattle.loops.proofs.Going.{Kept, Indexed}
 use Rattle.walk.specs.declared.Front.{Front}
 use Rattle.walk.specs.declared.Front.the-variants as front
-use Rattle.walk.specs.declared.Next.{Next}
-use Rattle.walk.specs.declared.Next.the-variants as next
+use Rattle.walk.specs.declared.Leave.{Leave}
+use Rattle.walk.specs.declared.Leave.the-variants as leave
 use Rattle.walk.specs.declared.Job.{Job}
 use Rattle.walk.specs.declared.Spot.{Spot}
 
@@ -35,18 +36,26 @@ abbrev pub past-of : Job → List ℕ → Before
 past-of job notes = before (job .first) (job .old) (job .seen) (job .warm) notes
 
 -- A step forward from place `at` in state s: the invariant one place on, nothing left here, or more records than places.
-abbrev pub Stepped : Front → Bodies → (ℕ → State → Type 0) → Tables → List ℕ → Job → List ℕ → ℕ → ℕ → List ℕ → ℕ → Node → Tables → List ℕ → List ℕ → List ℕ → Type 0
+abbrev pub Stepped : Front → Bodies → (ℕ → State → Type 0) → Tables → List ℕ → Job → List ℕ → ℕ → ℕ → List ℕ → ℕ → Node → Tables → List ℕ → List ℕ
+    → List ℕ → Type 0
 Stepped (front.On s′) bodies Root b notes job body cw aw chosen at s t marks uses chosen′ =
-    Turning bodies Root b (job .known) (job .rule) (job .row) (job .walk) (past-of job notes) body t marks uses chosen′ (at + 1) (spot-of s′) × (left (job .known) chosen′ (at + 1) < left (job .known) chosen at)
+    Turning bodies Root b (job .known) (job .rule) (job .row) (job .walk) (past-of job notes) body t marks uses chosen′ (at + 1) (spot-of s′)
+    × (left (job .known) chosen′ (at + 1) < left (job .known) chosen at)
 Stepped front.Spent bodies Root b notes job body cw aw chosen at s t marks uses chosen′ =
     Turned bodies Root b (job .known) (job .rule) (job .row) (job .walk) (past-of job notes) body t marks uses chosen′ at s × (chosen′ ≡ chosen)
-Stepped front.Full bodies Root b notes job body cw aw chosen at s t marks uses chosen′ = Outgrown bodies Root (room 2 cw) (room 19 aw)
+Stepped front.Full bodies Root b notes job body cw aw chosen at s t marks uses chosen′ = Outgrown bodies Root (room call-width cw)
+    (room answer-width aw)
 
 -- A whole turn: as above, or back at place p with another answer, or the walk is over.
-abbrev pub Outcome : Next → Bodies → (ℕ → State → Type 0) → Tables → List ℕ → Job → List ℕ → ℕ → ℕ → List ℕ → ℕ → Tables → List ℕ → List ℕ → List ℕ → Type 0
-Outcome (next.On s′) bodies Root b notes job body cw aw chosen at t marks uses chosen′ =
-    Turning bodies Root b (job .known) (job .rule) (job .row) (job .walk) (past-of job notes) body t marks uses chosen′ (at + 1) (spot-of s′) × (left (job .known) chosen′ (at + 1) < left (job .known) chosen at)
-Outcome (next.Back p s′) bodies Root b notes job body cw aw chosen at t marks uses chosen′ =
-    Turning bodies Root b (job .known) (job .rule) (job .row) (job .walk) (past-of job notes) body t marks uses chosen′ p (spot-of s′) × (left (job .known) chosen′ p < left (job .known) chosen at)
-Outcome next.Done bodies Root b notes job body cw aw chosen at t marks uses chosen′ = Over bodies Root b (job .known) (job .rule) (job .row) (job .walk) (past-of job notes) body t marks uses
-Outcome next.Full bodies Root b notes job body cw aw chosen at t marks uses chosen′ = Outgrown bodies Root (room 2 cw) (room 19 aw)
+abbrev pub Outcome : Leave → Bodies → (ℕ → State → Type 0) → Tables → List ℕ → Job → List ℕ → ℕ → ℕ → List ℕ → ℕ → Tables → List ℕ → List ℕ
+    → List ℕ → Type 0
+Outcome (leave.On s′) bodies Root b notes job body cw aw chosen at t marks uses chosen′ =
+    Turning bodies Root b (job .known) (job .rule) (job .row) (job .walk) (past-of job notes) body t marks uses chosen′ (at + 1) (spot-of s′)
+    × (left (job .known) chosen′ (at + 1) < left (job .known) chosen at)
+Outcome (leave.Back p s′) bodies Root b notes job body cw aw chosen at t marks uses chosen′ =
+    Turning bodies Root b (job .known) (job .rule) (job .row) (job .walk) (past-of job notes) body t marks uses chosen′ p (spot-of s′)
+    × (left (job .known) chosen′ p < left (job .known) chosen at)
+Outcome leave.Done bodies Root b notes job body cw aw chosen at t marks uses chosen′ =
+    Over bodies Root b (job .known) (job .rule) (job .row) (job .walk) (past-of job notes) body t marks uses
+Outcome leave.Full bodies Root b notes job body cw aw chosen at t marks uses chosen′ = Outgrown bodies Root (room call-width cw)
+    (room answer-width aw)

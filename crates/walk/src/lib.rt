@@ -4,29 +4,29 @@
 // found or added, and its answers are taken in turn; a call step that the walk comes to again in the same state has been searched already,
 // so it is marked and never entered twice. At the body's end the state is added as an answer, with the answers on the way as its evidence.
 
+use notes::index;
+use notes::marks;
+use notes::uses;
+use records::tables;
 use steps::state::Call;
 use steps::state::State;
 use steps::word;
-use storage::index;
-use storage::marks;
-use storage::tables;
-use storage::uses;
 ghost use mathlib.Core.Path.{_≡_};
 ghost use mathlib.Core.Bool.{true, false};
 ghost use mathlib.Core.List.{List};
 ghost use Prim.Native.Nat.{ℕ, _+_, _-_, _*_, _<_, _≤_};
 ghost use lib.ListN.{length, getD, drop};
 ghost use Rattle.steps.specs.Words.{is-call};
-ghost use Rattle.tabling.specs.Records.{Bodies, calls-in, answers-in};
-ghost use Rattle.tabling.proofs.Storage.{Stored};
-ghost use Rattle.tabling.proofs.Growth.{Tables};
-ghost use Rattle.tabling.proofs.Marks.{Stamped};
-ghost use Rattle.tabling.proofs.Uses.{UsesGrew};
-ghost use Rattle.tabling.proofs.Index.{CallIndex, AnswerIndex};
-ghost use Rattle.tabling.proofs.Walking.{Chosen};
+ghost use Rattle.records.specs.Records.{Bodies, call-table, answer-table, call-width, answer-width};
+ghost use Rattle.records.specs.Storage.{Stored};
+ghost use Rattle.records.proofs.Growth.{Tables};
+ghost use Rattle.notes.specs.Marks.{Stamped};
+ghost use Rattle.notes.specs.Uses.{UsesGrew};
+ghost use Rattle.notes.specs.Index.{CallIndex, AnswerIndex};
+ghost use Rattle.tabling.proofs.Moves.{Chosen};
 ghost use Rattle.tabling.proofs.Evidence.{Among};
-ghost use Rattle.tabling.proofs.Turn.{RetreatRow, Turning, Picked};
-ghost use Rattle.tabling.proofs.Going.{Kept, Indexed, WentBack, Going, in-words};
+ghost use Rattle.loops.proofs.Turn.{RetreatRow, Turning, Picked};
+ghost use Rattle.loops.proofs.Going.{Kept, Indexed, WentBack, Going, in-words};
 ghost use Rattle.walk.specs.Outcome.{spot-of, past-of, Stepped, Outcome, Stays};
 
 // What does not change while a body is walked: its rule's number, the call record that it is of, how many answers may serve, and the
@@ -56,7 +56,7 @@ pub enum Front {
     Full,
 }
 
-// With how many records there are then.
+// How the step in front comes out, and how many records the two tables then hold.
 pub struct Advanced {
     pub calls: usize,
     pub answers: usize,
@@ -73,12 +73,16 @@ fn finish(
     chosen: &[u64; 16],
     spot: Spot,
 ) -> Advanced
-    requires { ⌜ Stored 19 (now answers) m × AnswerIndex (answers-in 19 (now answers) m) (now «answer_index») × (job .row < 65536) ⌝ }
-    ensures { λ r. ⌜ (length (now (answers .exit)) ≡ length (now (answers .entry))) × Stored 19 (now (answers .exit)) (r .answers) × (r .calls ≡ n) ⌝ }
-    ensures { λ r. ⌜ AnswerIndex (answers-in 19 (now (answers .exit)) (r .answers)) (now («answer_index» .exit)) ⌝ }
-    ensures { λ r. ⌜ ((bodies : Bodies) (roots : List (ℕ × ℕ)) (b : Tables) (notes : List ℕ) (body calls marks uses : List ℕ) (at : ℕ) → length body ≤ at
-        → Turning bodies (Among roots) b (job .known) (job .rule) (job .row) (job .walk) (past-of job notes) body (in-words calls n (now (answers .entry)) m) marks uses (now (chosen .entry)) at (spot-of spot)
-        → Stepped (r .front) bodies (Among roots) b notes job body (length calls) (length (now (answers .entry))) (now (chosen .entry)) at (spot-of spot)
+    requires { ⌜ Stored answer-width (now answers) m × AnswerIndex (answer-table (now answers) m) (now «answer_index») × (job .row < 65536) ⌝ }
+    ensures { λ r. ⌜ (length (now (answers .exit)) ≡ length (now (answers .entry))) × Stored answer-width (now (answers .exit)) (r .answers)
+        × (r .calls ≡ n) ⌝ }
+    ensures { λ r. ⌜ AnswerIndex (answer-table (now (answers .exit)) (r .answers)) (now («answer_index» .exit)) ⌝ }
+    ensures { λ r. ⌜ ((bodies : Bodies) (roots : List (ℕ × ℕ)) (b : Tables) (notes : List ℕ) (body calls marks uses : List ℕ) (at : ℕ)
+        → length body ≤ at
+        → Turning bodies (Among roots) b (job .known) (job .rule) (job .row) (job .walk) (past-of job notes) body
+        (in-words calls n (now (answers .entry)) m) marks uses (now (chosen .entry)) at (spot-of spot)
+        → Stepped (r .front) bodies (Among roots) b notes job body (length calls) (length (now (answers .entry))) (now (chosen .entry)) at
+        (spot-of spot)
         (in-words calls n (now (answers .exit)) (r .answers)) marks uses (now (chosen .entry))) ⌝ }
 {
     let put = index::add_answer(
@@ -146,9 +150,12 @@ fn first_of(
     row: usize,
 ) -> usize
     requires { ⌜ (row < 65536) × (job .known ≤ 65536) × (at ≤ 16) × (length (now uses) ≡ 327680) ⌝ }
-    requires { ⌜ ((m : ℕ) × (job .known ≤ m) × (19 * m ≤ length (now answers)) × AnswerIndex (answers-in 19 (now answers) m) (now «answer_index»)) ⌝ }
+    requires { ⌜ ((m : ℕ) × (job .known ≤ m) × (answer-width * m ≤ length (now answers))
+        × AnswerIndex (answer-table (now answers) m) (now «answer_index»))
+        ⌝ }
     ensures { λ r. ⌜ (r ≤ job .known) × ((notes body : List ℕ) → now (rest .entry) ≡ drop at body
-        → Picked (answers-in 19 (now (answers .entry)) (job .known)) (now (uses .entry)) (job .known) (job .row) (past-of job notes) body (now (chosen .entry)) at row r) ⌝ }
+        → Picked (answer-table (now (answers .entry)) (job .known)) (now (uses .entry)) (job .known) (job .row) (past-of job notes) body
+        (now (chosen .entry)) at row r) ⌝ }
 {
     if job.row < job.old {
         if job.first <= job.row {
@@ -190,13 +197,18 @@ fn enter(
     chosen: &mut [u64; 16],
     spot: Spot,
 ) -> Advanced
-    requires { ⌜ Kept (now calls) n (now answers) m × Stamped (now marks) (job .walk) × (at < 16) × (job .known ≤ m) × (job .row < 65536) × (length (now uses) ≡ 327680) ⌝ }
+    requires { ⌜ Kept (now calls) n (now answers) m × Stamped (now marks) (job .walk) × (at < 16) × (job .known ≤ m) × (job .row < 65536)
+        × (length (now uses) ≡ 327680) ⌝ }
     requires { ⌜ Indexed (now calls) n (now «call_index») (now answers) m (now «answer_index») ⌝ }
-    ensures { λ r. ⌜ (length (now (calls .exit)) ≡ length (now (calls .entry))) × Stored 2 (now (calls .exit)) (r .calls) × (r .answers ≡ m) × UsesGrew (now (uses .entry)) (now (uses .exit)) ⌝ }
-    ensures { λ r. ⌜ CallIndex (calls-in 2 (now (calls .exit)) (r .calls)) (now («call_index» .exit)) ⌝ }
-    ensures { λ r. ⌜ ((bodies : Bodies) (roots : List (ℕ × ℕ)) (b : Tables) (notes : List ℕ) (body : List ℕ) → at < length body → is-call (getD body at 0) ≡ true → getD body at 0 ≡ step → now (rest .entry) ≡ drop at body
-        → Turning bodies (Among roots) b (job .known) (job .rule) (job .row) (job .walk) (past-of job notes) body (in-words (now (calls .entry)) n (now (answers .entry)) m) (now (marks .entry)) (now (uses .entry)) (now (chosen .entry)) at (spot-of spot)
-        → Stepped (r .front) bodies (Among roots) b notes job body (length (now (calls .entry))) (length (now (answers .entry))) (now (chosen .entry)) at (spot-of spot)
+    ensures { λ r. ⌜ (length (now (calls .exit)) ≡ length (now (calls .entry))) × Stored call-width (now (calls .exit)) (r .calls) × (r .answers ≡ m)
+        × UsesGrew (now (uses .entry)) (now (uses .exit)) ⌝ }
+    ensures { λ r. ⌜ CallIndex (call-table (now (calls .exit)) (r .calls)) (now («call_index» .exit)) ⌝ }
+    ensures { λ r. ⌜ ((bodies : Bodies) (roots : List (ℕ × ℕ)) (b : Tables) (notes : List ℕ) (body : List ℕ) → at < length body
+        → is-call (getD body at 0) ≡ true → getD body at 0 ≡ step → now (rest .entry) ≡ drop at body
+        → Turning bodies (Among roots) b (job .known) (job .rule) (job .row) (job .walk) (past-of job notes) body
+        (in-words (now (calls .entry)) n (now (answers .entry)) m) (now (marks .entry)) (now (uses .entry)) (now (chosen .entry)) at (spot-of spot)
+        → Stepped (r .front) bodies (Among roots) b notes job body (length (now (calls .entry))) (length (now (answers .entry)))
+        (now (chosen .entry)) at (spot-of spot)
         (in-words (now (calls .exit)) (r .calls) (now (answers .entry)) m) (now (marks .exit)) (now (uses .exit)) (now (chosen .exit))) ⌝ }
 {
     let state = spot.state;
@@ -259,13 +271,18 @@ fn advance(
     chosen: &mut [u64; 16],
     spot: Spot,
 ) -> Advanced
-    requires { ⌜ Kept (now calls) n (now answers) m × Stamped (now marks) (job .walk) × (at + length (now rest) ≤ 16) × (job .known ≤ m) × (job .row < 65536) × (length (now uses) ≡ 327680) ⌝ }
+    requires { ⌜ Kept (now calls) n (now answers) m × Stamped (now marks) (job .walk) × (at + length (now rest) ≤ 16) × (job .known ≤ m)
+        × (job .row < 65536) × (length (now uses) ≡ 327680) ⌝ }
     requires { ⌜ Indexed (now calls) n (now «call_index») (now answers) m (now «answer_index») ⌝ }
-    ensures { λ r. ⌜ Stays (now (calls .entry)) (now (answers .entry)) (now (uses .entry)) (now (calls .exit)) (r .calls) (now («call_index» .exit)) (now (answers .exit)) (r .answers) (now («answer_index» .exit)) (now (uses .exit)) ⌝ }
+    ensures { λ r. ⌜ Stays (now (calls .entry)) (now (answers .entry)) (now (uses .entry)) (now (calls .exit)) (r .calls)
+        (now («call_index» .exit)) (now (answers .exit)) (r .answers) (now («answer_index» .exit)) (now (uses .exit)) ⌝ }
     ensures { λ r. ⌜ ((bodies : Bodies) (roots : List (ℕ × ℕ)) (b : Tables) (notes : List ℕ) (body : List ℕ) → now (rest .entry) ≡ drop at body
-        → Turning bodies (Among roots) b (job .known) (job .rule) (job .row) (job .walk) (past-of job notes) body (in-words (now (calls .entry)) n (now (answers .entry)) m) (now (marks .entry)) (now (uses .entry)) (now (chosen .entry)) at (spot-of spot)
-        → Stepped (r .front) bodies (Among roots) b notes job body (length (now (calls .entry))) (length (now (answers .entry))) (now (chosen .entry)) at (spot-of spot)
-        (in-words (now (calls .exit)) (r .calls) (now (answers .exit)) (r .answers)) (now (marks .exit)) (now (uses .exit)) (now (chosen .exit))) ⌝ }
+        → Turning bodies (Among roots) b (job .known) (job .rule) (job .row) (job .walk) (past-of job notes) body
+        (in-words (now (calls .entry)) n (now (answers .entry)) m) (now (marks .entry)) (now (uses .entry)) (now (chosen .entry)) at (spot-of spot)
+        → Stepped (r .front) bodies (Among roots) b notes job body (length (now (calls .entry))) (length (now (answers .entry)))
+        (now (chosen .entry)) at (spot-of spot)
+        (in-words (now (calls .exit)) (r .calls) (now (answers .exit)) (r .answers)) (now (marks .exit)) (now (uses .exit)) (now (chosen .exit)))
+        ⌝ }
 {
     if rest.len() == 0 {
         return finish(job, n, answers, m, answer_index, chosen, spot);
@@ -328,8 +345,9 @@ fn retreat(
     at: usize,
 ) -> Later
     requires { ⌜ (known ≤ 65536) × (at ≤ length (now body)) × (at ≤ 16) × Chosen (now body) known (now chosen) at ⌝ }
-    requires { ⌜ ((m : ℕ) × (known ≤ m) × (19 * m ≤ length (now answers)) × AnswerIndex (answers-in 19 (now answers) m) (now index)) ⌝ }
-    ensures { λ r. ⌜ RetreatRow (now (body .entry)) (answers-in 19 (now (answers .entry)) known) known (now (chosen .entry)) at (r .at) (r .answer) ⌝ }
+    requires { ⌜ ((m : ℕ) × (known ≤ m) × (answer-width * m ≤ length (now answers)) × AnswerIndex (answer-table (now answers) m) (now index)) ⌝ }
+    ensures { λ r. ⌜ RetreatRow (now (body .entry)) (answer-table (now (answers .entry)) known) known (now (chosen .entry)) at (r .at)
+        (r .answer) ⌝ }
 {
     let mut place = at;
     while 0 < place {
@@ -364,8 +382,9 @@ fn go_back(
     at: usize,
 ) -> Went
     requires { ⌜ (known ≤ 65536) × (at ≤ length (now body)) × (at ≤ 16) × Chosen (now body) known (now chosen) at ⌝ }
-    requires { ⌜ ((m : ℕ) × (known ≤ m) × (19 * m ≤ length (now answers)) × AnswerIndex (answers-in 19 (now answers) m) (now index)) ⌝ }
-    ensures { λ r. ⌜ WentBack (now (body .entry)) (now (answers .entry)) known (now (chosen .entry)) at (now (chosen .exit)) (r .at) (spot-of (r .spot)) ⌝ }
+    requires { ⌜ ((m : ℕ) × (known ≤ m) × (answer-width * m ≤ length (now answers)) × AnswerIndex (answer-table (now answers) m) (now index)) ⌝ }
+    ensures { λ r. ⌜ WentBack (now (body .entry)) (now (answers .entry)) known (now (chosen .entry)) at (now (chosen .exit)) (r .at)
+        (spot-of (r .spot)) ⌝ }
 {
     let back = retreat(body, answers, known, index, chosen, at);
     let after = back.at;
@@ -390,18 +409,18 @@ fn go_back(
 }
 
 // How a turn comes out: on after the step in front, back at a place of the body, done, or a table is full.
-pub enum Next {
+pub enum Leave {
     On(Spot),
     Back(usize, Spot),
     Done,
     Full,
 }
 
-// With how many records there are then.
+// How a turn comes out, and how many records the two tables then hold.
 pub struct Moved {
     pub calls: usize,
     pub answers: usize,
-    pub next: Next,
+    pub leave: Leave,
 }
 
 // One turn of the walk whose steps still to do are `rest`, the tail of the body, with the record that it adds.
@@ -420,14 +439,21 @@ pub fn turn(
     chosen: &mut [u64; 16],
     spot: Spot,
 ) -> Moved
-    requires { ⌜ Kept (now calls) n (now answers) m × Indexed (now calls) n (now «call_index») (now answers) m (now «answer_index») × (length (now uses) ≡ 327680) ⌝ }
+    requires { ⌜ Kept (now calls) n (now answers) m × Indexed (now calls) n (now «call_index») (now answers) m (now «answer_index»)
+        × (length (now uses) ≡ 327680) ⌝ }
     requires { ⌜ ((bodies : Bodies) × (roots : List (ℕ × ℕ)) × (b : Tables) × (notes : List ℕ)
-        × Going bodies (Among roots) b (job .known) (job .rule) (job .row) (job .walk) (past-of job notes) (now body) (in-words (now calls) n (now answers) m) (now marks) (now uses) (now chosen) (now rest) (spot-of spot)) ⌝ }
-    ensures { λ r. ⌜ Stays (now (calls .entry)) (now (answers .entry)) (now (uses .entry)) (now (calls .exit)) (r .calls) (now («call_index» .exit)) (now (answers .exit)) (r .answers) (now («answer_index» .exit)) (now (uses .exit)) ⌝ }
+        × Going bodies (Among roots) b (job .known) (job .rule) (job .row) (job .walk) (past-of job notes) (now body)
+        (in-words (now calls) n (now answers) m) (now marks) (now uses) (now chosen) (now rest) (spot-of spot)) ⌝ }
+    ensures { λ r. ⌜ Stays (now (calls .entry)) (now (answers .entry)) (now (uses .entry)) (now (calls .exit)) (r .calls)
+        (now («call_index» .exit)) (now (answers .exit)) (r .answers) (now («answer_index» .exit)) (now (uses .exit)) ⌝ }
     ensures { λ r. ⌜ ((bodies : Bodies) (roots : List (ℕ × ℕ)) (b : Tables) (notes : List ℕ)
-        → Going bodies (Among roots) b (job .known) (job .rule) (job .row) (job .walk) (past-of job notes) (now (body .entry)) (in-words (now (calls .entry)) n (now (answers .entry)) m) (now (marks .entry)) (now (uses .entry)) (now (chosen .entry)) (now (rest .entry)) (spot-of spot)
-        → Outcome (r .next) bodies (Among roots) b notes job (now (body .entry)) (length (now (calls .entry))) (length (now (answers .entry))) (now (chosen .entry)) (length (now (body .entry)) - length (now (rest .entry)))
-        (in-words (now (calls .exit)) (r .calls) (now (answers .exit)) (r .answers)) (now (marks .exit)) (now (uses .exit)) (now (chosen .exit))) ⌝ }
+        → Going bodies (Among roots) b (job .known) (job .rule) (job .row) (job .walk) (past-of job notes) (now (body .entry))
+        (in-words (now (calls .entry)) n (now (answers .entry)) m) (now (marks .entry)) (now (uses .entry)) (now (chosen .entry))
+        (now (rest .entry)) (spot-of spot)
+        → Outcome (r .leave) bodies (Among roots) b notes job (now (body .entry)) (length (now (calls .entry))) (length (now (answers .entry)))
+        (now (chosen .entry)) (length (now (body .entry)) - length (now (rest .entry)))
+        (in-words (now (calls .exit)) (r .calls) (now (answers .exit)) (r .answers)) (now (marks .exit)) (now (uses .exit)) (now (chosen .exit)))
+        ⌝ }
 {
     let at = body.len() - rest.len();
     let a = advance(
@@ -450,12 +476,12 @@ pub fn turn(
         Front::On(after) => Moved {
             calls: a.calls,
             answers: a.answers,
-            next: Next::On(after),
+            leave: Leave::On(after),
         },
         Front::Full => Moved {
             calls: a.calls,
             answers: a.answers,
-            next: Next::Full,
+            leave: Leave::Full,
         },
         Front::Spent => {
             let back = go_back(body, answers, job.known, answer_index, chosen, at);
@@ -465,13 +491,13 @@ pub fn turn(
                 return Moved {
                     calls: a.calls,
                     answers: a.answers,
-                    next: Next::Done,
+                    leave: Leave::Done,
                 };
             }
             Moved {
                 calls: a.calls,
                 answers: a.answers,
-                next: Next::Back(place, there),
+                leave: Leave::Back(place, there),
             }
         }
     }

@@ -11,7 +11,7 @@ use Rattle.steps.specs.Step.{Body, Book}
 use Rattle.steps.specs.Deduction.{_⊢_, queries, inserts, deletes, calls, denies, Deduction, done, move}
 use Rattle.unfolding.specs.States.{move-states, states}
 use Rattle.unfolding.proofs.Soundness.{Executed}
-use Rattle.path.specs.Outcome.{Lent, call-records, answer-records, fault, too-short, refusal-of, count-of, list-after, Answered}
+use Rattle.path.specs.Outcome.{Handed, call-records, answer-records, fault, too-short, path-refusal, state-count, list-after, Answered}
 use Rattle.path.proofs.OutcomeLaws.{path-executed}
 use Rattle.entailment.specs.Execution.{execution}
 use Rattle.entailment.proofs.ExecutionLaws.{execution-first, execution-last}
@@ -28,7 +28,7 @@ states-listed {D = D} (move deletes d) = ap (λ (l : List State). D ∷ l) (stat
 states-listed (move (calls r m e) d) = states-listed d
 states-listed (move (denies h) d) = states-listed d
 
-pub path-entailed : (l : Lent) (x : ℕ) → fault l x ≡ 0 → Witness l x
+pub path-entailed : (l : Handed) (x : ℕ) → fault l x ≡ 0 → Witness l x
 path-entailed l x e = by (path-executed l x e)
   where
     by : Executed (l .rules) (l .goal) (call-records l) (answer-records l) x → Witness l x
@@ -37,13 +37,13 @@ path-entailed l x e = by (path-executed l x e)
         record { path = execution d; begins = execution-first d; ends = execution-last d; entailed = sound d; shown = p .listed ∙ states-listed d }
 
 -- Where `path` refuses nothing, the places of the list that its result counts hold the states of such a path, followed by what the list held.
-pub answered-entailed : (l : Lent) (x : ℕ) (list : List ℕ) {states : ℕ} {list′ : List ℕ} → Answered l x list 0 states list′
+pub answered-entailed : (l : Handed) (x : ℕ) (list : List ℕ) {states : ℕ} {list′ : List ℕ} → Answered l x list 0 states list′
     → (w : Witness l x) × (states ≡ length (listed (w .path))) × (list′ ≡ listed (w .path) ++ drop (length (listed (w .path))) list)
-unfolding refusal-of count-of list-after
+unfolding path-refusal state-count list-after
 answered-entailed l x list {states} {list′} a = by (eqb (fault l x) 0) refl (a .the-refusal)
   where
-    none : eqb (refusal-of l x list) 0 ≡ true
-    none = eq-eqb (refusal-of l x list) 0 (sym (a .the-refusal))
+    none : eqb (path-refusal l x list) 0 ≡ true
+    none = eq-eqb (path-refusal l x list) 0 (sym (a .the-refusal))
 
     by : (b : Bool) → eqb (fault l x) 0 ≡ b → 0 ≡ cond b (cond (too-short l x list) 43 0) (fault l x)
         → (w : Witness l x) × (states ≡ length (listed (w .path))) × (list′ ≡ listed (w .path) ++ drop (length (listed (w .path))) list)

@@ -5,7 +5,7 @@ use mathlib.Core.List.{List, [], _∷_}
 use Rattle.steps.specs.State.{State}
 use Rattle.steps.specs.Run.{body-of-call}
 use Rattle.steps.specs.Words.{book-of, run-of}
-use Rattle.path.specs.Outcome.{Lent, call-records, answer-records, states-of}
+use Rattle.path.specs.Outcome.{Handed, call-records, answer-records, states-of}
 use Rattle.entailment.specs.Path.{Path, ⟨_⟩, _▷_, first, last}
 use Rattle.entailment.specs.Entailment.{Entails}
 
@@ -15,7 +15,7 @@ listed ⟨ D ⟩ = D ∷ []
 listed (D ▷ π) = D ∷ listed π
 
 -- What is shown of record x is a path on which its call is entailed, from the call's state to the record's final state.
-pub record Witness (l : Lent) (x : ℕ) : Type 1 where
+pub record Witness (l : Handed) (x : ℕ) : Type 1 where
   pub path : Path
   pub begins : first path ≡ call-records l .state (answer-records l .call x)
   pub ends : last path ≡ answer-records l .final x

@@ -4,10 +4,10 @@ use mathlib.Core.List.{List, [], _∷_, _++_, map}
 use Prim.Native.Nat.{ℕ}
 use lib.ListN.{length, replicate}
 use Rattle.chars.specs.Bytes.{text}
-use Rattle.sheet.specs.Reader.{readSheet}
+use Rattle.sheet.specs.Reader.{read-sheet}
 use Rattle.writer.specs.declared.Written.{Written}
-use Rattle.writer.specs.Text.{textOf}
-use Rattle.writer.specs.Writer.{said, over, writtenIn, outAfter}
+use Rattle.writer.specs.Text.{text-of}
+use Rattle.writer.specs.Writer.{said, over, written-in, out-after}
 
 -- A sheet, the bytes lent, and what they hold afterwards; each byte lent is 7 before.
 pub record Drill : Type 0 where
@@ -75,11 +75,11 @@ drills =
 
 -- what writing a row's sheet says and leaves
 abbrev done : Drill → Written × List ℕ
-done d = (writtenIn (d .room) (readSheet (d .sheet)), outAfter (replicate (d .room) 7) (readSheet (d .sheet)))
+done d = (written-in (d .room) (read-sheet (d .sheet)), out-after (replicate (d .room) 7) (read-sheet (d .sheet)))
 
 abbrev wanted : Drill → Written × List ℕ
 wanted d = (d .says, d .leaves)
 
 pub drills-hold : map done drills ≡ map wanted drills
-unfolding drills readSheet writtenIn outAfter textOf
+unfolding drills read-sheet written-in out-after text-of
 drills-hold = refl

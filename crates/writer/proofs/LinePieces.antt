@@ -13,7 +13,7 @@ use Rattle.chars.specs.Places.{same}
 use Rattle.chars.specs.Inner.{FieldEnd, BareEnd}
 use Rattle.chars.proofs.Fields.{fields-first}
 use Rattle.chars.proofs.Names.{same-length}
-use Rattle.writer.specs.Inner.{plainPiece, plainBytes, heldPiece, heldNext, heldBytes, startBytes, linePiece, lineBytes}
+use Rattle.writer.specs.Inner.{plain-piece, plain-bytes, held-piece, held-next, held-bytes, start-bytes, line-piece, line-bytes}
 
 -- the line's first field, and what is behind its word
 module _ (s : List ℕ) (a e end q : ℕ) (B : BareEnd s a e end) (F : FieldEnd s a end q) where
@@ -31,87 +31,87 @@ module _ (s : List ℕ) (a e end q : ℕ) (B : BareEnd s a e end) (F : FieldEnd 
       ap (drop (length word)) (B .cut) ∙ drop-drop (length word) a (take end s) ∙ ap (λ (n : ℕ). drop n (take end s)) z
 
 module _ (l : List ℕ) where
-  pub plain-comment : begins HASH l ≡ true → plainPiece l ≡ []
-  unfolding plainPiece
+  pub plain-comment : begins HASH l ≡ true → plain-piece l ≡ []
+  unfolding plain-piece
   plain-comment h = rw h refl
 
-  pub plain-record : begins HASH l ≡ false → plainPiece l ≡ bare l ++ (LF ∷ [])
-  unfolding plainPiece
+  pub plain-record : begins HASH l ≡ false → plain-piece l ≡ bare l ++ (LF ∷ [])
+  unfolding plain-piece
   plain-record h = rw h refl
 
-  pub plain-more : (ls : List (List ℕ)) → plainBytes (l ∷ ls) ≡ plainPiece l ++ plainBytes ls
-  unfolding plainBytes
+  pub plain-more : (ls : List (List ℕ)) → plain-bytes (l ∷ ls) ≡ plain-piece l ++ plain-bytes ls
+  unfolding plain-bytes
   plain-more ls = refl
 
-pub plain-none : plainBytes [] ≡ []
-unfolding plainBytes
+pub plain-none : plain-bytes [] ≡ []
+unfolding plain-bytes
 plain-none = refl
 
 module _ (k : ℕ) (st : State) (l : List ℕ) where
   abbrev first : List ℕ
   first = getD (fields (bare l)) 0 []
 
-  pub held-other : same first (text "fluent") ≡ false → heldPiece k st l ≡ []
-  unfolding heldPiece
+  pub held-other : same first (text "fluent") ≡ false → held-piece k st l ≡ []
+  unfolding held-piece
   held-other h = rw h refl
 
-  pub held-not : holds st k ≡ false → heldPiece k st l ≡ []
-  unfolding heldPiece
+  pub held-not : holds st k ≡ false → held-piece k st l ≡ []
+  unfolding held-piece
   held-not h = ap (λ (u : Bool). cond (same first (text "fluent")) (cond u (drop 6 (bare l)) []) []) h ∙ by (same first (text "fluent"))
     where
       by : (t : Bool) → cond {A = List ℕ} t [] [] ≡ []
       by true = refl
       by false = refl
 
-  pub held-here : same first (text "fluent") ≡ true → holds st k ≡ true → heldPiece k st l ≡ drop 6 (bare l)
-  unfolding heldPiece
+  pub held-here : same first (text "fluent") ≡ true → holds st k ≡ true → held-piece k st l ≡ drop 6 (bare l)
+  unfolding held-piece
   held-here h u = ap (λ (t : Bool). cond t (cond (holds st k) (drop 6 (bare l)) []) []) h ∙ ap (λ (t : Bool). cond t (drop 6 (bare l)) []) u
 
-  pub next-other : same first (text "fluent") ≡ false → heldNext k l ≡ k
-  unfolding heldNext
+  pub next-other : same first (text "fluent") ≡ false → held-next k l ≡ k
+  unfolding held-next
   next-other h = rw h refl
 
-  pub next-fluent : same first (text "fluent") ≡ true → heldNext k l ≡ suc k
-  unfolding heldNext
+  pub next-fluent : same first (text "fluent") ≡ true → held-next k l ≡ suc k
+  unfolding held-next
   next-fluent h = rw h refl
 
-  pub held-more : (ls : List (List ℕ)) → heldBytes k st (l ∷ ls) ≡ heldPiece k st l ++ heldBytes (heldNext k l) st ls
-  unfolding heldBytes
+  pub held-more : (ls : List (List ℕ)) → held-bytes k st (l ∷ ls) ≡ held-piece k st l ++ held-bytes (held-next k l) st ls
+  unfolding held-bytes
   held-more ls = refl
 
-pub held-none : (k : ℕ) (st : State) → heldBytes k st [] ≡ []
-unfolding heldBytes
+pub held-none : (k : ℕ) (st : State) → held-bytes k st [] ≡ []
+unfolding held-bytes
 held-none k st = refl
 
-pub start-bytes : (st : State) (all : List (List ℕ)) → startBytes st all ≡ (text "start" ++ heldBytes 0 st all) ++ (LF ∷ [])
-unfolding startBytes
-start-bytes st all = refl
+pub start-bytes-are : (st : State) (all : List (List ℕ)) → start-bytes st all ≡ (text "start" ++ held-bytes 0 st all) ++ (LF ∷ [])
+unfolding start-bytes
+start-bytes-are st all = refl
 
-pub start-size : (st : State) (all : List (List ℕ)) → length (startBytes st all) ≡ 6 + length (heldBytes 0 st all)
+pub start-size : (st : State) (all : List (List ℕ)) → length (start-bytes st all) ≡ 6 + length (held-bytes 0 st all)
 start-size st all =
-    let a = ap length (start-bytes st all) in
-    let c = length-append (text "start" ++ heldBytes 0 st all) (LF ∷ []) in
-    let d = length-append (text "start") (heldBytes 0 st all) in
+    let a = ap length (start-bytes-are st all) in
+    let c = length-append (text "start" ++ held-bytes 0 st all) (LF ∷ []) in
+    let d = length-append (text "start") (held-bytes 0 st all) in
     omega arith
 
 module _ (st : State) (all : List (List ℕ)) (l : List ℕ) where
-  pub line-comment : begins HASH l ≡ true → linePiece st all l ≡ []
-  unfolding linePiece
+  pub line-comment : begins HASH l ≡ true → line-piece st all l ≡ []
+  unfolding line-piece
   line-comment h = rw h refl
 
   module _ (h : begins HASH l ≡ false) where
-    pub line-start : same (getD (fields (bare l)) 0 []) (text "start") ≡ true → linePiece st all l ≡ startBytes st all
-    unfolding linePiece
+    pub line-start : same (getD (fields (bare l)) 0 []) (text "start") ≡ true → line-piece st all l ≡ start-bytes st all
+    unfolding line-piece
     line-start u = rw (h, u) refl
 
-    pub line-other : same (getD (fields (bare l)) 0 []) (text "start") ≡ false → linePiece st all l ≡ bare l ++ (LF ∷ [])
-    unfolding linePiece
+    pub line-other : same (getD (fields (bare l)) 0 []) (text "start") ≡ false → line-piece st all l ≡ bare l ++ (LF ∷ [])
+    unfolding line-piece
     line-other u = rw (h, u) refl
 
-  pub line-more : (ls : List (List ℕ)) → lineBytes st all (l ∷ ls) ≡ linePiece st all l ++ lineBytes st all ls
-  unfolding lineBytes
+  pub line-more : (ls : List (List ℕ)) → line-bytes st all (l ∷ ls) ≡ line-piece st all l ++ line-bytes st all ls
+  unfolding line-bytes
   line-more ls = refl
 
-pub line-none : (st : State) (all : List (List ℕ)) → lineBytes st all [] ≡ []
-unfolding lineBytes
+pub line-none : (st : State) (all : List (List ℕ)) → line-bytes st all [] ≡ []
+unfolding line-bytes
 line-none st all = refl

@@ -6,14 +6,14 @@ use mathlib.Core.Bool.{Bool, true, false}
 use mathlib.Core.List.{List, [], _∷_, _++_, append-assoc, append-nil}
 use lib.ListN.{length, getD, length-append}
 use borrow.Author.Tests.{le-ltb, ltb-false, eq-eqb}
-use Rattle.chars.specs.Bytes.{isName}
-use Rattle.chars.specs.Places.{same, place, placeAfter, among}
+use Rattle.chars.specs.Bytes.{is-name}
+use Rattle.chars.specs.Places.{same, place, place-after, among}
 use Rattle.writer.proofs.StepsBack.{Named}
 
 -- the names behind those before them: each is a name, and none stands before it
 pub data Adds : List (List ℕ) → List (List ℕ) → Type 0 where
   none : {before : List (List ℕ)} → Adds before []
-  more : {before : List (List ℕ)} {x : List ℕ} {xs : List (List ℕ)} → isName x ≡ true → among x before ≡ false → Adds (before ++ (x ∷ [])) xs → Adds before (x ∷ xs)
+  more : {before : List (List ℕ)} {x : List ℕ} {xs : List (List ℕ)} → is-name x ≡ true → among x before ≡ false → Adds (before ++ (x ∷ [])) xs → Adds before (x ∷ xs)
 
 pub same-self : (x : List ℕ) → same x x ≡ true
 unfolding same
@@ -26,14 +26,14 @@ unfolding place
 place-behind x [] q h = omega arith
 place-behind x (g ∷ gs) q h = by (same x g) refl (λ k. place-behind x gs q k)
   where
-    by : (t : Bool) → same x g ≡ t → (among x gs ≡ false → place x (gs ++ q) ≡ length gs + place x q) → placeAfter (same x g) (place x (gs ++ q)) ≡ suc (length gs) + place x q
+    by : (t : Bool) → same x g ≡ t → (among x gs ≡ false → place x (gs ++ q) ≡ length gs + place x q) → place-after (same x g) (place x (gs ++ q)) ≡ suc (length gs) + place x q
     by true e later =
-        let l = ltb-false (placeAfter (same x g) (place x gs)) (suc (length gs)) h in
-        let z : placeAfter (same x g) (place x gs) ≡ 0 = rw e refl in
+        let l = ltb-false (place-after (same x g) (place x gs)) (suc (length gs)) h in
+        let z : place-after (same x g) (place x gs) ≡ 0 = rw e refl in
         absurd (omega arith)
     by false e later =
-        let l = ltb-false (placeAfter (same x g) (place x gs)) (suc (length gs)) h in
-        let z : placeAfter (same x g) (place x gs) ≡ suc (place x gs) = rw e refl in
+        let l = ltb-false (place-after (same x g) (place x gs)) (suc (length gs)) h in
+        let z : place-after (same x g) (place x gs) ≡ suc (place x gs) = rw e refl in
         let i = later (le-ltb (place x gs) (length gs) (omega arith)) in
         rw e (omega arith)
 
@@ -52,12 +52,12 @@ later-only x (g ∷ gs) q h = later-only x gs q (by (same x g) refl)
   where
     by : (t : Bool) → same x g ≡ t → among x (gs ++ q) ≡ false
     by true e =
-        let l = ltb-false (placeAfter (same x g) (place x (gs ++ q))) (suc (length (gs ++ q))) h in
-        let z : placeAfter (same x g) (place x (gs ++ q)) ≡ 0 = rw e refl in
+        let l = ltb-false (place-after (same x g) (place x (gs ++ q))) (suc (length (gs ++ q))) h in
+        let z : place-after (same x g) (place x (gs ++ q)) ≡ 0 = rw e refl in
         absurd (omega arith)
     by false e =
-        let l = ltb-false (placeAfter (same x g) (place x (gs ++ q))) (suc (length (gs ++ q))) h in
-        let z : placeAfter (same x g) (place x (gs ++ q)) ≡ suc (place x (gs ++ q)) = rw e refl in
+        let l = ltb-false (place-after (same x g) (place x (gs ++ q))) (suc (length (gs ++ q))) h in
+        let z : place-after (same x g) (place x (gs ++ q)) ≡ suc (place x (gs ++ q)) = rw e refl in
         not-among x (gs ++ q) (omega arith)
 
 -- fewer names before
@@ -75,12 +75,12 @@ second-part b [] q a = subst (λ (l : List (List ℕ)). Adds l q) (sym (append-n
 second-part b (x ∷ xs) q (more n a r) = subst (λ (l : List (List ℕ)). Adds l q) (append-assoc b (x ∷ []) xs) (second-part (b ++ (x ∷ [])) xs q r)
 
 -- one name more
-pub adds-snoc : (b xs : List (List ℕ)) (x : List ℕ) → Adds b xs → isName x ≡ true → among x (b ++ xs) ≡ false → Adds b (xs ++ (x ∷ []))
+pub adds-snoc : (b xs : List (List ℕ)) (x : List ℕ) → Adds b xs → is-name x ≡ true → among x (b ++ xs) ≡ false → Adds b (xs ++ (x ∷ []))
 adds-snoc b [] x none n a = more n (subst (λ (l : List (List ℕ)). among x l ≡ false) (append-nil b) a) none
 adds-snoc b (y ∷ ys) x (more m f r) n a = more m f (adds-snoc (b ++ (y ∷ [])) ys x r n (subst (λ (l : List (List ℕ)). among x l ≡ false) (sym (append-assoc b (y ∷ []) ys)) a))
 
 -- each is a name, and has its own place
-pub adds-name : (b xs : List (List ℕ)) → Adds b xs → (k : ℕ) → k < length xs → isName (getD xs k []) ≡ true
+pub adds-name : (b xs : List (List ℕ)) → Adds b xs → (k : ℕ) → k < length xs → is-name (getD xs k []) ≡ true
 adds-name b [] none k l = absurd (omega arith)
 adds-name b (x ∷ xs) (more n a r) zero l = n
 adds-name b (x ∷ xs) (more n a r) (suc k) l = adds-name (b ++ (x ∷ [])) xs r k (omega arith)

@@ -1,6 +1,4 @@
--- Books that a text can say: valid, each name a name and none twice, with a start and a goal. Assumes nothing.
-use mathlib.Core.Path.{_≡_}
-use mathlib.Core.Bool.{true}
+-- Books that a text can say: valid, each name a name and none twice. Assumes nothing.
 use mathlib.Core.List.{[], _++_}
 use Rattle.sheet.specs.Book.{Book}
 use Rattle.sheet.proofs.Valid.{Valid}
@@ -10,8 +8,6 @@ use Rattle.writer.proofs.StepsBack.{Named}
 pub record Proper (b : Book) : Type 0 where
   pub valid : Valid b
   pub named : Adds [] (b .names .fluents ++ b .names .actions)
-  pub started : b .started ≡ true
-  pub ended : b .stage ≡ 5
 
 pub fluents-named : (b : Book) → Proper b → Named (b .names .fluents)
 fluents-named b p = adds-named [] (b .names .fluents) (first-part [] (b .names .fluents) (b .names .actions) (p .named))

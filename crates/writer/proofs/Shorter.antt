@@ -7,32 +7,33 @@ use mathlib.Core.List.{List, [], _∷_}
 use lib.ListN.{length}
 use lib.Dec.{eqb, leb}
 use borrow.Author.Tests.{eqb-true, leb-true, ne-eqb}
+use Rattle.refusals.specs.Refusals as refusals
 use Rattle.chars.specs.Bytes.{LF, CR, HASH, begins, clean}
-use Rattle.chars.specs.Pieces.{pieceThen, pieces, lines, bare}
+use Rattle.chars.specs.Pieces.{piece-then, pieces, lines, bare}
 use Rattle.sheet.specs.Verdict.{Verdict, refuse, accept, _>>=_, require}
 use Rattle.sheet.specs.Book.{Book}
-use Rattle.sheet.specs.Reader.{readSheet, wholeSheet, written, ended}
+use Rattle.sheet.specs.Reader.{read-sheet, whole-sheet, written, ended}
 use Rattle.sheet.proofs.Verdicts.{required, held}
-use Rattle.sheet.proofs.AcceptedLines.{recordLines, not-written}
+use Rattle.sheet.proofs.AcceptedLines.{record-lines, not-written}
 use Rattle.sheet.proofs.Results.{sheet-fault}
-use Rattle.writer.specs.Text.{textOf}
-use Rattle.writer.proofs.Solid.{textOfLines, size-more}
+use Rattle.writer.specs.Text.{text-of}
+use Rattle.writer.proofs.Solid.{text-of-lines, size-more}
 use Rattle.writer.proofs.Backward.{text-length}
 
 -- ---- an accepted sheet is ended, and has at most 65,536 bytes
-pub sheet-whole : (s : List ℕ) (b : Book) → readSheet s ≡ written b → wholeSheet s ≡ accept tt
-sheet-whole s b e = by (wholeSheet s) refl
+pub sheet-whole : (s : List ℕ) (b : Book) → read-sheet s ≡ written b → whole-sheet s ≡ accept tt
+sheet-whole s b e = by (whole-sheet s) refl
   where
-    by : (v : Verdict (Unit {0})) → wholeSheet s ≡ v → wholeSheet s ≡ accept tt
+    by : (v : Verdict (Unit {0})) → whole-sheet s ≡ v → whole-sheet s ≡ accept tt
     by (refuse k) q = absurd (not-written k 0 b (sym (sheet-fault s k q) ∙ e))
     by (accept u) q = q
 
-pub whole-told : (s : List ℕ) → wholeSheet s ≡ accept tt → (length s ≤ 65536) × (ended s ≡ true)
-unfolding wholeSheet
+pub whole-told : (s : List ℕ) → whole-sheet s ≡ accept tt → (length s ≤ 65536) × (ended s ≡ true)
+unfolding whole-sheet
 whole-told s e =
-    let (l, r) = required (leb (length s) 65536) 10 (λ _. require (clean s) 11 >>= (λ _. require (ended s) 12)) tt e in
-    let (c, t) = required (clean s) 11 (λ _. require (ended s) 12) tt r in
-    (leb-true (length s) 65536 l, held (ended s) 12 t)
+    let (l, r) = required (leb (length s) 65536) refusals.too-long (λ _. require (clean s) refusals.bad-byte >>= (λ _. require (ended s) refusals.not-ended)) tt e in
+    let (c, t) = required (clean s) refusals.bad-byte (λ _. require (ended s) refusals.not-ended) tt r in
+    (leb-true (length s) 65536 l, held (ended s) refusals.not-ended t)
 
 -- ---- an ended sheet from its lines
 ended-tail : (x z : ℕ) (zs : List ℕ) → ended (x ∷ z ∷ zs) ≡ true → ended (z ∷ zs) ≡ true
@@ -46,13 +47,13 @@ ended-one : (x : ℕ) → ended (x ∷ []) ≡ true → x ≡ LF
 unfolding ended
 ended-one x h = eqb-true x LF h
 
-pub lines-whole : (s : List ℕ) → ended s ≡ true → textOfLines (lines s) ≡ s
+pub lines-whole : (s : List ℕ) → ended s ≡ true → text-of-lines (lines s) ≡ s
 unfolding lines pieces
 lines-whole [] h = refl
 lines-whole (x ∷ []) h = rw (ended-one x h) refl
 lines-whole (x ∷ z ∷ zs) h = by (eqb x LF) refl (pieces [] LF (z ∷ zs)) (lines-whole (z ∷ zs) (ended-tail x z zs h))
   where
-    by : (t : Bool) → eqb x LF ≡ t → (ps : List (List ℕ)) → textOfLines ps ≡ z ∷ zs → textOfLines (pieceThen t x ps) ≡ x ∷ z ∷ zs
+    by : (t : Bool) → eqb x LF ≡ t → (ps : List (List ℕ)) → text-of-lines ps ≡ z ∷ zs → text-of-lines (piece-then t x ps) ≡ x ∷ z ∷ zs
     by true e ps q = ap (λ (l : List ℕ). LF ∷ l) q ∙ ap (λ (c : ℕ). c ∷ z ∷ zs) (sym (eqb-true x LF e))
     by false e [] q = let i = ap length q in absurd (omega arith)
     by false e (p ∷ ps) q = ap (λ (l : List ℕ). x ∷ l) q
@@ -68,19 +69,19 @@ bare-length (x ∷ []) = by (eqb x CR)
     by false = omega arith
 bare-length (x ∷ z ∷ zs) = let h = bare-length (z ∷ zs) in omega arith
 
-pub records-length : (ls : List (List ℕ)) → length (textOfLines (recordLines ls)) ≤ length (textOfLines ls)
+pub records-length : (ls : List (List ℕ)) → length (text-of-lines (record-lines ls)) ≤ length (text-of-lines ls)
 records-length [] = omega arith
 records-length (l ∷ ls) = by (begins HASH l) (records-length ls)
   where
-    by : (t : Bool) → length (textOfLines (recordLines ls)) ≤ length (textOfLines ls) → length (textOfLines (cond t (recordLines ls) (bare l ∷ recordLines ls))) ≤ length (textOfLines (l ∷ ls))
+    by : (t : Bool) → length (text-of-lines (record-lines ls)) ≤ length (text-of-lines ls) → length (text-of-lines (cond t (record-lines ls) (bare l ∷ record-lines ls))) ≤ length (text-of-lines (l ∷ ls))
     by true h = let a = size-more l ls in omega arith
     by false h =
         let a = size-more l ls in
-        let c = size-more (bare l) (recordLines ls) in
+        let c = size-more (bare l) (record-lines ls) in
         let d = bare-length l in
         omega arith
 
-pub text-shorter : (s : List ℕ) (b : Book) → readSheet s ≡ written b → length (textOf b) ≤ length s
+pub text-shorter : (s : List ℕ) (b : Book) → read-sheet s ≡ written b → length (text-of b) ≤ length s
 text-shorter s b e =
     let (l, t) = whole-told s (sheet-whole s b e) in
     let a = text-length s b e in

@@ -9,7 +9,7 @@ use lib.Seq.{getD-append-seam}
 use lib.Dec.{eqb, leb}
 use borrow.Author.Tests.{ne-eqb, not-true, le-leb, leb-true, eqb-true}
 use Rattle.steps.proofs.EachBelow.{both}
-use Rattle.chars.specs.Bytes.{TAB, LF, CR, HASH, all, begins, sheetByte, mayStand, cleanIn, clean, lower, nameByte, isName}
+use Rattle.chars.specs.Bytes.{TAB, LF, CR, HASH, all, begins, sheet-byte, may-stand, clean-in, clean, lower, name-byte, is-name}
 use Rattle.chars.specs.Pieces.{lines, bare, pieces}
 use Rattle.sheet.specs.Book.{joined}
 use Rattle.sheet.specs.Reader.{ended}
@@ -50,8 +50,8 @@ in-range x h k = and-true (leb 33 x) (leb x 126) (le-leb 33 x h) (le-leb x 126 k
 pub solid-free : (b : ℕ) → b < 33 → (l : List ℕ) → Solid l → Free b l
 solid-free b h = all-weaker solid (λ x. not (eqb x b)) (λ x s. let (i, j) = solid-range x s in ap not (ne-eqb x b (λ e. omega arith)))
 
-solid-sheet : (x : ℕ) → solid x ≡ true → sheetByte x ≡ true
-unfolding sheetByte solid
+solid-sheet : (x : ℕ) → solid x ≡ true → sheet-byte x ≡ true
+unfolding sheet-byte solid
 solid-sheet x h = by (eqb x TAB) (eqb x LF)
   where
     by : (t u : Bool) → ((t || u) || (leb 33 x && leb x 126)) ≡ true
@@ -59,12 +59,12 @@ solid-sheet x h = by (eqb x TAB) (eqb x LF)
     by false true = refl
     by false false = h
 
-sheet-tab : sheetByte TAB ≡ true
-unfolding sheetByte
+sheet-tab : sheet-byte TAB ≡ true
+unfolding sheet-byte
 sheet-tab = refl
 
-sheet-lf : sheetByte LF ≡ true
-unfolding sheetByte
+sheet-lf : sheet-byte LF ≡ true
+unfolding sheet-byte
 sheet-lf = refl
 
 -- ---- names
@@ -72,8 +72,8 @@ lower-range : (x : ℕ) → lower x ≡ true → (97 ≤ x) × (x ≤ 122)
 unfolding lower
 lower-range x h = let (i, j) = both (leb 97 x) (leb x 122) h in (leb-true 97 x i, leb-true x 122 j)
 
-name-byte-solid : (x : ℕ) → nameByte x ≡ true → solid x ≡ true
-unfolding nameByte
+name-byte-solid : (x : ℕ) → name-byte x ≡ true → solid x ≡ true
+unfolding name-byte
 name-byte-solid x h = by (lower x) refl (leb 48 x && leb x 57) refl (eqb x 95) refl h
   where
     by : (t : Bool) → lower x ≡ t → (u : Bool) → (leb 48 x && leb x 57) ≡ u → (v : Bool) → eqb x 95 ≡ v → ((t || u) || v) ≡ true → solid x ≡ true
@@ -81,14 +81,14 @@ name-byte-solid x h = by (lower x) refl (leb 48 x && leb x 57) refl (eqb x 95) r
     by false e true f v g h = let (i, j) = both (leb 48 x) (leb x 57) f in in-range x (omega (arith, leb-true 48 x i)) (omega (arith, leb-true x 57 j))
     by false e false f v g h = let k = eqb-true x 95 (g ∙ h) in in-range x (omega arith) (omega arith)
 
-pub name-solid : (f : List ℕ) → isName f ≡ true → Solid f
-unfolding isName
+pub name-solid : (f : List ℕ) → is-name f ≡ true → Solid f
+unfolding is-name
 name-solid [] h = refl
 name-solid (c ∷ cs) h =
-    let (i, j) = both (lower c) (leb (length cs) 15 && all nameByte cs) h in
-    let (k, l) = both (leb (length cs) 15) (all nameByte cs) j in
+    let (i, j) = both (lower c) (leb (length cs) 15 && all name-byte cs) h in
+    let (k, l) = both (leb (length cs) 15) (all name-byte cs) j in
     let (m, n) = lower-range c i in
-    and-true (solid c) (all solid cs) (in-range c (omega arith) (omega arith)) (all-weaker nameByte solid name-byte-solid cs l)
+    and-true (solid c) (all solid cs) (in-range c (omega arith) (omega arith)) (all-weaker name-byte solid name-byte-solid cs l)
 
 -- ---- a line: a solid word and solid fields behind tabs
 pub all-free : (b : ℕ) → b < 33 → (fs : List (List ℕ)) → AllSolid fs → AllFree b fs
@@ -100,35 +100,35 @@ tabbed-all p t w [] none-solid = refl
 tabbed-all p t w (f ∷ fs) (more-solid s r) = and-true (p TAB) (all p (f ++ tabbed fs)) t (all-append p f (tabbed fs) (all-weaker solid p w f s) (tabbed-all p t w fs r))
 
 -- the line of a word and its fields
-abbrev pub lineBytes : List ℕ → List (List ℕ) → List ℕ
-lineBytes word fs = word ++ tabbed fs
+abbrev pub line-bytes : List ℕ → List (List ℕ) → List ℕ
+line-bytes word fs = word ++ tabbed fs
 
 -- each byte of a line is a byte of a sheet, and none is LF or CR
 pub data Good (l : List ℕ) : Type 0 where
-  good : all sheetByte l ≡ true → Free LF l → Free CR l → Good l
+  good : all sheet-byte l ≡ true → Free LF l → Free CR l → Good l
 
-pub line-good : (word : List ℕ) (fs : List (List ℕ)) → Solid word → AllSolid fs → Good (lineBytes word fs)
+pub line-good : (word : List ℕ) (fs : List (List ℕ)) → Solid word → AllSolid fs → Good (line-bytes word fs)
 line-good word fs s t =
-    good (all-append sheetByte word (tabbed fs) (all-weaker solid sheetByte solid-sheet word s) (tabbed-all sheetByte (tab-sheet) solid-sheet fs t))
+    good (all-append sheet-byte word (tabbed fs) (all-weaker solid sheet-byte solid-sheet word s) (tabbed-all sheet-byte (tab-sheet) solid-sheet fs t))
     (whole LF (omega arith) refl) (whole CR (omega arith) refl)
   where
-    tab-sheet : sheetByte TAB ≡ true
+    tab-sheet : sheet-byte TAB ≡ true
     tab-sheet = sheet-tab
 
-    whole : (b : ℕ) → b < 33 → not (eqb TAB b) ≡ true → Free b (lineBytes word fs)
+    whole : (b : ℕ) → b < 33 → not (eqb TAB b) ≡ true → Free b (line-bytes word fs)
     whole b h n = all-append (λ x. not (eqb x b)) word (tabbed fs) (solid-free b h word s) (tabbed-all (λ x. not (eqb x b)) n (λ x s. let (i, j) = solid-range x s in ap not (ne-eqb x b (λ e. omega arith))) fs t)
 
 -- ---- a text of lines, each ended by LF
-abbrev pub withLF : List ℕ → List ℕ
-withLF l = l ++ (LF ∷ [])
+abbrev pub with-LF : List ℕ → List ℕ
+with-LF l = l ++ (LF ∷ [])
 
-abbrev pub textOfLines : List (List ℕ) → List ℕ
-textOfLines ls = joined (map withLF ls)
+abbrev pub text-of-lines : List (List ℕ) → List ℕ
+text-of-lines ls = joined (map with-LF ls)
 
 -- one line more
-pub size-more : (l : List ℕ) (ls : List (List ℕ)) → length (textOfLines (l ∷ ls)) ≡ suc (length l) + length (textOfLines ls)
+pub size-more : (l : List ℕ) (ls : List (List ℕ)) → length (text-of-lines (l ∷ ls)) ≡ suc (length l) + length (text-of-lines ls)
 size-more l ls =
-    let a = length-append (withLF l) (textOfLines ls) in
+    let a = length-append (with-LF l) (text-of-lines ls) in
     let c = length-append l (LF ∷ []) in
     omega arith
 
@@ -144,10 +144,10 @@ lines-none : lines [] ≡ []
 unfolding lines pieces
 lines-none = refl
 
-pub lines-text : (ls : List (List ℕ)) → AllGood ls → lines (textOfLines ls) ≡ ls
+pub lines-text : (ls : List (List ℕ)) → AllGood ls → lines (text-of-lines ls) ≡ ls
 lines-text [] none-good = lines-none
 lines-text (l ∷ ls) (more-good (good a f c) gs) =
-    ap lines (append-assoc l (LF ∷ []) (textOfLines ls)) ∙ lines-line l (textOfLines ls) f ∙ ap (λ (ms : List (List ℕ)). l ∷ ms) (lines-text ls gs)
+    ap lines (append-assoc l (LF ∷ []) (text-of-lines ls)) ∙ lines-line l (text-of-lines ls) f ∙ ap (λ (ms : List (List ℕ)). l ∷ ms) (lines-text ls gs)
 
 -- a line without CR is bare
 pub bare-free : (l : List ℕ) → Free CR l → bare l ≡ l
@@ -159,33 +159,33 @@ bare-free (x ∷ y ∷ ys) h =
     ap (λ (l : List ℕ). x ∷ l) (bare-free (y ∷ ys) t)
 
 -- bytes of a sheet may stand anywhere
-clean-in : (c : Bool) (s : List ℕ) → all sheetByte s ≡ true → cleanIn c s ≡ true
-unfolding cleanIn mayStand
-clean-in c [] h = refl
-clean-in c (x ∷ xs) h =
-    let (i, j) = both (sheetByte x) (all sheetByte xs) h in
-    rw i (clean-in (cond (eqb x LF) (begins HASH xs) c) xs j)
+clean-bytes : (c : Bool) (s : List ℕ) → all sheet-byte s ≡ true → clean-in c s ≡ true
+unfolding clean-in may-stand
+clean-bytes c [] h = refl
+clean-bytes c (x ∷ xs) h =
+    let (i, j) = both (sheet-byte x) (all sheet-byte xs) h in
+    rw i (clean-bytes (cond (eqb x LF) (begins HASH xs) c) xs j)
 
-pub text-clean : (ls : List (List ℕ)) → AllGood ls → clean (textOfLines ls) ≡ true
+pub text-clean : (ls : List (List ℕ)) → AllGood ls → clean (text-of-lines ls) ≡ true
 unfolding clean
-text-clean ls g = clean-in (begins HASH (textOfLines ls)) (textOfLines ls) (sheets ls g)
+text-clean ls g = clean-bytes (begins HASH (text-of-lines ls)) (text-of-lines ls) (sheets ls g)
   where
-    sheets : (ls : List (List ℕ)) → AllGood ls → all sheetByte (textOfLines ls) ≡ true
+    sheets : (ls : List (List ℕ)) → AllGood ls → all sheet-byte (text-of-lines ls) ≡ true
     sheets [] none-good = refl
-    sheets (l ∷ ls) (more-good (good a f c) gs) = all-append sheetByte (withLF l) (textOfLines ls) (all-append sheetByte l (LF ∷ []) a (and-true (sheetByte LF) true sheet-lf refl)) (sheets ls gs)
+    sheets (l ∷ ls) (more-good (good a f c) gs) = all-append sheet-byte (with-LF l) (text-of-lines ls) (all-append sheet-byte l (LF ∷ []) a (and-true (sheet-byte LF) true sheet-lf refl)) (sheets ls gs)
 
 -- the last byte of a text of lines is LF
 data Closed (s : List ℕ) : Type 0 where
   blank : s ≡ [] → Closed s
   closed : (p : List ℕ) → s ≡ p ++ (LF ∷ []) → Closed s
 
-text-closed : (ls : List (List ℕ)) → Closed (textOfLines ls)
+text-closed : (ls : List (List ℕ)) → Closed (text-of-lines ls)
 text-closed [] = blank refl
 text-closed (l ∷ ls) = by (text-closed ls)
   where
-    by : Closed (textOfLines ls) → Closed (withLF l ++ textOfLines ls)
-    by (blank e) = closed l (ap (λ (t : List ℕ). withLF l ++ t) e ∙ append-nil (withLF l))
-    by (closed p e) = closed (withLF l ++ p) (ap (λ (t : List ℕ). withLF l ++ t) e ∙ sym (append-assoc (withLF l) p (LF ∷ [])))
+    by : Closed (text-of-lines ls) → Closed (with-LF l ++ text-of-lines ls)
+    by (blank e) = closed l (ap (λ (t : List ℕ). with-LF l ++ t) e ∙ append-nil (with-LF l))
+    by (closed p e) = closed (with-LF l ++ p) (ap (λ (t : List ℕ). with-LF l ++ t) e ∙ sym (append-assoc (with-LF l) p (LF ∷ [])))
 
 closed-ended : (s : List ℕ) → Closed s → ended s ≡ true
 unfolding ended
@@ -199,5 +199,5 @@ closed-ended s (closed p e) =
     or-true true = refl
     or-true false = refl
 
-pub text-ended : (ls : List (List ℕ)) → ended (textOfLines ls) ≡ true
-text-ended ls = closed-ended (textOfLines ls) (text-closed ls)
+pub text-ended : (ls : List (List ℕ)) → ended (text-of-lines ls) ≡ true
+text-ended ls = closed-ended (text-of-lines ls) (text-closed ls)

@@ -9,11 +9,11 @@ use lib.ListN.{length, getD, length-append}
 use borrow.Author.Tests.{ltb-true, not-true, eq-eqb, ne-eqb}
 use Rattle.steps.specs.State.{holds, added}
 use Rattle.steps.proofs.StateLaws.{holds-added}
-use Rattle.chars.specs.Bytes.{isName}
+use Rattle.chars.specs.Bytes.{is-name}
 use Rattle.chars.specs.Places.{place, among}
 use Rattle.sheet.specs.Verdict.{accept}
 use Rattle.sheet.specs.Book.{Symbols}
-use Rattle.sheet.specs.Field.{startName, startNames}
+use Rattle.sheet.specs.Field.{start-name, start-names}
 use Rattle.sheet.proofs.Verdicts.{followed, same-value}
 use Rattle.sheet.proofs.AcceptedLines.{judged-accepted}
 use Rattle.writer.specs.Text.{tabbed, holding}
@@ -59,11 +59,11 @@ touched j (suc i) k s (n ∷ ns) q l h =
     by false r = r
 
 module _ (y : Symbols) where
-  one : (f : List ℕ) (s next : ℕ) → startName y s f ≡ accept next → weight (holding 0 next (y .fluents)) ≡ weight (holding 0 s (y .fluents)) + suc (length f)
-  unfolding startName
+  one : (f : List ℕ) (s next : ℕ) → start-name y s f ≡ accept next → weight (holding 0 next (y .fluents)) ≡ weight (holding 0 s (y .fluents)) + suc (length f)
+  unfolding start-name
   one f s next e =
       let k = place f (y .fluents) in
-      let j = judged-accepted (isName f) (not (among f (y .fluents) && holds s k)) (among f (y .fluents)) (added s k) next e in
+      let j = judged-accepted (is-name f) (not (among f (y .fluents) && holds s k)) (among f (y .fluents)) (added s k) next e in
       let l = ltb-true k (length (y .fluents)) (j .is-defined) in
       let h : holds s k ≡ false = fresh (among f (y .fluents)) (holds s k) (j .is-defined) (j .is-fresh) in
       ap (λ (x : ℕ). weight (holding 0 x (y .fluents))) (sym (j .value))
@@ -73,11 +73,11 @@ module _ (y : Symbols) where
       fresh : (t u : Bool) → t ≡ true → not (t && u) ≡ true → u ≡ false
       fresh t u e n = not-true u (rw e at n)
 
-  pub start-weight : (fs : List (List ℕ)) (s last : ℕ) → startNames y s fs ≡ accept last → weight (holding 0 last (y .fluents)) ≡ weight (holding 0 s (y .fluents)) + weight fs
-  unfolding startNames
+  pub start-weight : (fs : List (List ℕ)) (s last : ℕ) → start-names y s fs ≡ accept last → weight (holding 0 last (y .fluents)) ≡ weight (holding 0 s (y .fluents)) + weight fs
+  unfolding start-names
   start-weight [] s last e = let q = ap (λ (x : ℕ). weight (holding 0 x (y .fluents))) (sym (same-value e)) in omega arith
   start-weight (f ∷ fs) s last e =
-      let (next, u, r) = followed (startName y s f) (λ next. startNames y next fs) last e in
+      let (next, u, r) = followed (start-name y s f) (λ next. start-names y next fs) last e in
       let a = one f s next u in
       let b = start-weight fs next last r in
       let w = weight-more f fs in

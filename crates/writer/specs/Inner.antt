@@ -19,47 +19,47 @@ abbrev pub Puts : List ℕ → ℕ → List ℕ → List ℕ → ℕ → Type 0
 Puts d p piece d′ q = (q ≡ p + length piece) × ((d₀ t : List ℕ) → Filled d₀ t d p → Filled d₀ (t ++ piece) d′ q)
 
 -- What a line gives where `start` is left as it is: nothing for a comment, else the line with LF alone at its end.
-unfoldable pub plainPiece : List ℕ → List ℕ
+unfoldable pub plain-piece : List ℕ → List ℕ
 unfolding bare
-plainPiece l = cond (begins HASH l) [] (bare l ++ (LF ∷ []))
+plain-piece l = cond (begins HASH l) [] (bare l ++ (LF ∷ []))
 
 -- What these lines give so, one after the other.
-unfoldable pub plainBytes : List (List ℕ) → List ℕ
-unfolding plainPiece
-plainBytes [] = []
-plainBytes (l ∷ ls) = plainPiece l ++ plainBytes ls
+unfoldable pub plain-bytes : List (List ℕ) → List ℕ
+unfolding plain-piece
+plain-bytes [] = []
+plain-bytes (l ∷ ls) = plain-piece l ++ plain-bytes ls
 
 -- The tab and the name of the line, where it is the `fluent` line of k and k holds.
-unfoldable pub heldPiece : ℕ → State → List ℕ → List ℕ
+unfoldable pub held-piece : ℕ → State → List ℕ → List ℕ
 unfolding fields bare same
-heldPiece k st l = cond (same (getD (fields (bare l)) 0 []) (text "fluent")) (cond (holds st k) (drop 6 (bare l)) []) []
+held-piece k st l = cond (same (getD (fields (bare l)) 0 []) (text "fluent")) (cond (holds st k) (drop 6 (bare l)) []) []
 
 -- The number of the next fluent, where the next is k before the line.
-unfoldable pub heldNext : ℕ → List ℕ → ℕ
+unfoldable pub held-next : ℕ → List ℕ → ℕ
 unfolding fields bare same
-heldNext k l = cond (same (getD (fields (bare l)) 0 []) (text "fluent")) (suc k) k
+held-next k l = cond (same (getD (fields (bare l)) 0 []) (text "fluent")) (suc k) k
 
 -- The tabs and names of the fluents that hold, from these lines, whose first `fluent` line is that of k.
-unfoldable pub heldBytes : ℕ → State → List (List ℕ) → List ℕ
-unfolding heldPiece heldNext
-heldBytes k st [] = []
-heldBytes k st (l ∷ ls) = heldPiece k st l ++ heldBytes (heldNext k l) st ls
+unfoldable pub held-bytes : ℕ → State → List (List ℕ) → List ℕ
+unfolding held-piece held-next
+held-bytes k st [] = []
+held-bytes k st (l ∷ ls) = held-piece k st l ++ held-bytes (held-next k l) st ls
 
 -- The `start` line that is written, by all lines of the sheet.
-unfoldable pub startBytes : State → List (List ℕ) → List ℕ
-unfolding heldBytes
-startBytes st all = (text "start" ++ heldBytes 0 st all) ++ (LF ∷ [])
+unfoldable pub start-bytes : State → List (List ℕ) → List ℕ
+unfolding held-bytes
+start-bytes st all = (text "start" ++ held-bytes 0 st all) ++ (LF ∷ [])
 
 -- What a line gives to the text: nothing for a comment, the names in fluent order for `start`, else the line with LF alone at its end.
-unfoldable pub linePiece : State → List (List ℕ) → List ℕ → List ℕ
-unfolding fields bare same startBytes
-linePiece st all l =
+unfoldable pub line-piece : State → List (List ℕ) → List ℕ → List ℕ
+unfolding fields bare same start-bytes
+line-piece st all l =
     cond (begins HASH l) []
-    (cond (same (getD (fields (bare l)) 0 []) (text "start")) (startBytes st all)
+    (cond (same (getD (fields (bare l)) 0 []) (text "start")) (start-bytes st all)
     (bare l ++ (LF ∷ [])))
 
 -- What these lines give to the text, one after the other.
-unfoldable pub lineBytes : State → List (List ℕ) → List (List ℕ) → List ℕ
-unfolding linePiece
-lineBytes st all [] = []
-lineBytes st all (l ∷ ls) = linePiece st all l ++ lineBytes st all ls
+unfoldable pub line-bytes : State → List (List ℕ) → List (List ℕ) → List ℕ
+unfolding line-piece
+line-bytes st all [] = []
+line-bytes st all (l ∷ ls) = line-piece st all l ++ line-bytes st all ls

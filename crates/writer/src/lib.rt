@@ -6,9 +6,9 @@ ghost use Prim.Native.Nat.{_+_, _-_, _≤_, _<_};
 ghost use lib.ListN.{length};
 ghost use lib.Seq.{slice};
 ghost use Rattle.chars.specs.Pieces.{lines};
-ghost use Rattle.sheet.specs.Reader.{readSheet};
-ghost use Rattle.writer.specs.Writer.{writtenIn, outAfter};
-ghost use Rattle.writer.specs.Inner.{Puts, plainPiece, plainBytes, heldPiece, heldNext, heldBytes, startBytes, linePiece, lineBytes};
+ghost use Rattle.sheet.specs.Reader.{read-sheet};
+ghost use Rattle.writer.specs.Writer.{written-in, out-after};
+ghost use Rattle.writer.specs.Inner.{Puts, plain-piece, plain-bytes, held-piece, held-next, held-bytes, start-bytes, line-piece, line-bytes};
 use steps::state::State;
 
 // What the writer gives: the refusal, 0 for none, with its line; the length of the text, 0 if refused.
@@ -18,9 +18,6 @@ pub struct Written {
     pub line: u64,
     pub length: u64,
 }
-
-// Output room short.
-pub const TEXT_SHORT: u64 = 50;
 
 // Puts one byte at a place; the place after it.
 pub fn put(out: &mut [u8], at: usize, b: u8) -> usize
@@ -54,9 +51,9 @@ struct Place {
 // Puts the tab and the name of the line from a up to e, if it is the line of fluent k and k holds.
 fn put_held(out: &mut [u8], at: usize, s: &[u8], a: usize, e: usize, k: u64, start: State) -> Place
     requires { ⌜ (a ≤ e) × (e ≤ length (now s)) × (k ≤ a) ⌝ }
-    requires { ⌜ at + length (heldPiece k (start .0) (slice a e (now s))) ≤ length (now out) ⌝ }
-    ensures { λ r. ⌜ Puts (now (out .entry)) at (heldPiece k (start .0) (slice a e (now (s .entry)))) (now (out .exit)) (r .at) ⌝ }
-    ensures { λ r. ⌜ (r .fluent ≡ heldNext k (slice a e (now (s .entry)))) × (r .fluent ≤ k + 1) ⌝ }
+    requires { ⌜ at + length (held-piece k (start .0) (slice a e (now s))) ≤ length (now out) ⌝ }
+    ensures { λ r. ⌜ Puts (now (out .entry)) at (held-piece k (start .0) (slice a e (now (s .entry)))) (now (out .exit)) (r .at) ⌝ }
+    ensures { λ r. ⌜ (r .fluent ≡ held-next k (slice a e (now (s .entry)))) × (r .fluent ≤ k + 1) ⌝ }
 {
     let end = chars::bare_end(s, a, e);
     let q = chars::field_end(s, a, end);
@@ -75,8 +72,8 @@ fn put_held(out: &mut [u8], at: usize, s: &[u8], a: usize, e: usize, k: u64, sta
 
 // Puts the tabs and names of the fluents that hold, in fluent order; the place after them.
 fn put_names(out: &mut [u8], at: usize, s: &[u8], start: State) -> usize
-    requires { ⌜ at + length (heldBytes 0 (start .0) (lines (now s))) ≤ length (now out) ⌝ }
-    ensures { λ r. ⌜ Puts (now (out .entry)) at (heldBytes 0 (start .0) (lines (now (s .entry)))) (now (out .exit)) r ⌝ }
+    requires { ⌜ at + length (held-bytes 0 (start .0) (lines (now s))) ≤ length (now out) ⌝ }
+    ensures { λ r. ⌜ Puts (now (out .entry)) at (held-bytes 0 (start .0) (lines (now (s .entry)))) (now (out .exit)) r ⌝ }
 {
     let mut p = at;
     let mut k = 0u64;
@@ -93,8 +90,8 @@ fn put_names(out: &mut [u8], at: usize, s: &[u8], start: State) -> usize
 
 // Puts the `start` line; the place after it.
 fn put_start(out: &mut [u8], at: usize, s: &[u8], start: State) -> usize
-    requires { ⌜ at + length (startBytes (start .0) (lines (now s))) ≤ length (now out) ⌝ }
-    ensures { λ r. ⌜ Puts (now (out .entry)) at (startBytes (start .0) (lines (now (s .entry)))) (now (out .exit)) r ⌝ }
+    requires { ⌜ at + length (start-bytes (start .0) (lines (now s))) ≤ length (now out) ⌝ }
+    ensures { λ r. ⌜ Puts (now (out .entry)) at (start-bytes (start .0) (lines (now (s .entry)))) (now (out .exit)) r ⌝ }
 {
     let names = put_part(out, at, b"start", 0, 5);
     let end = put_names(out, names, s, start);
@@ -104,9 +101,9 @@ fn put_start(out: &mut [u8], at: usize, s: &[u8], start: State) -> usize
 // Puts what the line from a up to e gives to the text; the place after it.
 fn put_line(out: &mut [u8], at: usize, s: &[u8], a: usize, e: usize, start: State) -> usize
     requires { ⌜ (a ≤ e) × (e ≤ length (now s)) ⌝ }
-    requires { ⌜ at + length (linePiece (start .0) (lines (now s)) (slice a e (now s))) ≤ length (now out) ⌝ }
+    requires { ⌜ at + length (line-piece (start .0) (lines (now s)) (slice a e (now s))) ≤ length (now out) ⌝ }
     ensures { λ r. ⌜ Puts (now (out .entry)) at
-        (linePiece (start .0) (lines (now (s .entry))) (slice a e (now (s .entry)))) (now (out .exit)) r ⌝ }
+        (line-piece (start .0) (lines (now (s .entry))) (slice a e (now (s .entry)))) (now (out .exit)) r ⌝ }
 {
     if chars::is_comment(s, a, e) {
         return at;
@@ -122,9 +119,9 @@ fn put_line(out: &mut [u8], at: usize, s: &[u8], a: usize, e: usize, start: Stat
 
 // Puts what all lines give from the front of the output on; the place after it.
 fn put_lines(out: &mut [u8], s: &[u8], start: State) -> usize
-    requires { ⌜ length (lineBytes (start .0) (lines (now s)) (lines (now s))) ≤ length (now out) ⌝ }
+    requires { ⌜ length (line-bytes (start .0) (lines (now s)) (lines (now s))) ≤ length (now out) ⌝ }
     ensures { λ r. ⌜ Puts (now (out .entry)) 0
-        (lineBytes (start .0) (lines (now (s .entry))) (lines (now (s .entry)))) (now (out .exit)) r ⌝ }
+        (line-bytes (start .0) (lines (now (s .entry))) (lines (now (s .entry)))) (now (out .exit)) r ⌝ }
 {
     let mut p = 0;
     let mut a = 0;
@@ -139,7 +136,7 @@ fn put_lines(out: &mut [u8], s: &[u8], start: State) -> usize
 // How many bytes the line from a up to e gives. That `start` is written with its names in another order changes no size.
 fn line_size(s: &[u8], a: usize, e: usize) -> usize
     requires { ⌜ (a ≤ e) × (e ≤ length (now s)) ⌝ }
-    ensures { λ r. ⌜ r ≡ length (plainPiece (slice a e (now (s .entry)))) ⌝ }
+    ensures { λ r. ⌜ r ≡ length (plain-piece (slice a e (now (s .entry)))) ⌝ }
     ensures { λ r. ⌜ a + r ≤ e + 1 ⌝ }
 {
     if chars::is_comment(s, a, e) {
@@ -150,7 +147,7 @@ fn line_size(s: &[u8], a: usize, e: usize) -> usize
 
 // How many bytes the text has.
 fn text_size(s: &[u8]) -> usize
-    ensures { λ r. ⌜ r ≡ length (plainBytes (lines (now (s .entry)))) ⌝ }
+    ensures { λ r. ⌜ r ≡ length (plain-bytes (lines (now (s .entry)))) ⌝ }
 {
     let mut n = 0;
     let mut a = 0;
@@ -164,8 +161,8 @@ fn text_size(s: &[u8]) -> usize
 
 // Writes an accepted sheet's one fixed text to `out`, which is unchanged past it and by a refusal.
 pub fn write(text: &[u8], out: &mut [u8]) -> Written
-    ensures { λ r. ⌜ r ≡ writtenIn (length (now (out .entry))) (readSheet (now (text .entry))) ⌝ }
-    ensures { λ _. ⌜ now (out .exit) ≡ outAfter (now (out .entry)) (readSheet (now (text .entry))) ⌝ }
+    ensures { λ r. ⌜ r ≡ written-in (length (now (out .entry))) (read-sheet (now (text .entry))) ⌝ }
+    ensures { λ _. ⌜ now (out .exit) ≡ out-after (now (out .entry)) (read-sheet (now (text .entry))) ⌝ }
 {
     let mut words = [0u16; 4608];
     let got = sheet::read(text, &mut words);
@@ -182,7 +179,7 @@ pub fn write(text: &[u8], out: &mut [u8]) -> Written
     let n = text_size(text);
     if out.len() < n {
         return Written {
-            refusal: TEXT_SHORT,
+            refusal: refusals::TEXT_SHORT,
             line: 0,
             length: 0,
         };

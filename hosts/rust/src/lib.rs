@@ -29,6 +29,9 @@
 //! assert_eq!(&ends[..2], [1, 3]);
 //! ```
 
+use std::error::Error;
+use std::fmt;
+
 mod class;
 mod ffi;
 mod refusal;
@@ -48,6 +51,10 @@ pub const RULE_WORDS: usize = 18;
 pub const CALL_WORDS: usize = 2;
 /// Words of one answer record: call record number, final state, rule number, 16 evidence words.
 pub const ANSWER_WORDS: usize = 19;
+/// Fluents that a book has at most.
+pub const MOST_FLUENTS: u64 = 64;
+/// Actions that a book has at most.
+pub const MOST_ACTIONS: u64 = 64;
 /// The goal's number among the actions of call records.
 pub const GOAL_ACTION: u64 = 64;
 /// The goal's number among the rule numbers of answer records.
@@ -96,6 +103,17 @@ pub struct Unread {
     pub line: u64,
 }
 
+impl fmt::Display for Unread {
+    fn fmt(&self, f: &mut fmt::Formatter<'_>) -> fmt::Result {
+        match self.line {
+            0 => write!(f, "{}", self.refusal),
+            line => write!(f, "{}, line {line}", self.refusal),
+        }
+    }
+}
+
+impl Error for Unread {}
+
 /// A refused merge: why, the sheet, 1 or 2, for its own fault, else 0, and that sheet's line from 1 for 13 to 17, else 0.
 #[derive(Clone, Copy, Debug, PartialEq, Eq)]
 pub struct Unmerged {
@@ -103,6 +121,19 @@ pub struct Unmerged {
     pub sheet: u64,
     pub line: u64,
 }
+
+impl fmt::Display for Unmerged {
+    fn fmt(&self, f: &mut fmt::Formatter<'_>) -> fmt::Result {
+        let Unmerged { refusal, sheet, line } = *self;
+        match (sheet, line) {
+            (0, _) => write!(f, "{refusal}"),
+            (_, 0) => write!(f, "{refusal}, sheet {sheet}"),
+            _ => write!(f, "{refusal}, sheet {sheet}, line {line}"),
+        }
+    }
+}
+
+impl Error for Unmerged {}
 
 /// What is asked of [`evaluate`].
 #[derive(Clone, Copy, Debug)]
@@ -136,6 +167,17 @@ pub struct Unrun {
     pub refusal: Refusal,
     pub run: Run,
 }
+
+impl fmt::Display for Unrun {
+    fn fmt(&self, f: &mut fmt::Formatter<'_>) -> fmt::Result {
+        match self.refusal {
+            Refusal::ListShort => write!(f, "{}, {} in all", self.refusal, self.run.ends),
+            refusal => write!(f, "{refusal}"),
+        }
+    }
+}
+
+impl Error for Unrun {}
 
 /// The version of the library that is linked: 10,000 times the first number, 100 times the second and the third.
 pub fn version() -> u64 {

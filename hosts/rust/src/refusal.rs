@@ -2,8 +2,9 @@
 
 use std::fmt;
 
-/// Why an operation refused. The numbers are those of the sheet's rules and are part of the interface.
+/// Why an operation refused. The numbers are those of the sheet's rules and are part of the interface; later versions may add some.
 #[derive(Clone, Copy, Debug, PartialEq, Eq, Hash)]
+#[non_exhaustive]
 pub enum Refusal {
     /// 10: the sheet is longer than 65,536 bytes.
     TooLong = 10,
@@ -74,7 +75,7 @@ pub enum Refusal {
 
 impl Refusal {
     /// All refusals, in rising order of their numbers.
-    pub const ALL: [Refusal; 32] = [
+    pub const ALL: &'static [Refusal] = &[
         Refusal::TooLong,
         Refusal::BadByte,
         Refusal::NotEnded,
@@ -116,7 +117,7 @@ impl Refusal {
 
     /// The refusal of a number; `None` for 0 and for numbers that no operation gives.
     pub fn of(number: u64) -> Option<Refusal> {
-        Refusal::ALL.into_iter().find(|r| r.number() == number)
+        Refusal::ALL.iter().copied().find(|r| r.number() == number)
     }
 
     /// What the refusal means, in a few words.
@@ -183,7 +184,7 @@ mod tests {
     #[test]
     fn zero_alone_is_accepted() {
         assert_eq!(accepted(0), Ok(()));
-        for refusal in Refusal::ALL {
+        for &refusal in Refusal::ALL {
             assert_eq!(accepted(refusal.number()), Err(refusal));
         }
     }

@@ -39,8 +39,7 @@ pub enum Trouble {
 impl fmt::Display for Trouble {
     fn fmt(&self, f: &mut fmt::Formatter<'_>) -> fmt::Result {
         match self {
-            Trouble::Sheet(Unread { refusal, line: 0 }) => write!(f, "{refusal}"),
-            Trouble::Sheet(Unread { refusal, line }) => write!(f, "{refusal}, line {line}"),
+            Trouble::Sheet(unread) => write!(f, "{unread}"),
             Trouble::TooLarge => {
                 write!(f, "{}: more than 65,536 calls or answers, no room helps", Refusal::TablesFull)
             }

@@ -3,7 +3,7 @@
 use std::fmt;
 
 use crate::refusal::accepted;
-use crate::{ffi, OfStart, Refusal};
+use crate::{ffi, OfStart, Refusal, MOST_FLUENTS};
 
 /// An exact fraction in lowest terms: 0 is 0 over 1, and a share or mean over nothing is 0 over 0.
 #[derive(Clone, Copy, Debug, PartialEq, Eq, Hash)]
@@ -106,7 +106,7 @@ pub fn report_of(fluents: usize, given: &[OfStart]) -> Result<Report, Refusal> {
     let results: Vec<u64> = given.iter().flat_map(words).collect();
     let ends: Vec<u64> = given.iter().flat_map(|(_, ends)| ends.iter().copied()).collect();
     // Over 64 fluents are refused with 20, whatever the room.
-    let mut out = vec![0; report_words(fluents.min(64))];
+    let mut out = vec![0; report_words(fluents.min(MOST_FLUENTS as usize))];
     let figures = report(fluents as u64, &results, &ends, &mut out)?;
     Ok(Report { shares: figures.shares().collect(), mean_held: figures.mean_held(), mean_ends: figures.mean_ends() })
 }

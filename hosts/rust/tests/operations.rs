@@ -1,9 +1,11 @@
 //! The operations as a host meets them: results, refusals, and what each buffer holds afterwards.
 
+use std::error::Error;
+
 use lawhemuri::{
     class, evaluate, fluent_name, mark, merge, merged_fluent, outcomes, path, read, report, report_of, report_words, restore,
     store, write, Buffers, Fraction, OfStart, Question, Records, Refusal, Report, Run, Unmerged, Unread, Unrun, MARK_WORDS,
-    MOST_RECORDED,
+    MOST_ACTIONS, MOST_FLUENTS, MOST_RECORDED,
 };
 
 const EXAMPLE: &[u8] = b"fluent\topen\nfluent\tlit\naction\tpurge\naction\tlight\nrule\tpurge\t+open\n\
@@ -207,7 +209,8 @@ fn refused_questions_leave_the_buffers() {
     let rules = left_recursion();
     let asked = Question { fluents: 2, actions: 1, rules: &rules, goal: &[768], start: 0 };
     let cases = [
-        (Question { fluents: 65, ..asked }, Refusal::BadCounts),
+        (Question { fluents: MOST_FLUENTS + 1, ..asked }, Refusal::BadCounts),
+        (Question { actions: MOST_ACTIONS + 1, ..asked }, Refusal::BadCounts),
         (Question { rules: &rules[..35], ..asked }, Refusal::BadLength),
         (Question { actions: 0, ..asked }, Refusal::BadRule),
         (Question { goal: &[769], ..asked }, Refusal::BadGoal),
@@ -244,9 +247,34 @@ fn numbers_of_refusals() {
         10, 11, 12, 13, 14, 15, 16, 17, 18, 19, 20, 21, 22, 23, 24, 25, 26, 27, 30, 31, 40, 41, 42, 43, 50, 60, 61, 62, 70, 80,
         81, 82,
     ];
-    assert_eq!(Refusal::ALL.map(Refusal::number), numbers);
-    assert_eq!(numbers.map(Refusal::of), Refusal::ALL.map(Some));
+    assert!(Refusal::ALL.iter().map(|refusal| refusal.number()).eq(numbers));
+    assert!(numbers.iter().map(|&number| Refusal::of(number)).eq(Refusal::ALL.iter().copied().map(Some)));
     assert!([0, 9, 28, 29, 32, 39, 44, 59, 63, 79, 83].map(Refusal::of).iter().all(Option::is_none));
+}
+
+/// What a host prints of an error that it handed on by `?`.
+#[test]
+fn refusals_are_errors() {
+    fn asked(text: &[u8], places: usize) -> Result<Run, Box<dyn Error>> {
+        let mut rules = [0; 36];
+        let sheet = read(text, &mut rules)?;
+        let (run, ..) = with_rooms(&sheet.question(&rules), 8, 8, places);
+        Ok(run?)
+    }
+    fn merged(first: &[u8], second: &[u8], room: usize) -> Result<usize, Box<dyn Error>> {
+        Ok(merge(first, second, &mut vec![0; room])?)
+    }
+    let said = |result: Result<_, Box<dyn Error>>| result.unwrap_err().to_string();
+    assert_eq!(asked(EXAMPLE, 1).unwrap(), Run { ends: 1, calls: 3, answers: 3 });
+    assert_eq!(said(asked(EXAMPLE, 0).map(drop)), "refused 31: the list has fewer places than there are ends, 1 in all");
+    assert_eq!(said(asked(b"\n", 0).map(drop)), "refused 13: no record word, or one out of order, line 1");
+    assert_eq!(said(asked(b"", 0).map(drop)), "refused 18: no start or no goal");
+    assert_eq!(
+        said(merged(b"start\ngoal\n", b"\n", 0).map(drop)),
+        "refused 13: no record word, or one out of order, sheet 2, line 1"
+    );
+    assert_eq!(said(merged(b"", b"", 0).map(drop)), "refused 18: no start or no goal, sheet 1");
+    assert_eq!(said(merged(b"start\ngoal\n", b"start\ngoal\n", 0).map(drop)), "refused 50: fewer bytes lent than the text has");
 }
 
 #[test]

@@ -3,16 +3,16 @@ use Prim.Native.Nat.{_-_, _<_, _≤_}
 use native.Mathlib.Omega.{arith}
 use mathlib.Core.Path.{_≡_, sym, ap, _∙_}
 use mathlib.Core.Bool.{true, not}
-use borrow.Author.Needs.{needs}
 use lib.ListN.{length, getD}
-use Rattle.steps.specs.Acceptance.{each-below, bad-start}
+use Rattle.steps.specs.Acceptance.{each-below, bad-state}
 use Rattle.steps.proofs.EachBelow.{each-none, each-more, each-not}
 use Rattle.archive.specs.Outcome.{bad-states}
+use borrow.Author.Needs.{needs}
 use Rattle.archive.proofs.bad_states.Statement.{statement}
 use Rattle.archive.proofs.bad_states.Tie as tie
 
 abbrev Inv-loop : tie.InvT-loop
-Inv-loop fluents states i₀ i = (i ≤ length states) × (each-below i (λ i. not (bad-start fluents (getD states i 0))) ≡ true)
+Inv-loop fluents states i₀ i = (i ≤ length states) × (each-below i (λ i. not (bad-state fluents (getD states i 0))) ≡ true)
 
 abbrev μ-loop : tie.MeasureT-loop
 μ-loop fluents states i₀ i = length states - i
@@ -40,14 +40,5 @@ pub bad-states-spec : {M : Type 1} → statement M
 bad-states-spec =
     tie.close
     (tie.spec
-    Inv-loop
-    μ-loop
-    loop-holds
-    (λ c. search needs)
-    (λ c. search needs)
-    (λ c κs. search needs)
-    returns
-    (λ c. search needs)
-    (λ c. search needs)
-    loop-again
-    returns-2)
+    Inv-loop μ-loop loop-holds (λ c. search needs) (λ c. search needs) (λ c κs. search needs)
+    returns (λ c. search needs) (λ c. search needs) loop-again returns-2)

@@ -1,12 +1,12 @@
 -- `in_name` meets its contract: it computes the definition. Assumes nothing.
 use mathlib.Core.Path.{refl}
 use borrow.Author.Needs.{needs}
-use Rattle.chars.specs.Bytes.{nameByte}
+use Rattle.chars.specs.Bytes.{name-byte}
 use Rattle.chars.proofs.in_name.Statement.{statement}
 use Rattle.chars.proofs.in_name.Tie as tie
 
 returns : tie.Need-returns
-unfolding nameByte
+unfolding name-byte
 returns c = rw (← c .is-lower .ensures) refl
 
 pub in-name-spec : {M : Type 1} → statement M

@@ -10,13 +10,13 @@ use mathlib.Core.Bool.{true, cond}
 use lib.Dec.{eqb}
 use denote.Ref.{now}
 use lib.ListN.{length, getD, drop}
-use Rattle.chars.specs.Bytes.{LF, HASH, begins, mayStand, clean, cleanIn}
+use Rattle.chars.specs.Bytes.{LF, HASH, begins, may-stand, clean, clean-in}
 use Rattle.chars.proofs.Clean.{clean-step, clean-past}
 use Rattle.chars.proofs.is_clean.Statement.{statement}
 use Rattle.chars.proofs.is_clean.Tie as tie
 
 abbrev Inv-loop : tie.InvT-loop
-Inv-loop s comment₀ i₀ comment i = (i ≤ length s) × (clean s ≡ cleanIn comment (drop i s))
+Inv-loop s comment₀ i₀ comment i = (i ≤ length s) × (clean s ≡ clean-in comment (drop i s))
 
 abbrev μ-loop : tie.MeasureT-loop
 μ-loop s comment₀ i₀ comment i = length s - i
@@ -59,7 +59,7 @@ loop-again c =
     let l = c .before .before .before .before .before in
     let x = getD s (l .loop .i) 0 in
     let f = clean-step s (l .loop .i) (l .loop .comment) (omega arith) in
-    let e : mayStand (l .loop .comment) x (drop (l .loop .i + 1) s) ≡ true = sym (c .before .before .before .may-stand .ensures) ∙ not-false _ (c .before .before .if1 .left) in
+    let e : may-stand (l .loop .comment) x (drop (l .loop .i + 1) s) ≡ true = sym (c .before .before .before .may-stand .ensures) ∙ not-false _ (c .before .before .if1 .left) in
     let g : cond (eqb x LF) (begins HASH (drop (l .loop .i + 1) s)) (l .loop .comment) ≡ c .if2 .comment =
     ⊎-elim (λ w. rw (eq-eqb x LF (w .0 .taken)) (sym (w .1 .ensures) ∙ sym (w .2))) (λ w. rw (ne-eqb x LF (w .0 .left)) (sym (w .1))) (c .if2 .came) in
     (omega arith, l .loop .inv .1 ∙ f ∙ rw (e, g) refl)

@@ -7,13 +7,13 @@ use borrow.Author.Needs.{needs}
 use borrow.Author.Tests.{not-true, not-false}
 use denote.Ref.{now}
 use lib.Seq.{slice}
-use Rattle.chars.specs.Bytes.{isName, all, nameByte}
+use Rattle.chars.specs.Bytes.{is-name, all, name-byte}
 use Rattle.chars.proofs.Names.{all-first, all-none, name-empty, name-long, name-start, name-rest}
 use Rattle.chars.proofs.is_name.Statement.{statement}
 use Rattle.chars.proofs.is_name.Tie as tie
 
 abbrev Inv-loop : tie.InvT-loop
-Inv-loop s from to i₀ i = (from < i) × (i ≤ to) × (isName (slice from to s) ≡ all nameByte (slice i to s))
+Inv-loop s from to i₀ i = (from < i) × (i ≤ to) × (is-name (slice from to s) ≡ all name-byte (slice i to s))
 
 abbrev μ-loop : tie.MeasureT-loop
 μ-loop s from to i₀ i = to - i
@@ -21,7 +21,7 @@ abbrev μ-loop : tie.MeasureT-loop
 returns : tie.Need-returns Inv-loop μ-loop
 returns c =
     let a = c .before .before .args in
-    sym (ap (λ (f : ℕ). isName (slice f (a .to) (now (a .s)))) (c .if1 .taken) ∙ name-empty (now (a .s)) (a .to))
+    sym (ap (λ (f : ℕ). is-name (slice f (a .to) (now (a .s)))) (c .if1 .taken) ∙ name-empty (now (a .s)) (a .to))
 
 returns-2 : tie.Need-returns-2 Inv-loop μ-loop
 returns-2 c =
@@ -46,21 +46,21 @@ returns-4 c =
     let at = c .before .before .before .before .loop in
     let entry = c .before .before .before .before .before .before .before .before .before .before .before in
     let a = entry .args in
-    sym (at .inv .2 ∙ all-first nameByte (now (a .s)) (at .i) (a .to) (omega arith) (entry .pre .1) ∙ rw (sym (c .before .in-name .ensures) ∙ not-true _ (c .if4 .taken)))
+    sym (at .inv .2 ∙ all-first name-byte (now (a .s)) (at .i) (a .to) (omega arith) (entry .pre .1) ∙ rw (sym (c .before .in-name .ensures) ∙ not-true _ (c .if4 .taken)))
 
 loop-again : tie.Need-loop-again Inv-loop μ-loop
 loop-again c =
     let at = c .before .before .before .before .loop in
     let entry = c .before .before .before .before .before .before .before .before .before .before .before in
     let a = entry .args in
-    (omega arith, omega arith, at .inv .2 ∙ all-first nameByte (now (a .s)) (at .i) (a .to) (omega arith) (entry .pre .1) ∙ rw (sym (c .before .in-name .ensures) ∙ not-false _ (c .if4 .left)))
+    (omega arith, omega arith, at .inv .2 ∙ all-first name-byte (now (a .s)) (at .i) (a .to) (omega arith) (entry .pre .1) ∙ rw (sym (c .before .in-name .ensures) ∙ not-false _ (c .if4 .left)))
 
 returns-5 : tie.Need-returns-5 Inv-loop μ-loop
 returns-5 c =
     let at = c .before .loop in
     let a = c .before .before .before .before .before .before .before .before .args in
     let e : at .i ≡ a .to = omega arith in
-    sym (at .inv .2 ∙ ap (λ (i : ℕ). all nameByte (slice i (a .to) (now (a .s)))) e ∙ all-none nameByte (now (a .s)) (a .to))
+    sym (at .inv .2 ∙ ap (λ (i : ℕ). all name-byte (slice i (a .to) (now (a .s)))) e ∙ all-none name-byte (now (a .s)) (a .to))
 
 pub is-name-spec : {M : Type 1} → statement M
 is-name-spec =

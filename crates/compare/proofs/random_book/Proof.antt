@@ -5,10 +5,10 @@ use Rattle.compare.proofs.random_book.Statement.{statement}
 use Rattle.compare.proofs.random_book.Tie as tie
 
 abbrev Inv-loop : tie.InvT-loop
-Inv-loop seed book₀ bases x₀ rule₀ book x rule = rule ≤ 7
+Inv-loop seed book₀ last x₀ rule₀ book x rule = rule ≤ 7
 
 abbrev μ-loop : tie.MeasureT-loop
-μ-loop seed book₀ bases x₀ rule₀ book x rule = 7 - rule
+μ-loop seed book₀ last x₀ rule₀ book x rule = 7 - rule
 
 loop-holds : tie.Need-loop-holds Inv-loop μ-loop
 loop-holds c = search needs

@@ -13,8 +13,8 @@ abbrev μ-loop : tie.MeasureT-loop
 loop-holds : tie.Need-loop-holds Inv-loop μ-loop
 loop-holds c = search needs
 
-fluent-span-requires : tie.Need-fluent-span-requires Inv-loop μ-loop
-fluent-span-requires c κs = search needs
+name-in-requires : tie.Need-name-in-requires Inv-loop μ-loop
+name-in-requires c κs = search needs
 
 mul-at : tie.Need-mul-at Inv-loop μ-loop
 mul-at c = search needs
@@ -50,7 +50,7 @@ find-names-spec =
     Inv-loop
     μ-loop
     loop-holds
-    fluent-span-requires
+    name-in-requires
     mul-at
     element-write-at
     mul-len

@@ -6,13 +6,14 @@ use mathlib.Core.List.{[], _∷_}
 use lib.ListN.{length, replicate, length-replicate}
 use borrow.Author.Needs.{needs}
 use Rattle.steps.proofs.EachBelow.{true-not-false}
-use Rattle.tabling.specs.Records.{bodies-of, room, calls-in, answers-in}
-use Rattle.tabling.proofs.Storage.{CallPut}
+use Rattle.steps.specs.Run.{Goal}
+use Rattle.records.specs.Records.{bodies-of, room, call-table, answer-table, call-width, answer-width}
+use Rattle.records.specs.Storage.{CallPut}
 use Rattle.tabling.proofs.Evidence.{Among, Valid}
-use Rattle.tabling.proofs.Marks.{zeros-stamped, zeros-at}
-use Rattle.tabling.proofs.Index.{call-index-none, answer-index-none}
-use Rattle.tabling.proofs.Going.{in-words}
-use Rattle.tabling.proofs.Filling.{first-valid, first-full}
+use Rattle.notes.proofs.MarksLaws.{zeros-stamped, zeros-at}
+use Rattle.notes.proofs.IndexLaws.{call-index-none, answer-index-none}
+use Rattle.loops.proofs.Going.{in-words}
+use Rattle.loops.proofs.Filling.{first-valid, first-full}
 use Rattle.evaluator.proofs.Outcomes.{zeros-stored}
 use Rattle.evaluator.proofs.tabulate.Statement.{statement}
 use Rattle.evaluator.proofs.tabulate.Tie as tie
@@ -21,17 +22,11 @@ use Rattle.evaluator.proofs.tabulate.Tie as tie
 abbrev start : tie.After-add-call → tie.Start
 start c = c .before .before .before .before .before .before .before .before
 
-slice-aggregate-add-call : tie.Need-slice-aggregate-add-call
-slice-aggregate-add-call c = search needs
-
-goal-requires : tie.Need-goal-requires
-goal-requires c κs = search needs
-
 add-call-requires : tie.Need-add-call-requires
-add-call-requires c κs = let i = c .before .before .before .before .before .before .before in (zeros-stored 2 _ (i .pre .1 .0), call-index-none (calls-in 2 (i .args .calls .now) 0) _ refl (length-replicate {A = ℕ} 122880 0))
+add-call-requires c κs = let i = c .before .before .before .before .before .before .before in (zeros-stored call-width _ (i .pre .1 .0), call-index-none (call-table (i .args .calls .now) 0) _ refl (length-replicate {A = ℕ} 122880 0))
 
 -- the goal's call
-put-at : (c : tie.After-add-call) → CallPut (room 2 (length (c .before .before .before .before .before .before .before .before .args .calls .now))) (calls-in 2 (c .before .before .before .before .before .before .before .before .args .calls .now) 0) 64 (c .before .before .before .before .before .before .before .before .args .start) (calls-in 2 (c .add-call .last .0) (c .add-call .result .count)) (c .add-call .result .row) (c .add-call .result .full)
+put-at : (c : tie.After-add-call) → CallPut (room call-width (length (c .before .before .before .before .before .before .before .before .args .calls .now))) (call-table (c .before .before .before .before .before .before .before .before .args .calls .now) 0) Goal (c .before .before .before .before .before .before .before .before .args .start) (call-table (c .add-call .last .0) (c .add-call .result .count)) (c .add-call .result .row) (c .add-call .result .full)
 put-at c = rw (← c .before .goal .ensures .0, ← c .before .goal .ensures .1) (c .add-call .ensures .0 .put)
 
 same-length : tie.Need-same-length
@@ -45,30 +40,18 @@ returns c =
     record {
       calls-long = s .long;
       answers-long = refl;
-      kept = record { calls-stored = s .stored; answers-stored = zeros-stored 19 _ (i .pre .1 .1) };
+      kept = record { calls-stored = s .stored; answers-stored = zeros-stored answer-width _ (i .pre .1 .1) };
       closed = λ e. absurd (true-not-false e);
-      outgrown = λ e. first-full (bodies-of (i .args .rules .now) (i .args .goal .now)) 64 (i .args .start) _ (calls-in 2 (i .args .calls .now) 0) (calls-in 2 (p .add-call .last .0) (p .add-call .result .count)) _ _ _ (put-at p) (c .if1 .taken) refl;
+      outgrown = λ e. first-full (bodies-of (i .args .rules .now) (i .args .goal .now)) Goal (i .args .start) _ (call-table (i .args .calls .now) 0) (call-table (p .add-call .last .0) (p .add-call .result .count)) _ _ _ (put-at p) (c .if1 .taken) refl;
     }
 
 -- the first table is valid
-first : (c : tie.Else1) → Valid (bodies-of (start (c .before .before .before .before) .args .rules .now) (start (c .before .before .before .before) .args .goal .now)) (Among ((64, start (c .before .before .before .before) .args .start) ∷ []))
+first : (c : tie.Else1) → Valid (bodies-of (start (c .before .before .before .before) .args .rules .now) (start (c .before .before .before .before) .args .goal .now)) (Among ((Goal, start (c .before .before .before .before) .args .start) ∷ []))
     (in-words (c .before .before .before .before .add-call .last .0) (c .before .before .before .before .add-call .result .count) (start (c .before .before .before .before) .args .answers .now) 0)
 first c =
     let p = c .before .before .before .before in
     let i = start p in
-    first-valid (bodies-of (i .args .rules .now) (i .args .goal .now)) 64 (i .args .start) _ (calls-in 2 (i .args .calls .now) 0) (calls-in 2 (p .add-call .last .0) (p .add-call .result .count)) (answers-in 19 (i .args .answers .now) 0) _ _ (put-at p) (c .if1 .left) refl refl
-
-slice-aggregate-fill : tie.Need-slice-aggregate-fill
-slice-aggregate-fill c = search needs
-
-slice-aggregate-fill-2 : tie.Need-slice-aggregate-fill-2
-slice-aggregate-fill-2 c = search needs
-
-slice-aggregate-fill-3 : tie.Need-slice-aggregate-fill-3
-slice-aggregate-fill-3 c = search needs
-
-slice-aggregate-fill-4 : tie.Need-slice-aggregate-fill-4
-slice-aggregate-fill-4 c = search needs
+    first-valid (bodies-of (i .args .rules .now) (i .args .goal .now)) Goal (i .args .start) _ (call-table (i .args .calls .now) 0) (call-table (p .add-call .last .0) (p .add-call .result .count)) (answer-table (i .args .answers .now) 0) _ _ (put-at p) (c .if1 .left) refl refl
 
 fill-requires : tie.Need-fill-requires
 fill-requires c κs =
@@ -76,28 +59,30 @@ fill-requires c κs =
     let p = e .before .before .before .before in
     let i = start p in (
       (
-        record { calls-stored = p .add-call .ensures .0 .stored; answers-stored = zeros-stored 19 _ (i .pre .1 .1) },
-        record { of-calls = p .add-call .ensures .1; of-answers = answer-index-none (answers-in 19 (i .args .answers .now) 0) _ refl (length-replicate {A = ℕ} 319488 0) },
+        record { calls-stored = p .add-call .ensures .0 .stored; answers-stored = zeros-stored answer-width _ (i .pre .1 .1) },
+        record { of-calls = p .add-call .ensures .1; of-answers = answer-index-none (answer-table (i .args .answers .now) 0) _ refl (length-replicate {A = ℕ} 319488 0) },
         zeros-stamped 65536 0 refl (omega arith),
         omega arith,
         length-replicate {A = ℕ} 327680 0,
-        λ k. zeros-at 327680 (196609 + 2 * k),
+        λ k. zeros-at 327680 (196609 + call-width * k),
       ),
-      (i .pre .0, ((64, i .args .start) ∷ [], first e)),
+      (i .pre .0, ((Goal, i .args .start) ∷ [], first e)),
     )
 
 same-length-2 : tie.Need-same-length-2
-same-length-2 c = let f = c .before .before .before .before .before .before .before .before in let e = c .before .before .before .before .before .before .before .before .before .before .before .before .before .before .before in let i = start (e .before .before .before .before) in f .fill .ensures ((64, i .args .start) ∷ []) (first e) .calls-long ∙ e .before .before .before .before .add-call .ensures .0 .long
+same-length-2 c = let f = c .before .before .before .before .before .before .before .before in let e = c .before .before .before .before .before .before .before .before .before .before .before .before .before .before .before in let i = start (e .before .before .before .before) in f .fill .ensures ((Goal, i .args .start) ∷ []) (first e) .calls-long ∙ e .before .before .before .before .add-call .ensures .0 .long
 
 same-length-3 : tie.Need-same-length-3
-same-length-3 c = let f = c .before .before .before .before .before .before .before .before in let e = c .before .before .before .before .before .before .before .before .before .before .before .before .before .before .before in let i = start (e .before .before .before .before) in f .fill .ensures ((64, i .args .start) ∷ []) (first e) .answers-long
+same-length-3 c = let f = c .before .before .before .before .before .before .before .before in let e = c .before .before .before .before .before .before .before .before .before .before .before .before .before .before .before in let i = start (e .before .before .before .before) in f .fill .ensures ((Goal, i .args .start) ∷ []) (first e) .answers-long
 
 returns-2 : tie.Need-returns-2
 returns-2 c =
-    let f = c .before .before .before .before .before .before .before .before in
-    let e = c .before .before .before .before .before .before .before .before .before .before .before .before .before .before .before in
+    let place8 = c .before .before .before .before .before .before .before .before in
+    let place15 = place8 .before .before .before .before .before .before .before in
+    let f = place8 in
+    let e = place15 in
     let i = start (e .before .before .before .before) in
-    let F = f .fill .ensures ((64, i .args .start) ∷ []) (first e) in
+    let F = f .fill .ensures ((Goal, i .args .start) ∷ []) (first e) in
     let long = e .before .before .before .before .add-call .ensures .0 .long in
     record { calls-long = F .calls-long ∙ long; answers-long = F .answers-long; kept = F .kept; closed = F .closed; outgrown = λ z. rw long at (F .outgrown z) }
 
@@ -105,15 +90,15 @@ pub tabulate-spec : {M : Type 1} → statement M
 tabulate-spec =
     tie.close
     (tie.spec
-    slice-aggregate-add-call
-    goal-requires
+    (λ c. search needs)
+    (λ c κs. search needs)
     add-call-requires
     same-length
     returns
-    slice-aggregate-fill
-    slice-aggregate-fill-2
-    slice-aggregate-fill-3
-    slice-aggregate-fill-4
+    (λ c. search needs)
+    (λ c. search needs)
+    (λ c. search needs)
+    (λ c. search needs)
     fill-requires
     same-length-2
     same-length-3

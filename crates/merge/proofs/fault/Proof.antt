@@ -13,7 +13,7 @@ use Rattle.chars.specs.Bytes.{text}
 use Rattle.chars.specs.Pieces.{lines}
 use Rattle.merge.specs.declared.Word.{Word}
 use Rattle.merge.specs.Joined.{together, meets}
-use Rattle.merge.specs.Inner.{partsFrom, section, Holds}
+use Rattle.merge.specs.Inner.{parts-from, section, Holds}
 use Rattle.merge.proofs.PartLists.{parts-length}
 use Rattle.merge.proofs.fault.Statement.{statement}
 use Rattle.merge.proofs.fault.Tie as tie

@@ -9,18 +9,19 @@ use native.Mathlib.Omega.{arith}
 use denote.Ref.{now}
 use lib.Dec.{ltb}
 use lib.ListN.{length, length-append}
+use Rattle.refusals.specs.Refusals as refusals
 use Rattle.steps.specs.State.{State}
 use Rattle.chars.specs.Bytes.{text}
 use Rattle.chars.specs.Pieces.{lines}
 use Rattle.sheet.specs.declared.Sheet.{Sheet}
 use Rattle.sheet.specs.Book.{Book}
-use Rattle.sheet.specs.Reader.{readSheet, written}
-use Rattle.writer.specs.Text.{holding, textOf}
+use Rattle.sheet.specs.Reader.{read-sheet, written}
+use Rattle.writer.specs.Text.{holding, text-of}
 use Rattle.writer.proofs.Outcomes.{told-refused, told-written}
 use Rattle.merge.specs.declared.Layout.{Layout}
-use Rattle.merge.specs.Joined.{together, bothBooks}
-use Rattle.merge.specs.Merge.{Outcome, faulty, joins, judge, mergeOf}
-use Rattle.merge.specs.Inner.{Inside, Grows, partsFrom, section, insertedIn, faultOf, textParts, textIn, Few, Laid, Holds, Ordered, Joining}
+use Rattle.merge.specs.Joined.{together, both-books}
+use Rattle.merge.specs.Merge.{Outcome, faulty, joins, judge, merge-of}
+use Rattle.merge.specs.Inner.{Inside, Grows, parts-from, section, inserted-in, fault-of, text-parts, text-in, Few, Laid, Holds, Ordered, Joining}
 use Rattle.merge.proofs.Joins.{NamesFit}
 use Rattle.merge.proofs.Laying.{holds-kept}
 use Rattle.merge.proofs.Joinings.{few, first-faulty, second-faulty, both-read, judged, start-laid, fluents-few, ordered, text-laid}
@@ -35,14 +36,14 @@ module _ (d : tie.After-told2) where
   abbrev t : List ℕ
   t = now (d .before .before .before .before .before .before .before .args .second)
 
-  one : (a : Book) × (readSheet s ≡ written a) × (d .before .before .before .told .result .start ≡ a .start)
+  one : (a : Book) × (read-sheet s ≡ written a) × (d .before .before .before .told .result .start ≡ a .start)
   one = told-written s (d .before .before .before .told .result) (d .before .before .before .told .ensures) (d .before .if1 .left)
 
 module _ (d : tie.Else2) where
-  first : (a : Book) × (readSheet (s (d .before .before)) ≡ written a) × (d .before .before .before .before .before .told .result .start ≡ a .start)
+  first : (a : Book) × (read-sheet (s (d .before .before)) ≡ written a) × (d .before .before .before .before .before .told .result .start ≡ a .start)
   first = one (d .before .before)
 
-  second : (b : Book) × (readSheet (t (d .before .before)) ≡ written b) × (d .before .before .told2 .result .start ≡ b .start)
+  second : (b : Book) × (read-sheet (t (d .before .before)) ≡ written b) × (d .before .before .told2 .result .start ≡ b .start)
   second = told-written (t (d .before .before)) (d .before .before .told2 .result) (d .before .before .told2 .ensures) (d .if2 .left)
 
 returns : tie.Need-returns
@@ -84,7 +85,7 @@ returns-3 c =
 
 -- the names fit
 module _ (d : tie.Else3) where
-  fits : NamesFit (first (d .before .before .before .before .before .before .before) .0) (second (d .before .before .before .before .before .before .before) .0) × (length (bothBooks (first (d .before .before .before .before .before .before .before) .0) (second (d .before .before .before .before .before .before .before) .0) .rules) ≤ 256) × (judge (first (d .before .before .before .before .before .before .before) .0) (second (d .before .before .before .before .before .before .before) .0) ≡ cond (ltb 65536 (length (textOf (bothBooks (first (d .before .before .before .before .before .before .before) .0) (second (d .before .before .before .before .before .before .before) .0))))) (faulty 10 0 0) (joins (first (d .before .before .before .before .before .before .before) .0) (second (d .before .before .before .before .before .before .before) .0)))
+  fits : NamesFit (first (d .before .before .before .before .before .before .before) .0) (second (d .before .before .before .before .before .before .before) .0) × (length (both-books (first (d .before .before .before .before .before .before .before) .0) (second (d .before .before .before .before .before .before .before) .0) .rules) ≤ 256) × (judge (first (d .before .before .before .before .before .before .before) .0) (second (d .before .before .before .before .before .before .before) .0) ≡ cond (ltb 65536 (length (text-of (both-books (first (d .before .before .before .before .before .before .before) .0) (second (d .before .before .before .before .before .before .before) .0))))) (faulty refusals.too-long 0 0) (joins (first (d .before .before .before .before .before .before .before) .0) (second (d .before .before .before .before .before .before .before) .0)))
   fits = judged _ _ (first (d .before .before .before .before .before .before .before) .0) (second (d .before .before .before .before .before .before .before) .0) (first (d .before .before .before .before .before .before .before) .1) (second (d .before .before .before .before .before .before .before) .1) .yes (sym (d .before .fault .ensures) ∙ d .if3 .left)
 
 -- both starts together, and those that hold
@@ -98,7 +99,7 @@ module _ (d : tie.After-starts) where
   abbrev B : Book
   B = second (z .before .before .before .before .before .before .before) .0
 
-  started : d .starts .result .0 ≡ bothBooks A B .start
+  started : d .starts .result .0 ≡ both-books A B .start
   started =
       d .starts .ensures
       ∙ start-laid _ _ _ (z .before .before .before .before .before .lay .result) A B (first (z .before .before .before .before .before .before .before) .1) (second (z .before .before .before .before .before .before .before) .1) (z .before .before .before .before .before .lay .ensures) (fits z .0) (d .before .before .of .result .0) (d .before .of2 .result .0) (d .before .before .of .ensures ∙ second (z .before .before .before .before .before .before .before) .2) (d .before .of2 .ensures ∙ first (z .before .before .before .before .before .before .before) .2)
@@ -127,13 +128,13 @@ module _ (d : tie.After-held) where
   y = d .before .before
 
   grown : Grows (length (now (d .before .before .before .before .before .before .before .before .before .before .before .before .before .before .before .before .before .before .before .before .before .before .before .args .first))) (now (d .before .before .before .before .before .before .before .before .before .before .before .before .before .before .before .before .before .before .before .before .before .before .before .args .first) ++ now (d .before .before .before .before .before .before .before .before .before .before .before .before .before .before .before .before .before .before .before .before .before .before .before .args .second)) (d .before .before .before .before .before .before .before .before .before .before .before .before .lay .last .1 .1 .0) (d .before .before .before .before .before .before .before .before .before .before .before .before .lay .result .end) (d .held .last .0) (d .held .result)
-      (holding 0 (d .before .before .starts .result .0) (partsFrom (now (d .before .before .before .before .before .before .before .before .before .before .before .before .before .before .before .before .before .before .before .before .before .before .before .args .first) ++ now (d .before .before .before .before .before .before .before .before .before .before .before .before .before .before .before .before .before .before .before .before .before .before .before .args .second)) (d .before .before .before .before .before .before .before .before .before .before .before .before .lay .last .1 .1 .0) (d .before .before .before .before .before .before .before .before .before .before .before .before .lay .result .fluents .own) (d .before .before .before .before .before .before .before .before .before .before .before .before .lay .result .fluents .end - d .before .before .before .before .before .before .before .before .before .before .before .before .lay .result .fluents .own)))
+      (holding 0 (d .before .before .starts .result .0) (parts-from (now (d .before .before .before .before .before .before .before .before .before .before .before .before .before .before .before .before .before .before .before .before .before .before .before .args .first) ++ now (d .before .before .before .before .before .before .before .before .before .before .before .before .before .before .before .before .before .before .before .before .before .before .before .args .second)) (d .before .before .before .before .before .before .before .before .before .before .before .before .lay .last .1 .1 .0) (d .before .before .before .before .before .before .before .before .before .before .before .before .lay .result .fluents .own) (d .before .before .before .before .before .before .before .before .before .before .before .before .lay .result .fluents .end - d .before .before .before .before .before .before .before .before .before .before .before .before .lay .result .fluents .own)))
   grown = d .held .ensures (length (now (d .before .before .before .before .before .before .before .before .before .before .before .before .before .before .before .before .before .before .before .before .before .before .before .args .first))) (now (d .before .before .before .before .before .before .before .before .before .before .before .before .before .before .before .before .before .before .before .before .before .before .before .args .first) ++ now (d .before .before .before .before .before .before .before .before .before .before .before .before .before .before .before .before .before .before .before .before .before .before .before .args .second)) (d .before .before .before .before .before .before .before .before .before .before .before .before .lay .ensures .inside)
 
   all-ordered : Ordered (d .before .before .before .before .before .before .before .before .before .before .before .before .lay .result) (d .held .result)
   all-ordered = ordered _ _ _ (d .before .before .before .before .before .before .before .before .before .before .before .before .lay .result) (A y) (B y) (first (z y .before .before .before .before .before .before .before) .1) (second (z y .before .before .before .before .before .before .before) .1) (d .before .before .before .before .before .before .before .before .before .before .before .before .lay .ensures) (fits (z y) .0) (d .held .last .0) (d .held .result) (d .before .before .starts .result .0) (started y) grown
 
-  all-text : textIn (now (d .before .before .before .before .before .before .before .before .before .before .before .before .before .before .before .before .before .before .before .before .before .before .before .args .first) ++ now (d .before .before .before .before .before .before .before .before .before .before .before .before .before .before .before .before .before .before .before .before .before .before .before .args .second)) (d .held .last .0) (d .before .before .before .before .before .before .before .before .before .before .before .before .lay .result) (d .held .result) ≡ textOf (bothBooks (A y) (B y))
+  all-text : text-in (now (d .before .before .before .before .before .before .before .before .before .before .before .before .before .before .before .before .before .before .before .before .before .before .before .args .first) ++ now (d .before .before .before .before .before .before .before .before .before .before .before .before .before .before .before .before .before .before .before .before .before .before .before .args .second)) (d .held .last .0) (d .before .before .before .before .before .before .before .before .before .before .before .before .lay .result) (d .held .result) ≡ text-of (both-books (A y) (B y))
   all-text = text-laid _ _ _ (d .before .before .before .before .before .before .before .before .before .before .before .before .lay .result) (A y) (B y) (first (z y .before .before .before .before .before .before .before) .1) (second (z y .before .before .before .before .before .before .before) .1) (d .before .before .before .before .before .before .before .before .before .before .before .before .lay .ensures) (fits (z y) .0) (d .held .last .0) (d .held .result) (d .before .before .starts .result .0) (started y) grown
 
 text-size-requires : tie.Need-text-size-requires
@@ -151,8 +152,8 @@ returns-4 c =
     let b = B (y d) in
     let (i, j, k) = c .refused4 .ensures in
     let n = c .before .before .text-size .ensures ∙ ap length (all-text d) in
-    let l = lt-ltb 65536 (length (textOf (bothBooks a b))) (omega (arith, c .before .if4 .taken)) in
-    let h = both-read _ _ a b (first (z (y d) .before .before .before .before .before .before .before) .1) (second (z (y d) .before .before .before .before .before .before .before) .1) ∙ fits (z (y d)) .2 ∙ ap (λ (v : Bool). cond v (faulty 10 0 0) (joins a b)) l in
+    let l = lt-ltb 65536 (length (text-of (both-books a b))) (omega (arith, c .before .if4 .taken)) in
+    let h = both-read _ _ a b (first (z (y d) .before .before .before .before .before .before .before) .1) (second (z (y d) .before .before .before .before .before .before .before) .1) ∙ fits (z (y d)) .2 ∙ ap (λ (v : Bool). cond v (faulty refusals.too-long 0 0) (joins a b)) l in
     (λ x. h ∙ rw (i, j, k) refl, λ x. absurd (omega (arith, i)))
 
 returns-5 : tie.Need-returns-5
@@ -161,8 +162,8 @@ returns-5 c =
     let a = A (y d) in
     let b = B (y d) in
     let n = c .before .text-size .ensures ∙ ap length (all-text d) in
-    let l = le-ltb 65536 (length (textOf (bothBooks a b))) (omega (arith, c .if4 .left)) in
-    let h = both-read _ _ a b (first (z (y d) .before .before .before .before .before .before .before) .1) (second (z (y d) .before .before .before .before .before .before .before) .1) ∙ fits (z (y d)) .2 ∙ ap (λ (v : Bool). cond v (faulty 10 0 0) (joins a b)) l in
+    let l = le-ltb 65536 (length (text-of (both-books a b))) (omega (arith, c .if4 .left)) in
+    let h = both-read _ _ a b (first (z (y d) .before .before .before .before .before .before .before) .1) (second (z (y d) .before .before .before .before .before .before .before) .1) ∙ fits (z (y d)) .2 ∙ ap (λ (v : Bool). cond v (faulty refusals.too-long 0 0) (joins a b)) l in
     let L = d .before .before .before .before .before .before .before .before .before .before .before .before .lay .ensures in
     let (o, p, q, r) = L .order in (
       λ x. absurd (x refl),

@@ -6,12 +6,12 @@ use Prim.Native.Nat.{ℕ, _≤_, _<_}
 use native.Mathlib.Omega.{arith}
 use denote.Ref.{now}
 use lib.ListN.{length, drop}
-use Rattle.writer.specs.Text.{textOf}
+use Rattle.writer.specs.Text.{text-of}
 use Rattle.writer.specs.Writer.{over}
 use Rattle.writer.proofs.Filling.{filled-first}
-use Rattle.merge.specs.Joined.{bothBooks}
-use Rattle.merge.specs.Merge.{said, mergeOf}
-use Rattle.merge.specs.Inner.{textIn}
+use Rattle.merge.specs.Joined.{both-books}
+use Rattle.merge.specs.Merge.{said, merge-of}
+use Rattle.merge.specs.Inner.{text-in}
 use Rattle.merge.proofs.Outcomes.{faulty-result, faulty-out, short-result, short-out, merged-result, merged-out}
 use Rattle.merge.proofs.merge.Statement.{statement}
 use Rattle.merge.proofs.merge.Tie as tie
@@ -28,7 +28,7 @@ returns-2 c =
     let a = c .before .before .before .before .before .before .before .before .args in
     let J = c .before .before .before .join .ensures .1 (c .before .if1 .left) in
     let n = J .size in
-    let l : length (now (a .out)) < length (textOf (bothBooks (J .ours) (J .theirs))) = omega (arith, c .if2 .taken) in
+    let l : length (now (a .out)) < length (text-of (both-books (J .ours) (J .theirs))) = omega (arith, c .if2 .taken) in
     (sym (short-result (now (a .out)) _ (J .ours) (J .theirs) (J .joined) l), sym (short-out (now (a .out)) _ (J .ours) (J .theirs) (J .joined) l))
 
 put-text-requires : tie.Need-put-text-requires
@@ -44,11 +44,11 @@ returns-3 c =
     let x = c .before .before .put-text in
     let J = c .before .before .before .before .before .before .before .before .join .ensures .1 (c .before .before .before .before .before .before .if1 .left) in
     let o = now (a .out) in
-    let T = textOf (bothBooks (J .ours) (J .theirs)) in
+    let T = text-of (both-books (J .ours) (J .theirs)) in
     let n = J .size in
     let l : length T ≤ length o = omega (arith, c .before .before .before .before .before .if2 .left) in
     let f = x .ensures .1 o [] (filled-first o) in
-    let W = textIn (now (a .first) ++ now (a .second)) (c .before .before .before .before .before .before .before .before .join .last .1 .1 .0) (c .before .before .before .before .before .before .before .before .join .result .layout) (c .before .before .before .before .before .before .before .before .join .result .held) in (
+    let W = text-in (now (a .first) ++ now (a .second)) (c .before .before .before .before .before .before .before .before .join .last .1 .1 .0) (c .before .before .before .before .before .before .before .before .join .result .layout) (c .before .before .before .before .before .before .before .before .join .result .held) in (
       ap (λ (n : ℕ). said 0 0 0 n) n ∙ sym (merged-result o _ (J .ours) (J .theirs) (J .joined) l),
       f .is ∙ ap (λ (n : ℕ). W ++ drop n o) (f .here) ∙ ap (λ (y : List ℕ). over y o) (J .is) ∙ sym (merged-out o _ (J .ours) (J .theirs) (J .joined) l),
     )

@@ -10,7 +10,7 @@ use denote.Ref.{now}
 use lib.Dec.{eqb}
 use lib.ListN.{length, take, drop}
 use Rattle.merge.specs.declared.Part.{Part}
-use Rattle.merge.specs.MergedName.{partOfTwo, addressOfTwo}
+use Rattle.merge.specs.MergedName.{part-of-two, address-of-two}
 use Rattle.merge.proofs.MergedSpans.{part-within}
 use Rattle.merge.proofs.merged_fluent.Statement.{statement}
 use Rattle.merge.proofs.merged_fluent.Tie as tie
@@ -37,8 +37,8 @@ returns c =
     let r = p .result in
     let v = eq-eqb (r .sheet) 2 (c .before .if1 .taken) in
     let e : r .at + r .len - r .at ≡ r .len = omega arith in (
-      ap (λ (n : ℕ). take n (drop (r .at) (now (a .second)))) e ∙ ap (λ (w : Bool). take (r .len) (drop (r .at) (cond w (now (a .second)) (now (a .first))))) (sym v) ∙ ap (partOfTwo (now (a .first)) (now (a .second))) (p .ensures),
-      ap (λ (w : Bool). ((cond w (a .second .ptr) (a .first .ptr)) .0, r .at + (cond w (a .second .ptr) (a .first .ptr)) .1)) (sym v) ∙ ap (addressOfTwo (a .first .ptr) (a .second .ptr)) (p .ensures),
+      ap (λ (n : ℕ). take n (drop (r .at) (now (a .second)))) e ∙ ap (λ (w : Bool). take (r .len) (drop (r .at) (cond w (now (a .second)) (now (a .first))))) (sym v) ∙ ap (part-of-two (now (a .first)) (now (a .second))) (p .ensures),
+      ap (λ (w : Bool). ((cond w (a .second .ptr) (a .first .ptr)) .0, r .at + (cond w (a .second .ptr) (a .first .ptr)) .1)) (sym v) ∙ ap (address-of-two (a .first .ptr) (a .second .ptr)) (p .ensures),
     )
 
 part-result-end-2 : tie.Need-part-result-end-2
@@ -51,8 +51,8 @@ returns-2 c =
     let r = p .result in
     let v = ne-eqb (r .sheet) 2 (c .before .if1 .left) in
     let e : r .at + r .len - r .at ≡ r .len = omega arith in (
-      ap (λ (n : ℕ). take n (drop (r .at) (now (a .first)))) e ∙ ap (λ (w : Bool). take (r .len) (drop (r .at) (cond w (now (a .second)) (now (a .first))))) (sym v) ∙ ap (partOfTwo (now (a .first)) (now (a .second))) (p .ensures),
-      ap (λ (w : Bool). ((cond w (a .second .ptr) (a .first .ptr)) .0, r .at + (cond w (a .second .ptr) (a .first .ptr)) .1)) (sym v) ∙ ap (addressOfTwo (a .first .ptr) (a .second .ptr)) (p .ensures),
+      ap (λ (n : ℕ). take n (drop (r .at) (now (a .first)))) e ∙ ap (λ (w : Bool). take (r .len) (drop (r .at) (cond w (now (a .second)) (now (a .first))))) (sym v) ∙ ap (part-of-two (now (a .first)) (now (a .second))) (p .ensures),
+      ap (λ (w : Bool). ((cond w (a .second .ptr) (a .first .ptr)) .0, r .at + (cond w (a .second .ptr) (a .first .ptr)) .1)) (sym v) ∙ ap (address-of-two (a .first .ptr) (a .second .ptr)) (p .ensures),
     )
 
 pub merged-fluent-spec : {M : Type 1} → statement M

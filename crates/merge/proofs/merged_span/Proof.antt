@@ -11,10 +11,10 @@ use denote.Ref.{now}
 use lib.ListN.{length, getD}
 use Rattle.chars.specs.Places.{place}
 use Rattle.sheet.specs.declared.Span.{Span}
-use Rattle.sheet.specs.FluentName.{nameSpan}
-use Rattle.merge.specs.MergedName.{partIn, broughtBy, mergedSpan}
-use Rattle.merge.specs.Joined.{bothBooks}
-use Rattle.merge.specs.Inner.{Joining, partAt, partsFrom}
+use Rattle.sheet.specs.FluentName.{name-span}
+use Rattle.merge.specs.MergedName.{part-in, brought-by, merged-span}
+use Rattle.merge.specs.Joined.{both-books}
+use Rattle.merge.specs.Inner.{Joining, part-at, parts-from}
 use Rattle.merge.proofs.Outcomes.{span-faulty, span-high, span-there}
 use Rattle.merge.proofs.SpanParts.{count-all, count-first, name-place}
 use Rattle.merge.proofs.merged_span.Statement.{statement}
@@ -58,9 +58,9 @@ returns-3 c =
     let n = count-all s t (x .last .1 .1 .0) (x .result) J in
     let m = count-first s t (x .last .1 .1 .0) (x .result) J in
     let (i, j, k) = J .fluents .order in
-    c .part-in .ensures ∙ ap (partIn 1) (c .before .fluent-span .ensures)
+    c .part-in .ensures ∙ ap (part-in 1) (c .before .fluent-span .ensures)
     ∙ sym (span-there s t (a .number) (J .ours) (J .theirs) (J .joined) (omega (arith, c .before .before .before .before .before .if2 .left))
-    ∙ ap (λ (v : Bool). cond v (partIn 1 (nameSpan s (a .number))) (partIn 2 (nameSpan t (place (getD (bothBooks (J .ours) (J .theirs) .names .fluents) (a .number) []) (J .theirs .names .fluents))))) (lt-ltb (a .number) (length (J .ours .names .fluents)) (omega (arith, c .before .before .if3 .taken))))
+    ∙ ap (λ (v : Bool). cond v (part-in 1 (name-span s (a .number))) (part-in 2 (name-span t (place (getD (both-books (J .ours) (J .theirs) .names .fluents) (a .number) []) (J .theirs .names .fluents))))) (lt-ltb (a .number) (length (J .ours .names .fluents)) (omega (arith, c .before .before .if3 .taken))))
 
 find-requires : tie.Need-find-requires
 find-requires c κs =
@@ -82,11 +82,11 @@ returns-4 c =
     let m = count-first s t (x .last .1 .1 .0) (x .result) J in
     let (i, j, k) = J .fluents .order in
     let f = c .before .before .before .find .ensures .0 in
-    let l : a .number < length (bothBooks (J .ours) (J .theirs) .names .fluents) = omega (arith, c .before .before .before .before .before .before .before .before .if2 .left) in
+    let l : a .number < length (both-books (J .ours) (J .theirs) .names .fluents) = omega (arith, c .before .before .before .before .before .before .before .before .if2 .left) in
     let e = name-place s t (x .last .1 .1 .0) (x .result) J (a .number) l in
-    c .part-in2 .ensures ∙ ap (partIn 2) (c .before .fluent-span2 .ensures ∙ ap (nameSpan t) (omega arith))
+    c .part-in2 .ensures ∙ ap (part-in 2) (c .before .fluent-span2 .ensures ∙ ap (name-span t) (omega arith))
     ∙ sym (span-there s t (a .number) (J .ours) (J .theirs) (J .joined) l
-    ∙ ap (λ (v : Bool). cond v (partIn 1 (nameSpan s (a .number))) (partIn 2 (nameSpan t (place (getD (bothBooks (J .ours) (J .theirs) .names .fluents) (a .number) []) (J .theirs .names .fluents))))) (le-ltb (a .number) (length (J .ours .names .fluents)) (omega (arith, c .before .before .before .before .before .if3 .left))))
+    ∙ ap (λ (v : Bool). cond v (part-in 1 (name-span s (a .number))) (part-in 2 (name-span t (place (getD (both-books (J .ours) (J .theirs) .names .fluents) (a .number) []) (J .theirs .names .fluents))))) (le-ltb (a .number) (length (J .ours .names .fluents)) (omega (arith, c .before .before .before .before .before .if3 .left))))
 
 pub merged-span-spec : {M : Type 1} → statement M
 merged-span-spec =

@@ -8,12 +8,12 @@ use denote.Ref.{now}
 use lib.ListN.{length, length-append}
 use Rattle.chars.specs.Bytes.{text, LF}
 use Rattle.writer.proofs.Filling.{gives-then, gives-as}
-use Rattle.merge.specs.Inner.{partsFrom, wrapped, startParts}
+use Rattle.merge.specs.Inner.{parts-from, wrapped, start-parts}
 use Rattle.merge.proofs.put_start.Statement.{statement}
 use Rattle.merge.proofs.put_start.Tie as tie
 
 -- how long the line is
-size : (H : List (List ℕ)) → length (startParts H) ≡ 6 + length (wrapped [] [] H)
+size : (H : List (List ℕ)) → length (start-parts H) ≡ 6 + length (wrapped [] [] H)
 size H =
     let i = length-append (text "start" ++ wrapped [] [] H) (LF ∷ []) in
     let j = length-append (text "start") (wrapped [] [] H) in
@@ -22,14 +22,14 @@ size H =
 put-part-requires : tie.Need-put-part-requires
 put-part-requires c κs =
     let a = c .before .before .before .before .before .before .args in
-    let n = size (partsFrom (now (a .first) ++ now (a .second)) (now (a .list)) (a .lo) (a .hi - a .lo)) in
+    let n = size (parts-from (now (a .first) ++ now (a .second)) (now (a .list)) (a .lo) (a .hi - a .lo)) in
     let p = c .before .before .before .before .before .before .pre .1 .1 in
     (omega arith, omega arith, omega arith)
 
 put-all-requires : tie.Need-put-all-requires
 put-all-requires c κs =
     let a = c .before .before .before .before .before .before .before .before .before .before .before .before .args in
-    let n = size (partsFrom (now (a .first) ++ now (a .second)) (now (a .list)) (a .lo) (a .hi - a .lo)) in
+    let n = size (parts-from (now (a .first) ++ now (a .second)) (now (a .list)) (a .lo) (a .hi - a .lo)) in
     let p = c .before .before .before .before .before .before .before .before .before .before .before .before .pre .1 .1 in
     let x = c .before .before .before .before .before .put-part in
     let i = x .ensures .0 in
@@ -39,7 +39,7 @@ put-all-requires c κs =
 put-requires : tie.Need-put-requires
 put-requires c κs =
     let a = c .before .before .before .before .before .before .before .before .before .before .before .before .before .before .before .before .args in
-    let n = size (partsFrom (now (a .first) ++ now (a .second)) (now (a .list)) (a .lo) (a .hi - a .lo)) in
+    let n = size (parts-from (now (a .first) ++ now (a .second)) (now (a .list)) (a .lo) (a .hi - a .lo)) in
     let p = c .before .before .before .before .before .before .before .before .before .before .before .before .before .before .before .before .pre .1 .1 in
     let x = c .before .before .before .before .before .before .before .before .before .put-part in
     let y = c .before .before .before .put-all in
@@ -52,7 +52,7 @@ put-requires c κs =
 returns : tie.Need-returns
 returns c =
     let a = c .before .before .before .before .before .before .before .before .before .before .before .before .before .before .before .before .before .before .before .args in
-    let H = partsFrom (now (a .first) ++ now (a .second)) (now (a .list)) (a .lo) (a .hi - a .lo) in
+    let H = parts-from (now (a .first) ++ now (a .second)) (now (a .list)) (a .lo) (a .hi - a .lo) in
     let W = wrapped [] [] H in
     let n = size H in
     let x = c .before .before .before .before .before .before .before .before .before .before .before .before .put-part in

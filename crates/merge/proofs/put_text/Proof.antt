@@ -9,28 +9,28 @@ use lib.ListN.{length, length-append}
 use Rattle.chars.specs.Bytes.{text, LF}
 use Rattle.writer.proofs.Filling.{gives-then, gives-as}
 use Rattle.merge.specs.declared.Layout.{Layout}
-use Rattle.merge.specs.Inner.{partsFrom, wrapped, startParts, textIn}
+use Rattle.merge.specs.Inner.{parts-from, wrapped, start-parts, text-in}
 use Rattle.merge.proofs.put_text.Statement.{statement}
 use Rattle.merge.proofs.put_text.Tie as tie
 
 -- the five pieces
 module _ (u z : List ℕ) (l : Layout) (held : ℕ) where
   abbrev F : List ℕ
-  F = wrapped (text "fluent") (LF ∷ []) (partsFrom u z (l .fluents .own) (l .fluents .end - l .fluents .own))
+  F = wrapped (text "fluent") (LF ∷ []) (parts-from u z (l .fluents .own) (l .fluents .end - l .fluents .own))
 
   abbrev C : List ℕ
-  C = wrapped (text "action") (LF ∷ []) (partsFrom u z (l .actions .own) (l .actions .end - l .actions .own))
+  C = wrapped (text "action") (LF ∷ []) (parts-from u z (l .actions .own) (l .actions .end - l .actions .own))
 
   abbrev R : List ℕ
-  R = wrapped (text "rule") (LF ∷ []) (partsFrom u z (l .rules .own) (l .rules .end - l .rules .own))
+  R = wrapped (text "rule") (LF ∷ []) (parts-from u z (l .rules .own) (l .rules .end - l .rules .own))
 
   abbrev S : List ℕ
-  S = startParts (partsFrom u z (l .end) (held - l .end))
+  S = start-parts (parts-from u z (l .end) (held - l .end))
 
   abbrev G : List ℕ
-  G = wrapped (text "goal") (LF ∷ []) (partsFrom u z (l .rules .end) (l .end - l .rules .end))
+  G = wrapped (text "goal") (LF ∷ []) (parts-from u z (l .rules .end) (l .end - l .rules .end))
 
-  size : length (textIn u z l held) ≡ length F + (length C + (length R + (length S + length G)))
+  size : length (text-in u z l held) ≡ length F + (length C + (length R + (length S + length G)))
   size =
       let a = length-append F (C ++ (R ++ (S ++ G))) in
       let b = length-append C (R ++ (S ++ G)) in

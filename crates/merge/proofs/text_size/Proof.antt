@@ -7,7 +7,7 @@ use native.Mathlib.Omega.{arith}
 use denote.Ref.{now}
 use lib.ListN.{length}
 use Rattle.chars.specs.Bytes.{text, LF}
-use Rattle.merge.specs.Inner.{partsFrom, textIn}
+use Rattle.merge.specs.Inner.{parts-from, text-in}
 use Rattle.merge.proofs.Laying.{text-length}
 use Rattle.merge.proofs.text_size.Statement.{statement}
 use Rattle.merge.proofs.text_size.Tie as tie
@@ -63,7 +63,7 @@ returns c =
     let u = now (a .first) ++ now (a .second) in
     let z = now (a .list) in
     let l = a .l in
-    let t = text-length (partsFrom u z (l .fluents .own) (l .fluents .end - l .fluents .own)) (partsFrom u z (l .actions .own) (l .actions .end - l .actions .own)) (partsFrom u z (l .rules .own) (l .rules .end - l .rules .own)) (partsFrom u z (l .end) (a .held - l .end)) (partsFrom u z (l .rules .end) (l .end - l .rules .end)) in
+    let t = text-length (parts-from u z (l .fluents .own) (l .fluents .end - l .fluents .own)) (parts-from u z (l .actions .own) (l .actions .end - l .actions .own)) (parts-from u z (l .rules .own) (l .rules .end - l .rules .own)) (parts-from u z (l .end) (a .held - l .end)) (parts-from u z (l .rules .end) (l .end - l .rules .end)) in
     let f = c .before .before .before .before .size .ensures .0 (text "fluent") (LF ∷ []) refl in
     let g = c .before .before .before .size2 .ensures .0 (text "action") (LF ∷ []) refl in
     let r = c .before .before .size3 .ensures .0 (text "rule") (LF ∷ []) refl in

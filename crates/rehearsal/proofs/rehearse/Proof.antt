@@ -17,12 +17,6 @@ refusal-at x = record { refusal = x .refusal; line = x .line; ends = 0; calls = 
 read : (c : tie.Else1) → Read (c .before .before .before .before .before .before .before .args .text .now) (c .before .before .before .read .last .1 .0) (c .before .before .before .read .result)
 read c = let a = c .before .before .before in read-accepted (a .before .before .before .before .args .text .now) (replicate 4608 0) refl (a .read .last .1 .0) (a .read .result) (a .read .ensures .0) (a .read .ensures .1) (c .if1 .left)
 
-slice-aggregate-read : tie.Need-slice-aggregate-read
-slice-aggregate-read c = search needs
-
-read-requires : tie.Need-read-requires
-read-requires c κs = search needs
-
 returns : tie.Need-returns
 returns c =
     let a = c .before .before .before in
@@ -44,18 +38,6 @@ array-share-prefix-goal c = goal-fits (read (c .before .before))
 slice-aggregate-evaluate-2 : tie.Need-slice-aggregate-evaluate-2
 slice-aggregate-evaluate-2 c = sym (length-take-le _ _ (goal-fits (read (c .before .before .before))))
 
-slice-aggregate-evaluate-3 : tie.Need-slice-aggregate-evaluate-3
-slice-aggregate-evaluate-3 c = search needs
-
-slice-aggregate-evaluate-4 : tie.Need-slice-aggregate-evaluate-4
-slice-aggregate-evaluate-4 c = search needs
-
-evaluate-requires : tie.Need-evaluate-requires
-evaluate-requires c κs = search needs
-
-same-length : tie.Need-same-length
-same-length c = search needs
-
 returns-2 : tie.Need-returns-2
 returns-2 c =
     let v = c .before .before .before .before in
@@ -66,16 +48,16 @@ pub rehearse-spec : {M : Type 1} → statement M
 rehearse-spec =
     tie.close
     (tie.spec
-    slice-aggregate-read
-    read-requires
+    (λ c. search needs)
+    (λ c κs. search needs)
     returns
     mul-used
     array-share-prefix-words
     slice-aggregate-evaluate
     array-share-prefix-goal
     slice-aggregate-evaluate-2
-    slice-aggregate-evaluate-3
-    slice-aggregate-evaluate-4
-    evaluate-requires
-    same-length
+    (λ c. search needs)
+    (λ c. search needs)
+    (λ c κs. search needs)
+    (λ c. search needs)
     returns-2)

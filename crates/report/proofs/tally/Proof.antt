@@ -10,7 +10,7 @@ use lib.ListN.{length, getD}
 use borrow.Author.Needs.{needs}
 use borrow.Author.Tests.{eq-eqb, ne-eqb}
 use Rattle.steps.specs.State.{bit}
-use Rattle.steps.specs.Acceptance.{each-below, bad-start}
+use Rattle.steps.specs.Acceptance.{each-below, bad-state}
 use Rattle.steps.proofs.EachBelow.{true-not-false, each-none, each-more, each-not}
 use Rattle.report.specs.Figures.{sum-below, held}
 use Rattle.report.specs.Outcome.{bad-ends}
@@ -20,17 +20,17 @@ use Rattle.report.proofs.tally.Statement.{statement}
 use Rattle.report.proofs.tally.Tie as tie
 
 -- whether an end is bad is seen from its bits at or above the fluent count
-bad-at : (fluents s rest : ℕ) → rest ≡ s / 2 ^ fluents → rest ≢ 0 → not (bad-start fluents s) ≡ false
-unfolding bad-start
+bad-at : (fluents s rest : ℕ) → rest ≡ s / 2 ^ fluents → rest ≢ 0 → not (bad-state fluents s) ≡ false
+unfolding bad-state
 bad-at fluents s rest e ne = ap (λ (t : Bool). not (not t)) (ne-eqb _ 0 (λ z. ne (e ∙ z)))
 
-good-at : (fluents s rest : ℕ) → rest ≡ s / 2 ^ fluents → rest ≡ 0 → not (bad-start fluents s) ≡ true
-unfolding bad-start
+good-at : (fluents s rest : ℕ) → rest ≡ s / 2 ^ fluents → rest ≡ 0 → not (bad-state fluents s) ≡ true
+unfolding bad-state
 good-at fluents s rest e z = ap (λ (t : Bool). not (not t)) (eq-eqb _ 0 (sym e ∙ z))
 
 abbrev Inv-loop : tie.InvT-loop
 Inv-loop fluents ends counts₀ sum₀ i₀ counts sum i =
-    (i ≤ length ends) × (length counts ≡ 64) × (each-below i (λ i. not (bad-start fluents (getD ends i 0))) ≡ true)
+    (i ≤ length ends) × (length counts ≡ 64) × (each-below i (λ i. not (bad-state fluents (getD ends i 0))) ≡ true)
     × (sum ≡ sum-below i (λ i. held (getD ends i 0))) × ((k : ℕ) → k < fluents → getD counts k 0 ≡ sum-below i (λ i. bit (getD ends i 0) k))
 
 abbrev μ-loop : tie.MeasureT-loop

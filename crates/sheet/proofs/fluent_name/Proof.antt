@@ -5,7 +5,7 @@ use native.Mathlib.Omega.{arith}
 use denote.Ref.{now}
 use lib.ListN.{length, take, drop}
 use Rattle.sheet.specs.declared.Span.{Span}
-use Rattle.sheet.specs.FluentName.{partOf, addressOf}
+use Rattle.sheet.specs.FluentName.{part-of, address-of}
 use Rattle.sheet.proofs.FluentNames.{span-within}
 use borrow.Author.Needs.{needs}
 use Rattle.sheet.proofs.fluent_name.Statement.{statement}
@@ -39,8 +39,8 @@ returns c =
     let p = c .before .before .fluent-span in
     let r = p .result in
     let e : r .at + r .len - r .at ≡ r .len = omega arith in
-    let bytes = ap (λ (n : ℕ). take n (drop (r .at) (now (a .sheet)))) e ∙ ap (partOf (now (a .sheet))) (p .ensures) in
-    (bytes, ap (addressOf (a .sheet .ptr)) (p .ensures))
+    let bytes = ap (λ (n : ℕ). take n (drop (r .at) (now (a .sheet)))) e ∙ ap (part-of (now (a .sheet))) (p .ensures) in
+    (bytes, ap (address-of (a .sheet .ptr)) (p .ensures))
 
 pub fluent-name-spec : {M : Type 1} → statement M
 fluent-name-spec =

@@ -2,7 +2,7 @@
 use mathlib.Core.Path.{sym, _∙_}
 use native.Mathlib.Omega.{arith}
 use denote.Ref.{now}
-use Rattle.sheet.specs.Held.{bookOf}
+use Rattle.sheet.specs.Held.{book-in}
 use Rattle.sheet.proofs.Kept.{outcome-ok, outcome-no, fluents-length}
 use Rattle.sheet.proofs.Spans.{span-refused, span-high, span-fluent}
 use borrow.Author.Needs.{needs}
@@ -34,7 +34,7 @@ returns-2 c =
     let b = x .result .said in
     let o = sym (x .ensures .says) ∙ outcome-ok s w (x .result .line) b (c .before .if1 .left) in
     let l = fluents-length s w b in
-    sym (span-high s (a .number) (bookOf s w b) o (omega (arith, c .if2 .taken)))
+    sym (span-high s (a .number) (book-in s w b) o (omega (arith, c .if2 .taken)))
 
 name-in-requires : tie.Need-name-in-requires
 name-in-requires c κs = search needs
@@ -48,7 +48,7 @@ returns-3 c =
     let b = x .result .said in
     let o = sym (x .ensures .says) ∙ outcome-ok s w (x .result .line) b (c .before .before .if1 .left) in
     let l = fluents-length s w b in
-    c .name-in .ensures ∙ sym (span-fluent s (a .number) (bookOf s w b) o (omega (arith, c .before .if2 .left)))
+    c .name-in .ensures ∙ sym (span-fluent s (a .number) (book-in s w b) o (omega (arith, c .before .if2 .left)))
 
 pub fluent-span-spec : {M : Type 1} → statement M
 fluent-span-spec =

@@ -8,14 +8,14 @@ use denote.Ref.{now}
 use lib.ListN.{length, drop}
 use Rattle.chars.specs.Pieces.{lines}
 use Rattle.chars.proofs.Ends.{lines-gone}
-use Rattle.sheet.specs.FluentName.{nameIn}
+use Rattle.sheet.specs.FluentName.{name-in}
 use Rattle.sheet.proofs.Spans.{name-passed, name-later, name-here, name-nowhere}
 use borrow.Author.Needs.{needs}
 use Rattle.sheet.proofs.name_in.Statement.{statement}
 use Rattle.sheet.proofs.name_in.Tie as tie
 
 abbrev Inv-loop : tie.InvT-loop
-Inv-loop s k at₀ left₀ t7 at left = (at ≤ length s + 1) × (nameIn 0 k (lines s) ≡ nameIn at left (lines (drop at s)))
+Inv-loop s k at₀ left₀ t7 at left = (at ≤ length s + 1) × (name-in 0 k (lines s) ≡ name-in at left (lines (drop at s)))
 
 abbrev μ-loop : tie.MeasureT-loop
 μ-loop s k at₀ left₀ t7 at left = length s + 1 - at
@@ -74,8 +74,8 @@ loop-again c =
     let i = x .ensures .within in (
       omega arith,
       ⊎-elim
-          (λ p. h ∙ name-later s (l .at) (x .result) (z .result) (f .result) (l .left) ls (z .ensures) (f .ensures) (x .ensures .within) (sym (w .ensures) ∙ p .0 .taken) (p .1 .left) ∙ ap (λ (j : ℕ). nameIn (x .result + 1) j ls) (sym (p .2)))
-          (λ p. h ∙ name-passed s (l .at) (x .result) (z .result) (f .result) (l .left) ls (z .ensures) (f .ensures) (x .ensures .within) (sym (w .ensures) ∙ p .0 .left) ∙ ap (λ (j : ℕ). nameIn (x .result + 1) j ls) (sym (p .1)))
+          (λ p. h ∙ name-later s (l .at) (x .result) (z .result) (f .result) (l .left) ls (z .ensures) (f .ensures) (x .ensures .within) (sym (w .ensures) ∙ p .0 .taken) (p .1 .left) ∙ ap (λ (j : ℕ). name-in (x .result + 1) j ls) (sym (p .2)))
+          (λ p. h ∙ name-passed s (l .at) (x .result) (z .result) (f .result) (l .left) ls (z .ensures) (f .ensures) (x .ensures .within) (sym (w .ensures) ∙ p .0 .left) ∙ ap (λ (j : ℕ). name-in (x .result + 1) j ls) (sym (p .1)))
           (c .if1 .came),
     )
 

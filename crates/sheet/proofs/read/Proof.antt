@@ -3,7 +3,7 @@ use mathlib.Core.Path.{sym, _∙_}
 use native.Mathlib.Omega.{arith}
 use denote.Ref.{now}
 use lib.ListN.{length}
-use Rattle.sheet.specs.Reader.{readSheet}
+use Rattle.sheet.specs.Reader.{read-sheet}
 use Rattle.sheet.proofs.Kept.{outcome-ok, outcome-no}
 use Rattle.sheet.proofs.Results.{result-refused, rules-refused, result-short, rules-short, result-read, rules-read}
 use borrow.Author.Needs.{needs}
@@ -27,7 +27,7 @@ returns c =
     let w = x .last .1 .0 in
     let b = x .result .said in
     let o = sym (x .ensures .says) ∙ outcome-no s w (x .result .line) b (c .before .if1 .taken) in
-    (c .refused .ensures ∙ sym (result-refused (length m) m (readSheet s) (b .refusal) (x .result .line) o), sym (rules-refused (length m) m (readSheet s) (b .refusal) (x .result .line) o))
+    (c .refused .ensures ∙ sym (result-refused (length m) m (read-sheet s) (b .refusal) (x .result .line) o), sym (rules-refused (length m) m (read-sheet s) (b .refusal) (x .result .line) o))
 
 mul-if2 : tie.Need-mul-if2
 mul-if2 c =
@@ -45,7 +45,7 @@ returns-2 c =
     let w = x .last .1 .0 in
     let b = x .result .said in
     let o = sym (x .ensures .says) ∙ outcome-ok s w (x .result .line) b (c .before .before .if1 .left) in
-    (c .refused2 .ensures ∙ sym (result-short m s w b (readSheet s) o (c .before .if2 .taken)), sym (rules-short m s w b (readSheet s) o (c .before .if2 .taken)))
+    (c .refused2 .ensures ∙ sym (result-short m s w b (read-sheet s) o (c .before .if2 .taken)), sym (rules-short m s w b (read-sheet s) o (c .before .if2 .taken)))
 
 slice-aggregate-copy-words : tie.Need-slice-aggregate-copy-words
 slice-aggregate-copy-words c = search needs
@@ -72,7 +72,7 @@ returns-3 c =
     let b = x .result .said in
     let o = sym (x .ensures .says) ∙ outcome-ok s w (x .result .line) b (c .before .before .before .before .before .before .before .before .before .if1 .left) in
     let k = x .ensures .keeps (c .before .before .before .before .before .before .before .before .before .if1 .left) in
-    (sym (result-read m s w b (readSheet s) o (c .before .before .before .before .before .before .before .before .if2 .left) k), c .before .before .before .before .before .copy-words .ensures ∙ sym (rules-read m s w b (readSheet s) o (c .before .before .before .before .before .before .before .before .if2 .left) k))
+    (sym (result-read m s w b (read-sheet s) o (c .before .before .before .before .before .before .before .before .if2 .left) k), c .before .before .before .before .before .copy-words .ensures ∙ sym (rules-read m s w b (read-sheet s) o (c .before .before .before .before .before .before .before .before .if2 .left) k))
 
 pub read-spec : {M : Type 1} → statement M
 read-spec =

@@ -4,11 +4,12 @@ use mathlib.Core.Logic.{⊎-elim}
 use Prim.Native.Nat.{ℕ}
 use borrow.Author.Tests.{eqb-false}
 use denote.Ref.{now}
-use Rattle.sheet.specs.Reader.{readSheet, refused}
-use Rattle.sheet.specs.Held.{bookOf}
+use Rattle.refusals.specs.Refusals as refusals
+use Rattle.sheet.specs.Reader.{read-sheet, refused}
+use Rattle.sheet.specs.Held.{reading-in}
 use Rattle.sheet.proofs.Verdicts.{answer-ok, answer-no}
-use Rattle.sheet.proofs.Kept.{outcome-ok, outcome-no}
-use Rattle.sheet.proofs.Results.{sheet-fault, sheet-refused, sheet-read, sheet-no-start, sheet-no-goal}
+use Rattle.sheet.proofs.Kept.{outcome-ok, outcome-no, ending-ok, ending-no}
+use Rattle.sheet.proofs.Results.{sheet-fault, sheet-lines, sheet-read, sheet-no-start, sheet-no-goal}
 use borrow.Author.Needs.{needs}
 use Rattle.sheet.proofs.scan_sheet.Statement.{statement}
 use Rattle.sheet.proofs.scan_sheet.Tie as tie
@@ -45,14 +46,13 @@ returns-2 c =
     let b = x .result .said in
     let n = x .result .line in
     let f = sym (c .before .before .before .before .before .before .before .whole-refusal .ensures) ∙ answer-ok (c .before .before .before .before .before .before .before .whole-refusal .result) tt (c .before .before .before .before .before .before .if1 .left) in
-    let o = sheet-refused s f (b .refusal) n (sym (x .ensures .says) ∙ outcome-no s w n b (c .if2 .taken)) in
+    let o = sheet-lines s f ∙ sym (x .ensures .says) ∙ ending-no s w n b (c .if2 .taken) in
     record { says = outcome-no s w n b (c .if2 .taken) ∙ sym o; keeps = x .ensures .keeps; size = x .ensures .size }
 
 same-length-2 : tie.Need-same-length-2
 same-length-2 c = search needs
 
 returns-3 : tie.Need-returns-3
-unfolding bookOf
 returns-3 c =
     let s = now (c .before .before .before .before .before .before .before .before .before .before .before .before .args .s) in
     let x = c .before .before .before .before .before .before .read-lines in
@@ -61,7 +61,7 @@ returns-3 c =
     let n = x .result .line in
     let f = sym (c .before .before .before .before .before .before .before .before .before .whole-refusal .ensures) ∙ answer-ok (c .before .before .before .before .before .before .before .before .before .whole-refusal .result) tt (c .before .before .before .before .before .before .before .before .if1 .left) in
     let z = c .before .before .if2 .left in
-    let o = sheet-read s f (bookOf s w b) (sym (x .ensures .says) ∙ outcome-ok s w n b z) (c .before .if3 .taken) (c .if4 .taken) in
+    let o = sheet-read s f (reading-in s w b) (sym (x .ensures .says) ∙ ending-ok s w n b z) (c .before .if3 .taken) (c .if4 .taken) in
     record { says = outcome-ok s w n b z ∙ sym o; keeps = x .ensures .keeps; size = x .ensures .size }
 
 blank-requires-2 : tie.Need-blank-requires-2
@@ -71,7 +71,6 @@ same-length-3 : tie.Need-same-length-3
 same-length-3 c = search needs
 
 returns-4 : tie.Need-returns-4
-unfolding bookOf
 returns-4 c =
     let s = now (c .before .before .before .before .before .before .before .before .before .before .before .before .args .s) in
     let x = c .before .before .before .before .before .before .read-lines in
@@ -80,9 +79,9 @@ returns-4 c =
     let n = x .result .line in
     let f = sym (c .before .before .before .before .before .before .before .before .before .whole-refusal .ensures) ∙ answer-ok (c .before .before .before .before .before .before .before .before .before .whole-refusal .result) tt (c .before .before .before .before .before .before .before .before .if1 .left) in
     let z = c .before .before .if2 .left in
-    let y = sym (x .ensures .says) ∙ outcome-ok s w n b z in
-    let o : readSheet s ≡ refused 18 0 = ⊎-elim (λ v. sheet-no-goal s f (bookOf s w b) y (v .1 .left)) (λ v. sheet-no-start s f (bookOf s w b) y (v .left)) (c .before .if3 .came) in
-    let u : c .blank2 .result .refusal ≡ 0 → ⊥ = λ e. eqb-false 18 0 refl (sym (c .blank2 .ensures) ∙ e) in
+    let y = sym (x .ensures .says) ∙ ending-ok s w n b z in
+    let o : read-sheet s ≡ refused refusals.incomplete 0 = ⊎-elim (λ v. sheet-no-goal s f (reading-in s w b) y (v .1 .left)) (λ v. sheet-no-start s f (reading-in s w b) y (v .left)) (c .before .if3 .came) in
+    let u : c .blank2 .result .refusal ≡ 0 → ⊥ = λ e. eqb-false refusals.incomplete 0 refl (sym (c .blank2 .ensures) ∙ e) in
     record { says = outcome-no s w 0 (c .blank2 .result) u ∙ ap (λ (i : ℕ). refused i 0) (c .blank2 .ensures) ∙ sym o; keeps = λ e. absurd (u e); size = x .ensures .size }
 
 pub scan-sheet-spec : {M : Type 1} → statement M

@@ -9,10 +9,10 @@ use Rattle.steps.specs.Words.{is-call}
 use Rattle.steps.specs.Elementary.{elementary}
 use Rattle.steps.specs.Next.{onward}
 use Rattle.tabling.proofs.Evidence.{Among}
-use Rattle.tabling.proofs.Uses.{uses-refl}
+use Rattle.notes.proofs.UsesLaws.{uses-refl}
 use Rattle.tabling.proofs.Measure.{left-on}
-use Rattle.tabling.proofs.Turn.{turn-forward, turn-stuck}
-use Rattle.tabling.proofs.Going.{tail-some, tail-none, tail-word}
+use Rattle.loops.proofs.Turn.{turn-forward, turn-stuck}
+use Rattle.loops.proofs.Going.{tail-some, tail-none, tail-word}
 use Rattle.walk.specs.Outcome.{past-of}
 use Rattle.walk.proofs.advance.Statement.{statement}
 use Rattle.walk.proofs.advance.Tie as tie
@@ -23,12 +23,6 @@ start c = c .before .before .before .before .before .before .before
 
 finish-requires : tie.Need-finish-requires
 finish-requires c κs = let i = start (c .before .before .before .before) in (i .pre .0 .0 .answers-stored, i .pre .1 .of-answers, i .pre .0 .4)
-
-same-length : tie.Need-same-length
-same-length c = search needs
-
-same-length-2 : tie.Need-same-length-2
-same-length-2 c = search needs
 
 returns : tie.Need-returns
 returns c =
@@ -46,35 +40,11 @@ returns c =
       λ bodies roots b notes body q T. rw (f .0 .2) (f .1 .1 bodies roots b notes body (a .calls .now) (a .marks .now) (a .uses .now) (a .at) (tail-none (a .rest .now) body (a .at) q (omega (arith, t .if1 .taken))) T),
     )
 
-shared-slice-read-step : tie.Need-shared-slice-read-step
-shared-slice-read-step c = search needs
-
-is-call-requires : tie.Need-is-call-requires
-is-call-requires c κs = search needs
-
 enter-requires : tie.Need-enter-requires
 enter-requires c κs =
     let d = c .before .before .before .before .before .before .before .before .before .before in
     let i = start (d .before) in
     ((i .pre .0 .0, i .pre .0 .1, omega (arith, i .pre .0 .2, d .if1 .left), i .pre .0 .3, i .pre .0 .4, i .pre .0 .5), i .pre .1)
-
-same-length-3 : tie.Need-same-length-3
-same-length-3 c = search needs
-
-same-length-4 : tie.Need-same-length-4
-same-length-4 c = search needs
-
-same-length-5 : tie.Need-same-length-5
-same-length-5 c = search needs
-
-same-length-6 : tie.Need-same-length-6
-same-length-6 c = search needs
-
-same-length-7 : tie.Need-same-length-7
-same-length-7 c = search needs
-
-same-length-8 : tie.Need-same-length-8
-same-length-8 c = search needs
 
 returns-2 : tie.Need-returns-2
 returns-2 c =
@@ -95,21 +65,6 @@ returns-2 c =
           (let w = tail-word (a .rest .now) body (a .at) q in
           rw (f .0 .2) (f .1 .1 bodies roots b notes body (tail-some (a .rest .now) body (a .at) q (omega (arith, d .if1 .left))) (rw w at yes) (sym w) q T)),
     )
-
-elementary-requires : tie.Need-elementary-requires
-elementary-requires c κs = search needs
-
-enum-known-next : tie.Need-enum-known-next
-enum-known-next c = search needs
-
-mul-chosen : tie.Need-mul-chosen
-mul-chosen c = search needs
-
-element-write-chosen : tie.Need-element-write-chosen
-element-write-chosen c = search needs
-
-enum-told : tie.Need-enum-told
-enum-told c = search needs
 
 returns-3 : tie.Need-returns-3
 unfolding onward
@@ -150,23 +105,23 @@ advance-spec =
     tie.close
     (tie.spec
     finish-requires
-    same-length
-    same-length-2
+    (λ c. search needs)
+    (λ c. search needs)
     returns
-    shared-slice-read-step
-    is-call-requires
+    (λ c. search needs)
+    (λ c κs. search needs)
     enter-requires
-    same-length-3
-    same-length-4
-    same-length-5
-    same-length-6
-    same-length-7
-    same-length-8
+    (λ c. search needs)
+    (λ c. search needs)
+    (λ c. search needs)
+    (λ c. search needs)
+    (λ c. search needs)
+    (λ c. search needs)
     returns-2
-    elementary-requires
-    enum-known-next
-    mul-chosen
-    element-write-chosen
-    enum-told
+    (λ c κs. search needs)
+    (λ c. search needs)
+    (λ c. search needs)
+    (λ c. search needs)
+    (λ c. search needs)
     returns-3
     returns-4)

@@ -2,15 +2,12 @@
 use mathlib.Core.Path.{refl, sym, _∙_}
 use lib.ListN.{length}
 use borrow.Author.Needs.{needs}
-use Rattle.tabling.specs.Records.{room}
+use Rattle.records.specs.Records.{room, call-width}
 use Rattle.tabling.proofs.Evidence.{Among}
-use Rattle.tabling.proofs.Turn.{turn-ended, turn-answers-full}
+use Rattle.loops.proofs.Turn.{turn-ended, turn-answers-full}
 use Rattle.walk.specs.Outcome.{past-of}
 use Rattle.walk.proofs.finish.Statement.{statement}
 use Rattle.walk.proofs.finish.Tie as tie
-
-add-answer-requires : tie.Need-add-answer-requires
-add-answer-requires c κs = search needs
 
 same-length : tie.Need-same-length
 same-length c = c .before .before .before .before .before .add-answer .ensures .0 .long
@@ -23,7 +20,7 @@ returns c =
     let x = c .before .before .before .before .before .add-answer .ensures in
     let j = c .before .before .before .before .before .before .before .before .before .before .args .job in (
       (x .0 .long, x .0 .stored, refl),
-      (x .1, λ bodies roots b notes body calls marks uses at h T. turn-answers-full bodies (Among roots) b (j .known) (j .rule) (j .row) (j .walk) (past-of j notes) body T h (room 2 (length calls)) (x .0 .put) (c .if1 .taken)),
+      (x .1, λ bodies roots b notes body calls marks uses at h T. turn-answers-full bodies (Among roots) b (j .known) (j .rule) (j .row) (j .walk) (past-of j notes) body T h (room call-width (length calls)) (x .0 .put) (c .if1 .taken)),
     )
 
 same-length-3 : tie.Need-same-length-3
@@ -44,7 +41,7 @@ pub finish-spec : {M : Type 1} → statement M
 finish-spec =
     tie.close
     (tie.spec
-    add-answer-requires
+    (λ c κs. search needs)
     same-length
     same-length-2
     returns

@@ -1,8 +1,8 @@
 -- `first_of` meets its contract. Assumes nothing.
 use native.Mathlib.Omega.{arith}
 use mathlib.Core.List.{List}
-use Rattle.tabling.proofs.Turn.{of-all, of-looked, of-new}
-use Rattle.tabling.proofs.Going.{tail-last}
+use Rattle.loops.proofs.Turn.{of-all, of-looked, of-new}
+use Rattle.loops.proofs.Going.{tail-last}
 use borrow.Author.Needs.{needs}
 use Rattle.walk.proofs.first_of.Statement.{statement}
 use Rattle.walk.proofs.first_of.Tie as tie

@@ -6,22 +6,10 @@ use borrow.Author.Needs.{needs}
 use Rattle.walk.proofs.go_back.Statement.{statement}
 use Rattle.walk.proofs.go_back.Tie as tie
 
-retreat-requires : tie.Need-retreat-requires
-retreat-requires c κs = search needs
-
 returns : tie.Need-returns
 returns c =
     let r = c .before .retreat in
     record { j = r .result .answer; row = rw (c .if1 .taken) at (r .ensures); taken = λ p e. absurd (omega arith) }
-
-sub-chosen : tie.Need-sub-chosen
-sub-chosen c = search needs
-
-mul-chosen : tie.Need-mul-chosen
-mul-chosen c = search needs
-
-element-write-chosen : tie.Need-element-write-chosen
-element-write-chosen c = search needs
 
 -- the answer is one of those known
 answer-below : (c : tie.Else1) → c .before .retreat .result .answer < c .before .before .before .before .before .before .args .known
@@ -42,11 +30,11 @@ pub go-back-spec : {M : Type 1} → statement M
 go-back-spec =
     tie.close
     (tie.spec
-    retreat-requires
+    (λ c κs. search needs)
     returns
-    sub-chosen
-    mul-chosen
-    element-write-chosen
+    (λ c. search needs)
+    (λ c. search needs)
+    (λ c. search needs)
     final-of-requires
     add-t15
     returns-2)

@@ -7,14 +7,14 @@ use borrow.Author.Needs.{needs}
 use lib.ListN.{getD}
 use Rattle.steps.specs.Words.{is-call}
 use Rattle.steps.proofs.EachBelow.{true-not-false}
-use Rattle.tabling.specs.Records.{answers-in}
+use Rattle.records.specs.Records.{answer-table}
 use Rattle.tabling.proofs.Sweep.{from-here}
-use Rattle.tabling.proofs.Turn.{SpentRow}
+use Rattle.loops.proofs.Turn.{SpentRow}
 use Rattle.walk.proofs.retreat.Statement.{statement}
 use Rattle.walk.proofs.retreat.Tie as tie
 
 abbrev Inv-loop : tie.InvT-loop
-Inv-loop body answers known index chosen at place₀ place = (place ≤ at) × ((q : ℕ) → place ≤ q → q < at → SpentRow body (answers-in 19 answers known) known chosen q)
+Inv-loop body answers known index chosen at place₀ place = (place ≤ at) × ((q : ℕ) → place ≤ q → q < at → SpentRow body (answer-table answers known) known chosen q)
 
 abbrev μ-loop : tie.MeasureT-loop
 μ-loop body answers known index chosen at place₀ place = place
@@ -30,9 +30,6 @@ mul-is-call c = omega arith
 
 shared-slice-read-is-call : tie.Need-shared-slice-read-is-call Inv-loop μ-loop
 shared-slice-read-is-call c = omega arith
-
-is-call-requires : tie.Need-is-call-requires Inv-loop μ-loop
-is-call-requires c κs = search needs
 
 -- at a call step: the step is a call, and its chosen answer is one
 a-call : (c : tie.Then1 Inv-loop μ-loop) → is-call (getD (c .before .before .before .before .before .before .before .before .args .body .now) (c .before .before .before .before .loop .place - 1) 0) ≡ true
@@ -71,7 +68,7 @@ loop-again c =
     let a = l .before .before .before .before .args in
     let n = c .before .later-answer .ensures in
     let e : c .before .later-answer .result ≡ a .known = omega (arith, n .high, c .if2 .left) in
-    (omega arith, from-here (SpentRow (a .body .now) (answers-in 19 (a .answers .now) (a .known)) (a .known) (a .chosen .now)) (λ q b d. l .loop .inv .1 q (omega arith) d) (λ k y b d f. n .skipped y b (rw e d) f))
+    (omega arith, from-here (SpentRow (a .body .now) (answer-table (a .answers .now) (a .known)) (a .known) (a .chosen .now)) (λ q b d. l .loop .inv .1 q (omega arith) d) (λ k y b d f. n .skipped y b (rw e d) f))
 
 loop-less-2 : tie.Need-loop-less-2 Inv-loop μ-loop
 loop-less-2 c = omega arith
@@ -81,7 +78,7 @@ loop-again-2 c =
     let l = c .before .before .before .before in
     let a = l .before .before .before .before .args in
     let no : is-call (getD (a .body .now) (l .loop .place - 1) 0) ≡ false = sym (c .before .is-call .ensures) ∙ c .if1 .left in
-    (omega arith, from-here (SpentRow (a .body .now) (answers-in 19 (a .answers .now) (a .known)) (a .known) (a .chosen .now)) (λ q b d. l .loop .inv .1 q (omega arith) d) (λ k. absurd (true-not-false (sym k ∙ no))))
+    (omega arith, from-here (SpentRow (a .body .now) (answer-table (a .answers .now) (a .known)) (a .known) (a .chosen .now)) (λ q b d. l .loop .inv .1 q (omega arith) d) (λ k. absurd (true-not-false (sym k ∙ no))))
 
 returns-2 : tie.Need-returns-2 Inv-loop μ-loop
 returns-2 c = record { low = omega arith; spent = λ q a b. c .before .loop .inv .1 q (omega arith) b; found = λ p e. absurd (omega arith) }
@@ -90,20 +87,6 @@ pub retreat-spec : {M : Type 1} → statement M
 retreat-spec =
     tie.close
     (tie.spec
-    Inv-loop
-    μ-loop
-    loop-holds
-    sub-place
-    mul-is-call
-    shared-slice-read-is-call
-    is-call-requires
-    mul-last
-    element-copy-out-last
-    later-answer-requires
-    add-t20
-    returns
-    loop-less
-    loop-again
-    loop-less-2
-    loop-again-2
-    returns-2)
+    Inv-loop μ-loop loop-holds sub-place mul-is-call shared-slice-read-is-call
+    (λ c κs. search needs) mul-last element-copy-out-last later-answer-requires add-t20 returns
+    loop-less loop-again loop-less-2 loop-again-2 returns-2)

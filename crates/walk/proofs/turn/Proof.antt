@@ -5,13 +5,13 @@ use mathlib.Core.Path.{_≡_, ap, subst}
 use mathlib.Core.List.{List}
 use lib.ListN.{length}
 use borrow.Author.Needs.{needs}
-use Rattle.tabling.specs.Records.{Bodies}
-use Rattle.tabling.proofs.Growth.{Tables}
+use Rattle.records.specs.Records.{Bodies}
+use Rattle.records.proofs.Growth.{Tables}
 use Rattle.tabling.proofs.Evidence.{Among}
-use Rattle.tabling.proofs.Walking.{chosen-of}
+use Rattle.loops.proofs.Walking.{chosen-of}
 use Rattle.tabling.proofs.Measure.{left}
-use Rattle.tabling.proofs.Turn.{Turned, body-short}
-use Rattle.tabling.proofs.Going.{Going, going-fits, in-words, went-over, went-on}
+use Rattle.loops.proofs.Turn.{Turned, body-short}
+use Rattle.loops.proofs.Going.{Going, going-fits, in-words, went-over, went-on}
 use Rattle.walk.specs.declared.Job.{Job}
 use Rattle.walk.specs.declared.Front.{Front}
 use Rattle.walk.specs.declared.Front.the-variants as front
@@ -40,15 +40,6 @@ advance-requires c κs =
       (i .pre .0 .0, T .stamped, omega (arith, fits i, short i), omega (arith, T .given .enough, T .grew .answers-more), omega (arith, i .pre .0 .0 .calls-stored .most, T .given .row-in, T .grew .calls-more), i .pre .0 .2),
       i .pre .0 .1,
     )
-
-enum-known-front : tie.Need-enum-known-front
-enum-known-front c = search needs
-
-enum-told : tie.Need-enum-told
-enum-told c = search needs
-
-enum-told-2 : tie.Need-enum-told-2
-enum-told-2 c = search needs
 
 -- where nothing is left from here on
 module _ (v : tie.After-advance) (e : v .advance .result .front ≡ front.Spent) (bodies : Bodies) (roots : List (ℕ × ℕ)) (b : Tables) (notes : List ℕ) where
@@ -82,24 +73,6 @@ go-back-requires c κs =
       (v .advance .result .answers, low, k .fits, s .indexed .of-answers),
     )
 
-same-length : tie.Need-same-length
-same-length c = search needs
-
-same-length-2 : tie.Need-same-length-2
-same-length-2 c = search needs
-
-same-length-3 : tie.Need-same-length-3
-same-length-3 c = search needs
-
-same-length-4 : tie.Need-same-length-4
-same-length-4 c = search needs
-
-same-length-5 : tie.Need-same-length-5
-same-length-5 c = search needs
-
-same-length-6 : tie.Need-same-length-6
-same-length-6 c = search needs
-
 returns : tie.Need-returns
 returns c =
     let g = c .before .before in
@@ -111,69 +84,15 @@ returns c =
           (spent v (c .before .before .before .before .before .before .enum-told2 .given .1) bodies roots b notes G .0) (g .go-back .ensures) (c .if1 .taken),
     )
 
-same-length-7 : tie.Need-same-length-7
-same-length-7 c = search needs
-
-same-length-8 : tie.Need-same-length-8
-same-length-8 c = search needs
-
-same-length-9 : tie.Need-same-length-9
-same-length-9 c = search needs
-
-same-length-10 : tie.Need-same-length-10
-same-length-10 c = search needs
-
-same-length-11 : tie.Need-same-length-11
-same-length-11 c = search needs
-
-same-length-12 : tie.Need-same-length-12
-same-length-12 c = search needs
-
 returns-2 : tie.Need-returns-2
 returns-2 c =
     let v = c .before .before .before .before .before .before .before .before .before .before .before .before .before .before .before in
     (v .advance .ensures .0, λ bodies roots b notes G. rw (c .before .front .given .1) at (v .advance .ensures .1 bodies roots b notes _ (G .tail) (G .turning)))
 
-same-length-13 : tie.Need-same-length-13
-same-length-13 c = search needs
-
-same-length-14 : tie.Need-same-length-14
-same-length-14 c = search needs
-
-same-length-15 : tie.Need-same-length-15
-same-length-15 c = search needs
-
-same-length-16 : tie.Need-same-length-16
-same-length-16 c = search needs
-
-same-length-17 : tie.Need-same-length-17
-same-length-17 c = search needs
-
-same-length-18 : tie.Need-same-length-18
-same-length-18 c = search needs
-
 returns-3 : tie.Need-returns-3
 returns-3 c =
     let v = c .before .before .before .before .before .before .before .before .before .before .before .before .before .before in
     (v .advance .ensures .0, λ bodies roots b notes G. rw (c .enum-told .given .1) at (v .advance .ensures .1 bodies roots b notes _ (G .tail) (G .turning)))
-
-same-length-19 : tie.Need-same-length-19
-same-length-19 c = search needs
-
-same-length-20 : tie.Need-same-length-20
-same-length-20 c = search needs
-
-same-length-21 : tie.Need-same-length-21
-same-length-21 c = search needs
-
-same-length-22 : tie.Need-same-length-22
-same-length-22 c = search needs
-
-same-length-23 : tie.Need-same-length-23
-same-length-23 c = search needs
-
-same-length-24 : tie.Need-same-length-24
-same-length-24 c = search needs
 
 returns-4 : tie.Need-returns-4
 returns-4 c =
@@ -196,35 +115,35 @@ turn-spec =
     (tie.spec
     sub-at
     advance-requires
-    enum-known-front
-    enum-told
-    enum-told-2
+    (λ c. search needs)
+    (λ c. search needs)
+    (λ c. search needs)
     go-back-requires
-    same-length
-    same-length-2
-    same-length-3
-    same-length-4
-    same-length-5
-    same-length-6
+    (λ c. search needs)
+    (λ c. search needs)
+    (λ c. search needs)
+    (λ c. search needs)
+    (λ c. search needs)
+    (λ c. search needs)
     returns
-    same-length-7
-    same-length-8
-    same-length-9
-    same-length-10
-    same-length-11
-    same-length-12
+    (λ c. search needs)
+    (λ c. search needs)
+    (λ c. search needs)
+    (λ c. search needs)
+    (λ c. search needs)
+    (λ c. search needs)
     returns-2
-    same-length-13
-    same-length-14
-    same-length-15
-    same-length-16
-    same-length-17
-    same-length-18
+    (λ c. search needs)
+    (λ c. search needs)
+    (λ c. search needs)
+    (λ c. search needs)
+    (λ c. search needs)
+    (λ c. search needs)
     returns-3
-    same-length-19
-    same-length-20
-    same-length-21
-    same-length-22
-    same-length-23
-    same-length-24
+    (λ c. search needs)
+    (λ c. search needs)
+    (λ c. search needs)
+    (λ c. search needs)
+    (λ c. search needs)
+    (λ c. search needs)
     returns-4)

@@ -12,7 +12,7 @@ use lib.Seq.{slice, length-slice}
 use Rattle.chars.specs.Bytes.{text}
 use Rattle.chars.specs.Pieces.{fields, bare}
 use Rattle.chars.specs.Places.{same}
-use Rattle.writer.specs.Inner.{heldPiece}
+use Rattle.writer.specs.Inner.{held-piece}
 use Rattle.writer.proofs.Filling.{gives-none, gives-as}
 use Rattle.writer.proofs.LinePieces.{first-of, tail-of, held-other, held-not, held-here, next-other, next-fluent}
 use Rattle.writer.proofs.put_held.Statement.{statement}
@@ -64,7 +64,7 @@ returns c =
     let o = now (a .out) in
     let p = held-other (a .k) (a .start .0) (this d) w in
     let n = ap length p in
-    ((omega arith, gives-as o o [] (heldPiece (a .k) (a .start .0) (this d)) (a .at) (a .at) (sym p) (gives-none o (a .at))), (sym (next-other (a .k) (a .start .0) (this d) w), omega arith))
+    ((omega arith, gives-as o o [] (held-piece (a .k) (a .start .0) (this d)) (a .at) (a .at) (sym p) (gives-none o (a .at))), (sym (next-other (a .k) (a .start .0) (this d) w), omega arith))
 
 holds-requires : tie.Need-holds-requires
 holds-requires c κs = search needs
@@ -81,7 +81,7 @@ returns-2 c =
     let p = held-not (a .k) (a .start .0) (this d) (sym (c .before .holds .ensures) ∙ not-true _ (c .if2 .taken)) in
     let n = ap length p in
     let x = next-fluent (a .k) (a .start .0) (this d) w in
-    ((omega arith, gives-as o o [] (heldPiece (a .k) (a .start .0) (this d)) (a .at) (a .at) (sym p) (gives-none o (a .at))), (omega arith, omega arith))
+    ((omega arith, gives-as o o [] (held-piece (a .k) (a .start .0) (this d)) (a .at) (a .at) (sym p) (gives-none o (a .at))), (omega arith, omega arith))
 
 put-part-requires : tie.Need-put-part-requires
 put-part-requires c κs =
@@ -119,7 +119,7 @@ returns-3 c =
     let m = length-slice (word-end d) (end d) (sheet d) (omega arith) in
     let r = x .ensures .0 in
     let y = next-fluent (a .k) (a .start .0) (this d) (word d true w) in
-    ((omega arith, gives-as (now (a .out)) (x .last .0) (slice (word-end d) (end d) (sheet d)) (heldPiece (a .k) (a .start .0) (this d)) (a .at) (x .result) (sym p) (x .ensures .1)), (omega arith, omega arith))
+    ((omega arith, gives-as (now (a .out)) (x .last .0) (slice (word-end d) (end d) (sheet d)) (held-piece (a .k) (a .start .0) (this d)) (a .at) (x .result) (sym p) (x .ensures .1)), (omega arith, omega arith))
 
 pub put-held-spec : {M : Type 1} → statement M
 put-held-spec =

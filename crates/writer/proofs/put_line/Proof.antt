@@ -11,7 +11,7 @@ use lib.Seq.{slice, length-slice}
 use Rattle.chars.specs.Bytes.{text, LF, HASH, begins}
 use Rattle.chars.specs.Pieces.{lines, fields, bare}
 use Rattle.chars.specs.Places.{same}
-use Rattle.writer.specs.Inner.{startBytes, linePiece}
+use Rattle.writer.specs.Inner.{start-bytes, line-piece}
 use Rattle.writer.proofs.Filling.{gives-none, gives-then, gives-as}
 use Rattle.writer.proofs.LinePieces.{first-of, line-comment, line-start, line-other}
 use Rattle.writer.proofs.put_line.Statement.{statement}
@@ -31,7 +31,7 @@ abbrev end : tie.After-is-word → ℕ
 end d = d .before .before .before .bare-end .result
 
 abbrev piece : tie.After-is-word → List ℕ
-piece d = linePiece (entry d .args .start .0) (lines (sheet d)) (this d)
+piece d = line-piece (entry d .args .start .0) (lines (sheet d)) (this d)
 
 abbrev bytes : tie.After-is-word → List ℕ
 bytes d = slice (entry d .args .a) (end d) (sheet d) ++ (LF ∷ [])
@@ -47,7 +47,7 @@ module _ (d : tie.After-is-word) where
   no-comment : begins HASH (this d) ≡ false
   no-comment = sym (d .before .before .before .before .before .is-comment .ensures) ∙ d .before .before .before .before .if1 .left
 
-  is-start : d .is-word .result ≡ true → piece d ≡ startBytes (entry d .args .start .0) (lines (sheet d))
+  is-start : d .is-word .result ≡ true → piece d ≡ start-bytes (entry d .args .start .0) (lines (sheet d))
   is-start h = line-start (entry d .args .start .0) (lines (sheet d)) (this d) no-comment (word true h)
 
   is-other : d .is-word .result ≡ false → piece d ≡ bytes d
@@ -77,7 +77,7 @@ returns c =
     let all = lines (now (a .s)) in
     let p = line-comment (a .start .0) all l (sym (c .before .is-comment .ensures) ∙ c .if1 .taken) in
     let n = ap length p in
-    (omega arith, gives-as o o [] (linePiece (a .start .0) all l) (a .at) (a .at) (sym p) (gives-none o (a .at)))
+    (omega arith, gives-as o o [] (line-piece (a .start .0) all l) (a .at) (a .at) (sym p) (gives-none o (a .at)))
 
 bare-end-requires : tie.Need-bare-end-requires
 bare-end-requires c κs = search needs
@@ -109,7 +109,7 @@ returns-2 c =
     let p = is-start d (c .before .before .before .before .if2 .taken) in
     let n = ap length p in
     let i = x .ensures .0 in
-    (omega arith, gives-as (now (a .out)) (x .last .0) (startBytes (a .start .0) (lines (sheet d))) (piece d) (a .at) (x .result) (sym p) (x .ensures .1))
+    (omega arith, gives-as (now (a .out)) (x .last .0) (start-bytes (a .start .0) (lines (sheet d))) (piece d) (a .at) (x .result) (sym p) (x .ensures .1))
 
 put-part-requires : tie.Need-put-part-requires
 put-part-requires c κs =

@@ -10,7 +10,7 @@ use lib.ListN.{length, drop, length-append}
 use lib.Seq.{slice}
 use Rattle.chars.specs.Pieces.{lines}
 use Rattle.chars.proofs.Ends.{lines-gone}
-use Rattle.writer.specs.Inner.{linePiece, lineBytes}
+use Rattle.writer.specs.Inner.{line-piece, line-bytes}
 use Rattle.writer.proofs.Filling.{Gives, gives-none, gives-then, gives-as}
 use Rattle.writer.proofs.LinePieces.{line-more, line-none}
 use Rattle.writer.proofs.put_lines.Statement.{statement}
@@ -18,8 +18,8 @@ use Rattle.writer.proofs.put_lines.Tie as tie
 
 abbrev Inv-loop : tie.InvT-loop
 Inv-loop out₀ s start p₀ a₀ out p a =
-    (a ≤ length s + 1) × (p + length (lineBytes (start .0) (lines s) (lines (drop a s))) ≡ length (lineBytes (start .0) (lines s) (lines s))) × (length out ≡ length out₀)
-    × ((o : List ℕ) (q : ℕ) → Gives out p (lineBytes (start .0) (lines s) (lines (drop a s))) o q → Gives out₀ 0 (lineBytes (start .0) (lines s) (lines s)) o q)
+    (a ≤ length s + 1) × (p + length (line-bytes (start .0) (lines s) (lines (drop a s))) ≡ length (line-bytes (start .0) (lines s) (lines s))) × (length out ≡ length out₀)
+    × ((o : List ℕ) (q : ℕ) → Gives out p (line-bytes (start .0) (lines s) (lines (drop a s))) o q → Gives out₀ 0 (line-bytes (start .0) (lines s) (lines s)) o q)
 
 abbrev μ-loop : tie.MeasureT-loop
 μ-loop out₀ s start p₀ a₀ out p a = length s + 1 - a
@@ -31,8 +31,8 @@ line-end-requires : tie.Need-line-end-requires Inv-loop μ-loop
 line-end-requires c κs = search needs
 
 -- the bytes from a line on, by the line
-cut : (st : ℕ) (all : List (List ℕ)) (l : List ℕ) (ls ms : List (List ℕ)) → ms ≡ l ∷ ls → lineBytes st all ms ≡ linePiece st all l ++ lineBytes st all ls
-cut st all l ls ms e = ap (lineBytes st all) e ∙ line-more st all l ls
+cut : (st : ℕ) (all : List (List ℕ)) (l : List ℕ) (ls ms : List (List ℕ)) → ms ≡ l ∷ ls → line-bytes st all ms ≡ line-piece st all l ++ line-bytes st all ls
+cut st all l ls ms e = ap (line-bytes st all) e ∙ line-more st all l ls
 
 put-line-requires : tie.Need-put-line-requires Inv-loop μ-loop
 put-line-requires c κs =
@@ -42,7 +42,7 @@ put-line-requires c κs =
     let f = c .before .line-end in
     let t = slice (l .loop .a) (f .result) s in
     let ls = lines (drop (f .result + 1) s) in
-    let n = ap length (cut (a .start .0) (lines s) t ls (lines (drop (l .loop .a) s)) (f .ensures .cut)) ∙ length-append (linePiece (a .start .0) (lines s) t) (lineBytes (a .start .0) (lines s) ls) in
+    let n = ap length (cut (a .start .0) (lines s) t ls (lines (drop (l .loop .a) s)) (f .ensures .cut)) ∙ length-append (line-piece (a .start .0) (lines s) t) (line-bytes (a .start .0) (lines s) ls) in
     let pre = l .before .before .before .pre in
     let i = l .loop .inv .1 in
     let j = l .loop .inv .2 in
@@ -66,7 +66,7 @@ loop-again c =
     let ls = lines (drop (f .result + 1) s) in
     let from = lines (drop (l .loop .a) s) in
     let e = cut st (lines s) t ls from (f .ensures .cut) in
-    let n = ap length e ∙ length-append (linePiece st (lines s) t) (lineBytes st (lines s) ls) in
+    let n = ap length e ∙ length-append (line-piece st (lines s) t) (line-bytes st (lines s) ls) in
     let u = f .ensures .within in
     let w = x .ensures .0 in
     let i = l .loop .inv .1 in (
@@ -74,8 +74,8 @@ loop-again c =
       omega arith,
       x .kept .0 ∙ l .loop .inv .2,
       λ o q g. l .loop .inv .3 o q
-          (gives-as (l .loop .out) o (linePiece st (lines s) t ++ lineBytes st (lines s) ls) (lineBytes st (lines s) from) (l .loop .p) q (sym e)
-          (gives-then (l .loop .out) (x .last .0) o (linePiece st (lines s) t) (lineBytes st (lines s) ls) (l .loop .p) (x .result) q (x .ensures .1) g)),
+          (gives-as (l .loop .out) o (line-piece st (lines s) t ++ line-bytes st (lines s) ls) (line-bytes st (lines s) from) (l .loop .p) q (sym e)
+          (gives-then (l .loop .out) (x .last .0) o (line-piece st (lines s) t) (line-bytes st (lines s) ls) (l .loop .p) (x .result) q (x .ensures .1) g)),
     )
 
 same-length : tie.Need-same-length Inv-loop μ-loop
@@ -87,10 +87,10 @@ returns c =
     let a = l .before .before .before .args in
     let s = now (a .s) in
     let st = a .start .0 in
-    let e = ap (lineBytes st (lines s)) (lines-gone s (l .loop .a) (c .loop-test .left)) ∙ line-none st (lines s) in
+    let e = ap (line-bytes st (lines s)) (lines-gone s (l .loop .a) (c .loop-test .left)) ∙ line-none st (lines s) in
     let n = ap length e in
     let i = l .loop .inv .1 in
-    (omega arith, l .loop .inv .3 (l .loop .out) (l .loop .p) (gives-as (l .loop .out) (l .loop .out) [] (lineBytes st (lines s) (lines (drop (l .loop .a) s))) (l .loop .p) (l .loop .p) (sym e) (gives-none (l .loop .out) (l .loop .p))))
+    (omega arith, l .loop .inv .3 (l .loop .out) (l .loop .p) (gives-as (l .loop .out) (l .loop .out) [] (line-bytes st (lines s) (lines (drop (l .loop .a) s))) (l .loop .p) (l .loop .p) (sym e) (gives-none (l .loop .out) (l .loop .p))))
 
 pub put-lines-spec : {M : Type 1} → statement M
 put-lines-spec = tie.close (tie.spec Inv-loop μ-loop loop-holds line-end-requires put-line-requires add-a loop-less loop-again same-length returns)

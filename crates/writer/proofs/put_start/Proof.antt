@@ -6,9 +6,9 @@ use native.Mathlib.Omega.{arith}
 use denote.Ref.{now}
 use Rattle.chars.specs.Bytes.{text, LF}
 use Rattle.chars.specs.Pieces.{lines}
-use Rattle.writer.specs.Inner.{heldBytes, startBytes}
+use Rattle.writer.specs.Inner.{held-bytes, start-bytes}
 use Rattle.writer.proofs.Filling.{gives-then, gives-as}
-use Rattle.writer.proofs.LinePieces.{start-bytes, start-size}
+use Rattle.writer.proofs.LinePieces.{start-bytes-are, start-size}
 use Rattle.writer.proofs.put_start.Statement.{statement}
 use Rattle.writer.proofs.put_start.Tie as tie
 
@@ -56,13 +56,13 @@ returns c =
     let st = c .before .before .before .before .before .before .before .before .before .before .before .before .before .before .before in
     let a = st .args in
     let all = lines (now (a .s)) in
-    let held = heldBytes 0 (a .start .0) all in
+    let held = held-bytes 0 (a .start .0) all in
     let n = start-size (a .start .0) all in
     let i = x .ensures .0 in
     let k = y .ensures .0 in
     let j = z .ensures .0 in (
       omega arith,
-      gives-as (now (a .out)) (z .last .0) ((text "start" ++ held) ++ (LF ∷ [])) (startBytes (a .start .0) all) (a .at) (z .result) (sym (start-bytes (a .start .0) all))
+      gives-as (now (a .out)) (z .last .0) ((text "start" ++ held) ++ (LF ∷ [])) (start-bytes (a .start .0) all) (a .at) (z .result) (sym (start-bytes-are (a .start .0) all))
           (gives-then (now (a .out)) (y .last .0) (z .last .0) (text "start" ++ held) (LF ∷ []) (a .at) (y .result) (z .result)
           (gives-then (now (a .out)) (x .last .0) (y .last .0) (text "start") held (a .at) (x .result) (y .result) (x .ensures .1) (y .ensures .1))
           (z .ensures .1)),

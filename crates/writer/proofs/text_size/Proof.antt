@@ -10,13 +10,13 @@ use lib.ListN.{length, drop, length-append}
 use lib.Seq.{slice}
 use Rattle.chars.specs.Pieces.{lines}
 use Rattle.chars.proofs.Ends.{lines-gone}
-use Rattle.writer.specs.Inner.{plainPiece, plainBytes}
+use Rattle.writer.specs.Inner.{plain-piece, plain-bytes}
 use Rattle.writer.proofs.LinePieces.{plain-more, plain-none}
 use Rattle.writer.proofs.text_size.Statement.{statement}
 use Rattle.writer.proofs.text_size.Tie as tie
 
 abbrev Inv-loop : tie.InvT-loop
-Inv-loop s n₀ a₀ n a = (a ≤ length s + 1) × (n ≤ a) × (n + length (plainBytes (lines (drop a s))) ≡ length (plainBytes (lines s)))
+Inv-loop s n₀ a₀ n a = (a ≤ length s + 1) × (n ≤ a) × (n + length (plain-bytes (lines (drop a s))) ≡ length (plain-bytes (lines s)))
 
 abbrev μ-loop : tie.MeasureT-loop
 μ-loop s n₀ a₀ n a = length s + 1 - a
@@ -47,7 +47,7 @@ loop-again c =
     let x = c .line-size in
     let t = slice (l .loop .a) (f .result) s in
     let ls = lines (drop (f .result + 1) s) in
-    let h = ap (λ (m : List (List ℕ)). length (plainBytes m)) (f .ensures .cut) ∙ ap length (plain-more t ls) ∙ length-append (plainPiece t) (plainBytes ls) in
+    let h = ap (λ (m : List (List ℕ)). length (plain-bytes m)) (f .ensures .cut) ∙ ap length (plain-more t ls) ∙ length-append (plain-piece t) (plain-bytes ls) in
     let i = f .ensures .within in
     let j = x .ensures .0 in
     let k = x .ensures .1 in
@@ -57,7 +57,7 @@ returns : tie.Need-returns Inv-loop μ-loop
 returns c =
     let l = c .before in
     let s = now (l .before .before .args .s) in
-    let h = ap (λ (m : List (List ℕ)). length (plainBytes m)) (lines-gone s (l .loop .a) (c .loop-test .left)) ∙ ap length plain-none in
+    let h = ap (λ (m : List (List ℕ)). length (plain-bytes m)) (lines-gone s (l .loop .a) (c .loop-test .left)) ∙ ap length plain-none in
     omega arith
 
 pub text-size-spec : {M : Type 1} → statement M

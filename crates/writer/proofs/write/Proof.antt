@@ -8,10 +8,10 @@ use denote.Ref.{now}
 use lib.ListN.{length, drop}
 use Rattle.chars.specs.Pieces.{lines}
 use Rattle.sheet.specs.Book.{Book}
-use Rattle.sheet.specs.Reader.{readSheet, written}
-use Rattle.writer.specs.Text.{textOf}
+use Rattle.sheet.specs.Reader.{read-sheet, written}
+use Rattle.writer.specs.Text.{text-of}
 use Rattle.writer.specs.Writer.{said, over}
-use Rattle.writer.specs.Inner.{lineBytes}
+use Rattle.writer.specs.Inner.{line-bytes}
 use Rattle.writer.proofs.Writing.{size-is, text-written}
 use Rattle.writer.proofs.Filling.{filled-first}
 use Rattle.writer.proofs.Outcomes.{told-refused, told-written, refused-result, refused-out, short-result, short-out, written-result, written-out}
@@ -25,10 +25,10 @@ entry d = d .before .before .before .before .before .before .before
 abbrev sheet : tie.After-text-size → List ℕ
 sheet d = now (entry d .args .text)
 
-book : (d : tie.After-text-size) → (b : Book) × (readSheet (sheet d) ≡ written b) × (d .before .before .before .read .result .start ≡ b .start)
+book : (d : tie.After-text-size) → (b : Book) × (read-sheet (sheet d) ≡ written b) × (d .before .before .before .read .result .start ≡ b .start)
 book d = told-written (sheet d) (d .before .before .before .read .result) (d .before .before .before .read .ensures .0) (d .before .if1 .left)
 
-size : (d : tie.After-text-size) → d .text-size .result ≡ length (textOf (book d .0))
+size : (d : tie.After-text-size) → d .text-size .result ≡ length (text-of (book d .0))
 size d = d .text-size .ensures ∙ size-is (sheet d) (book d .0) (book d .1)
 
 slice-aggregate-read : tie.Need-slice-aggregate-read
@@ -42,7 +42,7 @@ returns c =
     let a = c .before .before .before .before .before .before .args in
     let x = c .before .before .read in
     let e = told-refused (now (a .text)) (x .result) (x .ensures .0) (c .if1 .taken) in
-    (sym (refused-result (now (a .out)) (readSheet (now (a .text))) (x .result .refusal) (x .result .line) e), sym (refused-out (now (a .out)) (readSheet (now (a .text))) (x .result .refusal) (x .result .line) e))
+    (sym (refused-result (now (a .out)) (read-sheet (now (a .text))) (x .result .refusal) (x .result .line) e), sym (refused-out (now (a .out)) (read-sheet (now (a .text))) (x .result .refusal) (x .result .line) e))
 
 text-size-requires : tie.Need-text-size-requires
 text-size-requires c κs = search needs
@@ -52,15 +52,15 @@ returns-2 c =
     let d = c .before in
     let a = entry d .args in
     let s = size d in
-    let l : length (now (a .out)) < length (textOf (book d .0)) = omega (arith, c .if2 .taken) in
-    (sym (short-result (now (a .out)) (readSheet (sheet d)) (book d .0) (book d .1) l), sym (short-out (now (a .out)) (readSheet (sheet d)) (book d .0) (book d .1) l))
+    let l : length (now (a .out)) < length (text-of (book d .0)) = omega (arith, c .if2 .taken) in
+    (sym (short-result (now (a .out)) (read-sheet (sheet d)) (book d .0) (book d .1) l), sym (short-out (now (a .out)) (read-sheet (sheet d)) (book d .0) (book d .1) l))
 
 of-requires : tie.Need-of-requires
 of-requires c κs = search needs
 
 -- what the lines give is the text
-is-text : (d : tie.After-text-size) (word : ℕ) → word ≡ d .before .before .before .read .result .start → lineBytes word (lines (sheet d)) (lines (sheet d)) ≡ textOf (book d .0)
-is-text d word w = ap (λ (st : ℕ). lineBytes st (lines (sheet d)) (lines (sheet d))) (w ∙ book d .2) ∙ text-written (sheet d) (book d .0) (book d .1)
+is-text : (d : tie.After-text-size) (word : ℕ) → word ≡ d .before .before .before .read .result .start → line-bytes word (lines (sheet d)) (lines (sheet d)) ≡ text-of (book d .0)
+is-text d word w = ap (λ (st : ℕ). line-bytes st (lines (sheet d)) (lines (sheet d))) (w ∙ book d .2) ∙ text-written (sheet d) (book d .0) (book d .1)
 
 put-lines-requires : tie.Need-put-lines-requires
 put-lines-requires c κs =
@@ -78,14 +78,14 @@ returns-3 c =
     let d = c .before .before .before .before .before .before in
     let a = entry d .args in
     let o = now (a .out) in
-    let T = textOf (book d .0) in
+    let T = text-of (book d .0) in
     let s = size d in
     let w = c .before .before .before .of in
     let t = is-text d (w .result .0) (w .ensures) in
     let f = x .ensures .1 o [] (filled-first o) in
     let l : length T ≤ length o = omega (arith, c .before .before .before .before .before .if2 .left) in (
-      ap (λ (n : ℕ). said 0 0 n) s ∙ sym (written-result o (readSheet (sheet d)) (book d .0) (book d .1) l),
-      f .is ∙ ap (λ (n : ℕ). lineBytes (w .result .0) (lines (sheet d)) (lines (sheet d)) ++ drop n o) (f .here) ∙ ap (λ (y : List ℕ). over y o) t ∙ sym (written-out o (readSheet (sheet d)) (book d .0) (book d .1) l),
+      ap (λ (n : ℕ). said 0 0 n) s ∙ sym (written-result o (read-sheet (sheet d)) (book d .0) (book d .1) l),
+      f .is ∙ ap (λ (n : ℕ). line-bytes (w .result .0) (lines (sheet d)) (lines (sheet d)) ++ drop n o) (f .here) ∙ ap (λ (y : List ℕ). over y o) t ∙ sym (written-out o (read-sheet (sheet d)) (book d .0) (book d .1) l),
     )
 
 pub write-spec : {M : Type 1} → statement M

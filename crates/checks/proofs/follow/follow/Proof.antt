@@ -1,23 +1,17 @@
 -- `follow` meets its contract, by the step's kind. Assumes nothing.
 use native.Mathlib.Omega.{arith}
 use mathlib.Core.Path.{refl, sym, _∙_}
-use borrow.Author.Needs.{needs}
 use borrow.Author.Tests.{lt-ltb, le-ltb, eq-eqb, ne-eqb}
 use Rattle.steps.specs.Next.{onward}
 use Rattle.checks.proofs.FollowLaws.{follow-call, follow-elementary}
+use borrow.Author.Needs.{needs}
 use Rattle.checks.proofs.follow.follow.Statement.{statement}
 use Rattle.checks.proofs.follow.follow.Tie as tie
-
-is-call-requires : tie.Need-is-call-requires
-is-call-requires c κs = search needs
-
-index-requires : tie.Need-index-requires
-index-requires c κs = search needs
 
 take-requires : tie.Need-take-requires
 take-requires c κs =
     let r = c .before .before .before .before .before .before .pre in
-    (omega (arith, r .long), omega (arith, r .most), r .called _ (c .before .if2 .taken))
+    record { most = omega (arith, r .most, c .before .if2 .taken); long = omega (arith, r .long, c .before .if2 .taken); called = λ x h. r .called x (omega (arith, c .before .if2 .taken)) }
 
 returns : tie.Need-returns
 returns c k m =
@@ -27,9 +21,6 @@ returns-2 : tie.Need-returns-2
 unfolding onward
 returns-2 c k m =
     rw (follow-call _ _ _ _ _ _ (sym (c .before .before .is-call .ensures) ∙ c .before .if1 .taken), le-ltb _ _ (c .if2 .left)) refl
-
-elementary-requires : tie.Need-elementary-requires
-elementary-requires c κs = search needs
 
 returns-3 : tie.Need-returns-3
 returns-3 c k m =
@@ -44,11 +35,5 @@ pub follow-spec : {M : Type 1} → statement M
 follow-spec =
     tie.close
     (tie.spec
-    is-call-requires
-    index-requires
-    take-requires
-    returns
-    returns-2
-    elementary-requires
-    returns-3
-    returns-4)
+    (λ c κs. search needs) (λ c κs. search needs) take-requires returns returns-2
+    (λ c κs. search needs) returns-3 returns-4)

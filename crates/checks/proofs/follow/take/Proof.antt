@@ -1,87 +1,40 @@
 -- `take` meets its contract. Assumes nothing.
-use mathlib.Core.Path.{refl}
-use borrow.Author.Needs.{needs}
+use native.Mathlib.Omega.{arith}
+use mathlib.Core.Path.{refl, sym, _∙_}
 use borrow.Author.Tests.{eq-eqb, ne-eqb}
 use Rattle.steps.specs.Next.{onward}
 use Rattle.checks.proofs.follow.take.Statement.{statement}
 use Rattle.checks.proofs.follow.take.Tie as tie
 
-mul-call : tie.Need-mul-call
-mul-call c = search needs
+call-of-requires : tie.Need-call-of-requires
+call-of-requires c κs = omega (arith, c .before .before .pre .long)
 
-mul-call-2 : tie.Need-mul-call-2
-mul-call-2 c = search needs
+action-of-requires : tie.Need-action-of-requires
+action-of-requires c κs = omega (arith, c .call-of .ensures, c .before .before .before .pre .called (c .before .before .before .args .named) (omega arith))
 
-shared-slice-read-call : tie.Need-shared-slice-read-call
-shared-slice-read-call c = search needs
+state-of-requires : tie.Need-state-of-requires
+state-of-requires c κs = omega (arith, c .before .before .call-of .ensures, c .before .before .before .before .before .pre .called (c .before .before .before .before .before .args .named) (omega arith))
 
-mul-if1 : tie.Need-mul-if1
-mul-if1 c = search needs
-
-mul-if1-2 : tie.Need-mul-if1-2
-mul-if1-2 c = search needs
-
-shared-slice-read-if1 : tie.Need-shared-slice-read-if1
-shared-slice-read-if1 c = search needs
-
-mul-if2 : tie.Need-mul-if2
-mul-if2 c = search needs
-
-add-if2 : tie.Need-add-if2
-add-if2 c = search needs
-
-mul-if2-2 : tie.Need-mul-if2-2
-mul-if2-2 c = search needs
-
-shared-slice-read-if2 : tie.Need-shared-slice-read-if2
-shared-slice-read-if2 c = search needs
-
-mul-of : tie.Need-mul-of
-mul-of c = search needs
-
-add-of : tie.Need-add-of
-add-of c = search needs
-
-mul-of-2 : tie.Need-mul-of-2
-mul-of-2 c = search needs
-
-shared-slice-read-of : tie.Need-shared-slice-read-of
-shared-slice-read-of c = search needs
-
-of-requires : tie.Need-of-requires
-of-requires c κs = search needs
+final-of-requires : tie.Need-final-of-requires
+final-of-requires c κs = omega (arith, c .before .before .before .before .before .before .before .before .before .pre .long)
 
 returns : tie.Need-returns
 unfolding onward
-returns c = rw (eq-eqb _ _ (c .before .before .before .before .before .if1 .taken), eq-eqb _ _ (c .before .before .if2 .taken), c .of .ensures) refl
+returns c =
+    rw (eq-eqb _ _ (rw (c .before .before .before .before .before .before .before .call-of .ensures) at (sym (c .before .before .before .before .before .before .action-of .ensures) ∙ c .before .before .before .before .before .if1 .taken)), eq-eqb _ _ (rw (c .before .before .before .before .before .before .before .call-of .ensures) at (sym (c .before .before .before .before .state-of .ensures) ∙ c .before .if2 .taken)), c .final-of .ensures) refl
 
 returns-2 : tie.Need-returns-2
 unfolding onward
-returns-2 c = rw (eq-eqb _ _ (c .before .before .before .if1 .taken), ne-eqb _ _ (c .if2 .left)) refl
+returns-2 c =
+    rw (eq-eqb _ _ (rw (c .before .before .before .before .before .before .call-of .ensures) at (sym (c .before .before .before .before .before .action-of .ensures) ∙ c .before .before .before .before .if1 .taken)), ← c .before .before .before .before .before .before .call-of .ensures, ← c .before .before .before .state-of .ensures, ne-eqb _ _ (c .if2 .left)) refl
 
 returns-3 : tie.Need-returns-3
 unfolding onward
-returns-3 c = rw (ne-eqb _ _ (c .if1 .left)) refl
+returns-3 c = rw (← c .before .before .call-of .ensures, ← c .before .action-of .ensures, ne-eqb _ _ (c .if1 .left)) refl
 
 pub take-spec : {M : Type 1} → statement M
 take-spec =
     tie.close
     (tie.spec
-    mul-call
-    mul-call-2
-    shared-slice-read-call
-    mul-if1
-    mul-if1-2
-    shared-slice-read-if1
-    mul-if2
-    add-if2
-    mul-if2-2
-    shared-slice-read-if2
-    mul-of
-    add-of
-    mul-of-2
-    shared-slice-read-of
-    of-requires
-    returns
-    returns-2
+    call-of-requires action-of-requires state-of-requires final-of-requires returns returns-2
     returns-3)

@@ -6,14 +6,14 @@ use mathlib.Core.Bool.{true}
 use borrow.Author.Tests.{not-true, not-false}
 use Rattle.steps.specs.Acceptance.{each-below}
 use Rattle.steps.proofs.EachBelow.{each-none, each-more, each-not}
-use Rattle.tabling.specs.Records.{calls-in, answers-in, bodies-of, justified}
+use Rattle.records.specs.Records.{bodies-of, justified, call-table, answer-table}
 use Rattle.checks.specs.Checks.{all-justified}
 use Rattle.checks.proofs.JustifiedLaws.{readable}
 use Rattle.checks.proofs.justified.all_justified.Statement.{statement}
 use Rattle.checks.proofs.justified.all_justified.Tie as tie
 
 abbrev Inv-loop : tie.InvT-loop
-Inv-loop rules goal calls call-count answers answer-count n₀ n = (n ≤ answer-count) × (each-below n (λ x. justified (calls-in 2 calls call-count) (answers-in 19 answers answer-count) x (bodies-of rules goal)) ≡ true)
+Inv-loop rules goal calls call-count answers answer-count n₀ n = (n ≤ answer-count) × (each-below n (λ x. justified (call-table calls call-count) (answer-table answers answer-count) x (bodies-of rules goal)) ≡ true)
 
 abbrev μ-loop : tie.MeasureT-loop
 μ-loop rules goal calls call-count answers answer-count n₀ n = answer-count - n

@@ -1,81 +1,27 @@
 -- `good_call` meets its contract. Assumes nothing.
-use borrow.Author.Tests.{lt-ltb, le-ltb, eq-eqb, ne-eqb}
+use Prim.Native.Nat.{_<_}
+use mathlib.Core.Path.{_≡_, refl}
+use mathlib.Core.Logic.{_⊎_, inl, inr, ⊎-elim}
+use borrow.Author.Tests.{le-ltb, ne-eqb}
+use Rattle.steps.specs.Run.{Goal}
 use Rattle.checks.specs.Checks.{good-call}
+use Rattle.checks.proofs.RecordLaws.{either}
 use borrow.Author.Needs.{needs}
 use Rattle.checks.proofs.tables.good_call.Statement.{statement}
 use Rattle.checks.proofs.tables.good_call.Tie as tie
-use Rattle.checks.proofs.tables.good_call.Reads as reads
-use Rattle.checks.proofs.tables.good_call.Lts as lts
-use Rattle.checks.proofs.tables.within.Reads as within-reads
-
-mul-action : tie.Need-mul-action
-mul-action c = search needs
-
-mul-action-2 : tie.Need-mul-action-2
-mul-action-2 c = search needs
-
-shared-slice-read-action : tie.Need-shared-slice-read-action
-shared-slice-read-action c = search needs
-
-mul-within : tie.Need-mul-within
-mul-within c = search needs
-
-add-within : tie.Need-add-within
-add-within c = search needs
-
-mul-within-2 : tie.Need-mul-within-2
-mul-within-2 c = search needs
-
-shared-slice-read-within : tie.Need-shared-slice-read-within
-shared-slice-read-within c = search needs
-
-within-requires : tie.Need-within-requires
-within-requires c κs = search needs
 
 returns : tie.Need-returns
 unfolding good-call
-returns c n = simp (eq-eqb _ _ (c .before .before .if1 .taken), c .within .ensures)
-
-mul-within-3 : tie.Need-mul-within-3
-mul-within-3 c = search needs
-
-add-within-2 : tie.Need-add-within-2
-add-within-2 c = search needs
-
-mul-within-4 : tie.Need-mul-within-4
-mul-within-4 c = search needs
-
-shared-slice-read-within-2 : tie.Need-shared-slice-read-within-2
-shared-slice-read-within-2 c = search needs
-
-within-requires-2 : tie.Need-within-requires-2
-within-requires-2 c κs = search needs
+returns c n = rw (← c .before .before .action-of .ensures, ne-eqb _ _ (c .before .if1 .taken), le-ltb _ _ (c .if2 .taken)) refl
 
 returns-2 : tie.Need-returns-2
 unfolding good-call
-returns-2 c n = simp (ne-eqb _ _ (c .before .before .before .if1 .left), lt-ltb _ _ (c .before .before .if2 .taken), c .within2 .ensures)
-
-returns-3 : tie.Need-returns-3
-unfolding good-call
-returns-3 c n = simp (ne-eqb _ _ (c .before .if1 .left), le-ltb _ _ (c .if2 .left))
+returns-2 c n =
+    let known : (c .before .before .before .action-of .result ≡ Goal) ⊎ (c .before .before .before .action-of .result < c .before .before .before .before .before .args .actions) = ⊎-elim (λ w. inr (w .1 .left)) (λ w. inl (w .left)) (c .before .before .if1 .came) in
+    rw (← c .before .state-of .ensures, ← c .before .before .before .action-of .ensures, either _ _ known, ← c .bad-state .ensures) refl
 
 pub good-call-spec : {M : Type 1} → statement M
 good-call-spec =
     tie.close
     (tie.spec
-    mul-action
-    mul-action-2
-    shared-slice-read-action
-    mul-within
-    add-within
-    mul-within-2
-    shared-slice-read-within
-    within-requires
-    returns
-    mul-within-3
-    add-within-2
-    mul-within-4
-    shared-slice-read-within-2
-    within-requires-2
-    returns-2
-    returns-3)
+    (λ c κs. search needs) returns (λ c κs. search needs) (λ c κs. search needs) returns-2)

@@ -6,13 +6,13 @@ use mathlib.Core.Bool.{true}
 use borrow.Author.Tests.{not-true, not-false}
 use Rattle.steps.specs.Acceptance.{each-below}
 use Rattle.steps.proofs.EachBelow.{each-none, each-more, each-not}
-use Rattle.tabling.specs.Records.{calls-in}
+use Rattle.records.specs.Records.{call-table}
 use Rattle.checks.specs.Checks.{good-call, good-calls}
 use Rattle.checks.proofs.tables.good_calls.Statement.{statement}
 use Rattle.checks.proofs.tables.good_calls.Tie as tie
 
 abbrev Inv-loop : tie.InvT-loop
-Inv-loop fluents actions calls call-count i₀ i = (i ≤ call-count) × (each-below i (good-call fluents actions (calls-in 2 calls call-count)) ≡ true)
+Inv-loop fluents actions calls call-count i₀ i = (i ≤ call-count) × (each-below i (good-call fluents actions (call-table calls call-count)) ≡ true)
 
 abbrev μ-loop : tie.MeasureT-loop
 μ-loop fluents actions calls call-count i₀ i = call-count - i

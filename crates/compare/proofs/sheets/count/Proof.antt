@@ -5,10 +5,10 @@ use Rattle.compare.proofs.sheets.count.Statement.{statement}
 use Rattle.compare.proofs.sheets.count.Tie as tie
 
 abbrev Inv-loop : tie.InvT-loop
-Inv-loop book start dress byte bytes n₀ i₀ n i = i ≤ 1024
+Inv-loop book start dress byte bytes n₀ i₀ n i = i ≤ 3072
 
 abbrev μ-loop : tie.MeasureT-loop
-μ-loop book start dress byte bytes n₀ i₀ n i = 1024 - i
+μ-loop book start dress byte bytes n₀ i₀ n i = 3072 - i
 
 slice-aggregate-write : tie.Need-slice-aggregate-write Inv-loop μ-loop
 slice-aggregate-write c = search needs

@@ -5,10 +5,10 @@ use Rattle.compare.proofs.sheets.same_bytes.Statement.{statement}
 use Rattle.compare.proofs.sheets.same_bytes.Tie as tie
 
 abbrev Inv-loop : tie.InvT-loop
-Inv-loop a b i₀ i = i ≤ 512
+Inv-loop a b i₀ i = i ≤ 1280
 
 abbrev μ-loop : tie.MeasureT-loop
-μ-loop a b i₀ i = 512 - i
+μ-loop a b i₀ i = 1280 - i
 
 loop-holds : tie.Need-loop-holds Inv-loop μ-loop
 loop-holds c = search needs

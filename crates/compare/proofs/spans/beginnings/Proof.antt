@@ -5,10 +5,10 @@ use Rattle.compare.proofs.spans.beginnings.Statement.{statement}
 use Rattle.compare.proofs.spans.beginnings.Tie as tie
 
 abbrev Inv-loop : tie.InvT-loop
-Inv-loop book rule j steps runs spans set₀ count k₀ set k = k ≤ 4
+Inv-loop book rule j steps runs spans set₀ count k₀ set k = k ≤ 16
 
 abbrev μ-loop : tie.MeasureT-loop
-μ-loop book rule j steps runs spans set₀ count k₀ set k = 4 - k
+μ-loop book rule j steps runs spans set₀ count k₀ set k = 16 - k
 
 shl-set : tie.Need-shl-set Inv-loop μ-loop
 shl-set c = search needs

@@ -8,10 +8,10 @@ use Rattle.compare.proofs.text.put_start.Statement.{statement}
 use Rattle.compare.proofs.text.put_start.Tie as tie
 
 abbrev Inv-loop : tie.InvT-loop
-Inv-loop text₀ from start dress at₀ k₀ text at k = (k ≤ 3) × (length text ≡ length text₀)
+Inv-loop text₀ from start dress at₀ k₀ text at k = (k ≤ 64) × (length text ≡ length text₀)
 
 abbrev μ-loop : tie.MeasureT-loop
-μ-loop text₀ from start dress at₀ k₀ text at k = 3 - k
+μ-loop text₀ from start dress at₀ k₀ text at k = 64 - k
 
 slice-aggregate-put : tie.Need-slice-aggregate-put Inv-loop μ-loop
 slice-aggregate-put c = search needs
@@ -31,14 +31,8 @@ cast-has c = search needs
 has-requires : tie.Need-has-requires Inv-loop μ-loop
 has-requires c κs = search needs
 
-fluent-requires : tie.Need-fluent-requires Inv-loop μ-loop
-fluent-requires c κs = search needs
-
-slice-aggregate-put-2 : tie.Need-slice-aggregate-put-2 Inv-loop μ-loop
-slice-aggregate-put-2 c = search needs
-
-put-requires-2 : tie.Need-put-requires-2 Inv-loop μ-loop
-put-requires-2 c κs = search needs
+put-name-requires : tie.Need-put-name-requires Inv-loop μ-loop
+put-name-requires c κs = search needs
 
 add-k : tie.Need-add-k Inv-loop μ-loop
 add-k c = search needs
@@ -70,9 +64,7 @@ put-start-spec =
     at-place-requires
     cast-has
     has-requires
-    fluent-requires
-    slice-aggregate-put-2
-    put-requires-2
+    put-name-requires
     add-k
     loop-less
     loop-again

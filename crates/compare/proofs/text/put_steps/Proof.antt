@@ -7,16 +7,22 @@ use Rattle.compare.proofs.text.put_steps.Statement.{statement}
 use Rattle.compare.proofs.text.put_steps.Tie as tie
 
 abbrev Inv-loop : tie.InvT-loop
-Inv-loop text₀ from book rule dress count at₀ k₀ text at k = (k ≤ count) × (length text ≡ length text₀)
+Inv-loop text₀ from book rule dress count at₀ k₀ t11 text at k = (k ≤ count) × (length text ≡ length text₀)
 
 abbrev μ-loop : tie.MeasureT-loop
-μ-loop text₀ from book rule dress count at₀ k₀ text at k = count - k
+μ-loop text₀ from book rule dress count at₀ k₀ t11 text at k = count - k
 
 word-at-requires : tie.Need-word-at-requires Inv-loop μ-loop
 word-at-requires c κs = search needs
 
 loop-holds : tie.Need-loop-holds Inv-loop μ-loop
 loop-holds c = search needs
+
+slice-aggregate-put : tie.Need-slice-aggregate-put Inv-loop μ-loop
+slice-aggregate-put c = search needs
+
+put-requires : tie.Need-put-requires Inv-loop μ-loop
+put-requires c κs = search needs
 
 cast-word-at : tie.Need-cast-word-at Inv-loop μ-loop
 cast-word-at c = search needs
@@ -56,6 +62,8 @@ put-steps-spec =
     μ-loop
     word-at-requires
     loop-holds
+    slice-aggregate-put
+    put-requires
     cast-word-at
     add-word-at
     word-at-requires-2

@@ -4,14 +4,14 @@ use native.Mathlib.Omega.{arith}
 use mathlib.Core.Path.{_≡_, sym, _∙_}
 use mathlib.Core.Logic.{⊎-elim}
 use lib.ListN.{length, length-append}
-use Rattle.tabling.specs.Records.{answers-in}
-use Rattle.tabling.proofs.Finals.{finals-below}
-use Rattle.tabling.proofs.FinalsLaws.{finals-none, finals-more, finals-same, finals-short}
+use Rattle.records.specs.Records.{answer-table}
+use Rattle.evaluator.specs.Finals.{finals-below}
+use Rattle.evaluator.proofs.FinalsLaws.{finals-none, finals-more, finals-same, finals-short}
 use Rattle.evaluator.proofs.ends.count.Statement.{statement}
 use Rattle.evaluator.proofs.ends.count.Tie as tie
 
 abbrev Inv-loop : tie.InvT-loop
-Inv-loop answers m row found₀ x₀ found x = (x ≤ m) × (found ≡ length (finals-below (answers-in 19 answers m) row x))
+Inv-loop answers m row found₀ x₀ found x = (x ≤ m) × (found ≡ length (finals-below (answer-table answers m) row x))
 
 abbrev μ-loop : tie.MeasureT-loop
 μ-loop answers m row found₀ x₀ found x = m - x
@@ -26,7 +26,7 @@ add-found : tie.Need-add-found Inv-loop μ-loop
 add-found c =
     let a = c .before .before .before .before .before .args in
     let l = c .before .before .before .loop in
-    omega (arith, finals-short (answers-in 19 (a .answers .now) (a .m)) (a .row) (l .x))
+    omega (arith, finals-short (answer-table (a .answers .now) (a .m)) (a .row) (l .x))
 
 add-x : tie.Need-add-x Inv-loop μ-loop
 add-x c = omega arith
@@ -38,7 +38,7 @@ loop-again : tie.Need-loop-again Inv-loop μ-loop
 loop-again c =
     let a = c .before .before .before .before .before .args in
     let l = c .before .before .before .loop in
-    let v = answers-in 19 (a .answers .now) (a .m) in
+    let v = answer-table (a .answers .now) (a .m) in
     let e = c .before .call-of .ensures in (
       omega arith,
       ⊎-elim

@@ -4,14 +4,14 @@ use native.Mathlib.Omega.{arith}
 use mathlib.Core.Path.{_≡_, sym, _∙_}
 use mathlib.Core.Logic.{⊎-elim}
 use lib.ListN.{length}
-use Rattle.tabling.specs.Records.{answers-in}
-use Rattle.tabling.proofs.FinalsLaws.{finals-place}
+use Rattle.records.specs.Records.{answer-table}
+use Rattle.evaluator.proofs.FinalsLaws.{finals-place}
 use Rattle.evaluator.proofs.Listing.{Gathered, gathered-none, gathered-more, gathered-same, gathered-length}
 use Rattle.evaluator.proofs.ends.gather.Statement.{statement}
 use Rattle.evaluator.proofs.ends.gather.Tie as tie
 
 abbrev Inv-loop : tie.InvT-loop
-Inv-loop answers m row list₀ found₀ x₀ list found x = (x ≤ m) × (found ≤ length list₀) × Gathered (answers-in 19 answers m) row list₀ x list found
+Inv-loop answers m row list₀ found₀ x₀ list found x = (x ≤ m) × (found ≤ length list₀) × Gathered (answer-table answers m) row list₀ x list found
 
 abbrev μ-loop : tie.MeasureT-loop
 μ-loop answers m row list₀ found₀ x₀ list found x = m - x
@@ -33,7 +33,7 @@ slice-write-list c =
     let i = c .before .before .before .before in
     let a = i .before .before .before .args in
     let l = i .loop in
-    let v = answers-in 19 (a .answers .now) (a .m) in
+    let v = answer-table (a .answers .now) (a .m) in
     let p = finals-place v (a .row) (a .m) (l .x) (omega arith) (sym (c .before .before .call-of .ensures) ∙ c .before .if1 .taken) in
     omega (arith, gathered-length v (a .row) (l .inv .2) (l .inv .1), l .inv .2 .counted)
 
@@ -50,7 +50,7 @@ loop-again : tie.Need-loop-again Inv-loop μ-loop
 loop-again c =
     let a = c .before .before .before .before .before .before .args in
     let l = c .before .before .before .loop in
-    let v = answers-in 19 (a .answers .now) (a .m) in
+    let v = answer-table (a .answers .now) (a .m) in
     let e = c .before .call-of .ensures in
     ⊎-elim
     (λ w.
@@ -64,7 +64,7 @@ same-length : tie.Need-same-length Inv-loop μ-loop
 same-length c =
     let a = c .before .before .before .before .args in
     let l = c .before .loop in
-    gathered-length (answers-in 19 (a .answers .now) (a .m)) (a .row) (l .inv .2) (l .inv .1)
+    gathered-length (answer-table (a .answers .now) (a .m)) (a .row) (l .inv .2) (l .inv .1)
 
 returns : tie.Need-returns Inv-loop μ-loop
 returns c =

@@ -4,12 +4,13 @@ use native.Mathlib.Omega.{arith}
 use mathlib.Core.Path.{_≡_, refl}
 use lib.ListN.{length}
 use borrow.Author.Needs.{needs}
+use Rattle.steps.specs.Words.{rule-width}
 use Rattle.marking.proofs.gains.list_action.Statement.{statement}
 use Rattle.marking.proofs.gains.list_action.Tie as tie
 
 abbrev Inv-loop : tie.InvT-loop
 Inv-loop rules action from calls₀ count listed₀ r₀ calls listed r =
-    (count ≡ length rules / 18) × (listed ≤ 4096) × (length calls ≡ 4161) × (length calls ≡ length calls₀)
+    (count ≡ length rules / rule-width) × (listed ≤ 4096) × (length calls ≡ 4161) × (length calls ≡ length calls₀)
 
 abbrev μ-loop : tie.MeasureT-loop
 μ-loop rules action from calls₀ count listed₀ r₀ calls listed r = count - r

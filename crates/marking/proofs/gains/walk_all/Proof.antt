@@ -5,6 +5,7 @@ use mathlib.Core.Path.{_≡_, refl, _∙_}
 use lib.ListN.{length}
 use borrow.Author.Needs.{needs}
 use Rattle.steps.proofs.StateLaws.{one-shl}
+use Rattle.steps.specs.Words.{rule-width}
 use Rattle.marking.specs.Masks.{Grown, Ready}
 use Rattle.marking.proofs.Widening.{grown-none, grown-then}
 use Rattle.marking.proofs.Gaining.{came-start}
@@ -13,7 +14,7 @@ use Rattle.marking.proofs.gains.walk_all.Tie as tie
 
 abbrev Inv-loop : tie.InvT-loop
 Inv-loop rules place runs recorded table₀ notes₀ count more₀ r₀ table notes more r =
-    (count ≡ length rules / 18) × Grown place table₀ table × Ready rules recorded runs place table notes × (length notes ≡ length notes₀)
+    (count ≡ length rules / rule-width) × Grown place table₀ table × Ready rules recorded runs place table notes × (length notes ≡ length notes₀)
 
 abbrev μ-loop : tie.MeasureT-loop
 μ-loop rules place runs recorded table₀ notes₀ count more₀ r₀ table notes more r = count - r

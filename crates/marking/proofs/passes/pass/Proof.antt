@@ -4,6 +4,7 @@ use native.Mathlib.Omega.{arith}
 use mathlib.Core.Path.{_≡_, refl}
 use lib.ListN.{length}
 use borrow.Author.Needs.{needs}
+use Rattle.steps.specs.Words.{rule-width}
 use Rattle.marking.specs.Masks.{Turned}
 use Rattle.marking.proofs.Widening.{lent-kept}
 use Rattle.marking.proofs.Turning.{turned-none, turned-all}
@@ -12,7 +13,7 @@ use Rattle.marking.proofs.passes.pass.Tie as tie
 
 abbrev Inv-loop : tie.InvT-loop
 Inv-loop rules place runs recorded table₀ gained count more₀ r₀ table more r =
-    (count ≡ length rules / 18) × Turned rules recorded runs place gained r table₀ table more
+    (count ≡ length rules / rule-width) × Turned rules recorded runs place gained r table₀ table more
 
 abbrev μ-loop : tie.MeasureT-loop
 μ-loop rules place runs recorded table₀ gained count more₀ r₀ table more r = count - r

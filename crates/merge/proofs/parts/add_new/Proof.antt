@@ -6,7 +6,7 @@ use Prim.Native.Nat.{ℕ, _-_}
 use native.Mathlib.Omega.{arith}
 use denote.Ref.{now}
 use lib.ListN.{length}
-use Rattle.merge.specs.Inner.{partAt, partsFrom}
+use Rattle.merge.specs.Inner.{part-at, parts-from}
 use Rattle.merge.proofs.PartLists.{parts-length, grows-none, grows-as}
 use Rattle.merge.proofs.News.{fresh-there, fresh-new}
 use Rattle.merge.proofs.parts.add_new.Statement.{statement}
@@ -22,7 +22,7 @@ returns c =
     let z = now (a .list) in
     let n = parts-length u z (a .base) (a .n - a .base) in
     let f = c .before .find .ensures .0 in
-    grows-as (length (now (a .first))) u z z (a .n) (a .n) _ _ (sym (fresh-there (partsFrom u z (a .base) (a .n - a .base)) (partAt u z (a .i)) (omega (arith, c .if1 .taken)))) (grows-none (length (now (a .first))) u z (a .n))
+    grows-as (length (now (a .first))) u z z (a .n) (a .n) _ _ (sym (fresh-there (parts-from u z (a .base) (a .n - a .base)) (part-at u z (a .i)) (omega (arith, c .if1 .taken)))) (grows-none (length (now (a .first))) u z (a .n))
 
 returns-2 : tie.Need-returns-2
 returns-2 c =
@@ -32,7 +32,7 @@ returns-2 c =
     let n = parts-length u z (a .base) (a .n - a .base) in
     let f = c .before .before .before .before .before .find .ensures .0 in
     let b = c .before .before .before .before .before .before .before .before .before .before .pre .1 .1 in
-    grows-as (length (now (a .first))) u z _ (a .n) _ _ _ (sym (fresh-new (partsFrom u z (a .base) (a .n - a .base)) (partAt u z (a .i)) (omega (arith, c .before .before .before .before .if1 .left)))) (c .before .before .copy .ensures .0 (length (now (a .first))) u (c .before .before .before .before .before .before .before .before .before .before .pre .0 (a .i) (c .before .before .before .before .before .before .before .before .before .before .pre .1 .0)))
+    grows-as (length (now (a .first))) u z _ (a .n) _ _ _ (sym (fresh-new (parts-from u z (a .base) (a .n - a .base)) (part-at u z (a .i)) (omega (arith, c .before .before .before .before .if1 .left)))) (c .before .before .copy .ensures .0 (length (now (a .first))) u (c .before .before .before .before .before .before .before .before .before .before .pre .0 (a .i) (c .before .before .before .before .before .before .before .before .before .before .pre .1 .0)))
 
 pub add-new-spec : {M : Type 1} → statement M
 add-new-spec =

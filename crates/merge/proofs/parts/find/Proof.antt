@@ -8,14 +8,14 @@ use Prim.Native.Nat.{ℕ, _+_, _-_, _≤_}
 use native.Mathlib.Omega.{arith}
 use denote.Ref.{now}
 use Rattle.chars.specs.Places.{same, place}
-use Rattle.merge.specs.Inner.{partAt, partsFrom}
+use Rattle.merge.specs.Inner.{part-at, parts-from}
 use Rattle.merge.proofs.PartLists.{found, passed, nowhere}
 use Rattle.merge.proofs.parts.find.Statement.{statement}
 use Rattle.merge.proofs.parts.find.Tie as tie
 
 abbrev Inv-loop : tie.InvT-loop
 Inv-loop first second list i lo hi x k₀ k =
-    (lo ≤ k) × (k ≤ hi) × (lo + place (partAt (first ++ second) list i) (partsFrom (first ++ second) list lo (hi - lo)) ≡ k + place (partAt (first ++ second) list i) (partsFrom (first ++ second) list k (hi - k)))
+    (lo ≤ k) × (k ≤ hi) × (lo + place (part-at (first ++ second) list i) (parts-from (first ++ second) list lo (hi - lo)) ≡ k + place (part-at (first ++ second) list i) (parts-from (first ++ second) list k (hi - k)))
 
 abbrev μ-loop : tie.MeasureT-loop
 μ-loop first second list i lo hi x k₀ k = hi - k
@@ -28,9 +28,9 @@ module _ (d : tie.After-same-bytes Inv-loop μ-loop) where
   abbrev z : List ℕ
   z = now (d .before .before .before .before .before .before .before .before .args .list)
 
-  told : (v : Bool) → d .same-bytes .result ≡ v → same (partAt u z (d .before .before .before .before .before .before .before .before .args .i)) (partAt u z (d .before .before .before .loop .k)) ≡ v
+  told : (v : Bool) → d .same-bytes .result ≡ v → same (part-at u z (d .before .before .before .before .before .before .before .before .args .i)) (part-at u z (d .before .before .before .loop .k)) ≡ v
   told v h =
-      ap (λ (x : List ℕ). same x (partAt u z (d .before .before .before .loop .k))) (sym (d .before .before .before .before .part-at .ensures))
+      ap (λ (x : List ℕ). same x (part-at u z (d .before .before .before .loop .k))) (sym (d .before .before .before .before .part-at .ensures))
       ∙ ap (λ (x : List ℕ). same (now (d .before .before .before .before .part-at .result)) x) (sym (d .before .part-at2 .ensures)) ∙ sym (d .same-bytes .ensures) ∙ h
 
 loop-holds : tie.Need-loop-holds Inv-loop μ-loop
@@ -45,7 +45,7 @@ returns c =
     let a = c .before .before .before .before .before .before .before .before .before .args in
     let u = now (a .first) ++ now (a .second) in
     let z = now (a .list) in
-    (sym (l .loop .inv .2 ∙ found u z (partAt u z (a .i)) (l .loop .k) (a .hi) (c .before .before .before .loop-test .taken) (told (c .before) _ (c .if1 .taken))), omega arith)
+    (sym (l .loop .inv .2 ∙ found u z (part-at u z (a .i)) (l .loop .k) (a .hi) (c .before .before .before .loop-test .taken) (told (c .before) _ (c .if1 .taken))), omega arith)
 
 loop-again : tie.Need-loop-again Inv-loop μ-loop
 loop-again c =
@@ -53,7 +53,7 @@ loop-again c =
     let a = c .before .before .before .before .before .before .before .before .before .args in
     let u = now (a .first) ++ now (a .second) in
     let z = now (a .list) in
-    (omega arith, omega arith, l .loop .inv .2 ∙ passed u z (partAt u z (a .i)) (l .loop .k) (a .hi) (c .before .before .before .loop-test .taken) (told (c .before) _ (c .if1 .left)))
+    (omega arith, omega arith, l .loop .inv .2 ∙ passed u z (part-at u z (a .i)) (l .loop .k) (a .hi) (c .before .before .before .loop-test .taken) (told (c .before) _ (c .if1 .left)))
 
 returns-2 : tie.Need-returns-2 Inv-loop μ-loop
 returns-2 c =
@@ -61,7 +61,7 @@ returns-2 c =
     let a = c .before .before .before .before .before .before .args in
     let u = now (a .first) ++ now (a .second) in
     let z = now (a .list) in
-    let e = nowhere u z (partAt u z (a .i)) (l .loop .k) (a .hi) (c .loop-test .left) in
+    let e = nowhere u z (part-at u z (a .i)) (l .loop .k) (a .hi) (c .loop-test .left) in
     (omega (arith, l .loop .inv .2 ∙ e), omega arith)
 
 pub find-spec : {M : Type 1} → statement M

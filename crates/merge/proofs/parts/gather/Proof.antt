@@ -7,7 +7,7 @@ use Prim.Native.Nat.{ℕ, _+_, _-_, _≤_}
 use native.Mathlib.Omega.{arith}
 use denote.Ref.{now}
 use lib.ListN.{length}
-use Rattle.merge.specs.Inner.{Inside, Grows, partAt, partsFrom, fresh, news}
+use Rattle.merge.specs.Inner.{Inside, Grows, part-at, parts-from, fresh, news}
 use Rattle.merge.proofs.PartLists.{parts-none, grows-none, grows-as, grows-then}
 use Rattle.merge.proofs.News.{news-none}
 use Rattle.merge.proofs.Turns.{fresh-size, new-turn}
@@ -17,8 +17,8 @@ use Rattle.merge.proofs.parts.gather.Tie as tie
 abbrev Inv-loop : tie.InvT-loop
 Inv-loop first second list₀ lo hi base at n₀ i₀ list n i =
     (lo ≤ i) × (i ≤ hi) × (at ≤ n) × (n ≤ at + (i - lo)) × (length list ≡ length list₀) × Inside (length first) (first ++ second) list n
-    × ((l : List ℕ) (q : ℕ) → Grows (length first) (first ++ second) list n l q (news (partsFrom (first ++ second) list base (n - base)) (partsFrom (first ++ second) list i (hi - i)))
-    → Grows (length first) (first ++ second) list₀ at l q (news (partsFrom (first ++ second) list₀ base (at - base)) (partsFrom (first ++ second) list₀ lo (hi - lo))))
+    × ((l : List ℕ) (q : ℕ) → Grows (length first) (first ++ second) list n l q (news (parts-from (first ++ second) list base (n - base)) (parts-from (first ++ second) list i (hi - i)))
+    → Grows (length first) (first ++ second) list₀ at l q (news (parts-from (first ++ second) list₀ base (at - base)) (parts-from (first ++ second) list₀ lo (hi - lo))))
 
 abbrev μ-loop : tie.MeasureT-loop
 μ-loop first second list₀ lo hi base at n₀ i₀ list n i = hi - i
@@ -53,7 +53,7 @@ loop-again c =
     let k = l .inv .2 in
     let m = l .inv .3 in
     let o = l .inv .0 in
-    let f = fresh-size (partsFrom u (l .list) (a .base) (l .n - a .base)) (partAt u (l .list) (l .i)) in
+    let f = fresh-size (parts-from u (l .list) (a .base) (l .n - a .base)) (part-at u (l .list) (l .i)) in
     let w = x .ensures .longer in
     let turn = new-turn cut u (l .list) (x .last .1 .1 .0) (l .n) (x .result) (l .i) (a .hi) (a .base) (omega arith) t (omega arith) (x .ensures) in (
       omega arith,
@@ -71,8 +71,8 @@ returns c =
     let a = c .before .before .before .before .before .args in
     let u = now (a .first) ++ now (a .second) in
     let cut = length (now (a .first)) in
-    let X = partsFrom u (l .list) (a .base) (l .n - a .base) in
-    let e : news X (partsFrom u (l .list) (l .i) (a .hi - l .i)) ≡ [] = ap (news X) (parts-none u (l .list) (l .i) (a .hi) (c .loop-test .left)) ∙ news-none X in
+    let X = parts-from u (l .list) (a .base) (l .n - a .base) in
+    let e : news X (parts-from u (l .list) (l .i) (a .hi - l .i)) ≡ [] = ap (news X) (parts-none u (l .list) (l .i) (a .hi) (c .loop-test .left)) ∙ news-none X in
     l .inv .6 (l .list) (l .n) (grows-as cut u (l .list) (l .list) (l .n) (l .n) [] _ (sym e) (grows-none cut u (l .list) (l .n)))
 
 pub gather-spec : {M : Type 1} → statement M

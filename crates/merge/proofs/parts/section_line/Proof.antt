@@ -8,7 +8,7 @@ use native.Mathlib.Omega.{arith}
 use denote.Ref.{now}
 use lib.ListN.{length, length-append}
 use lib.Seq.{slice}
-use Rattle.merge.specs.Inner.{Lies, behindWord}
+use Rattle.merge.specs.Inner.{Lies, behind-word}
 use Rattle.merge.proofs.Slices.{slice-first, slice-behind}
 use Rattle.merge.proofs.Sections.{behind-here, behind-other}
 use Rattle.merge.proofs.PartLists.{grows-none, grows-as}
@@ -26,7 +26,7 @@ module _ (d : tie.After-is-word) where
   word-end = d .before .field-end .result
 
   -- the line with its word
-  piece : d .is-word .result ≡ true → behindWord (now (d .before .before .before .before .before .before .args .word)) (slice (d .before .before .before .before .before .before .args .a) (d .before .before .before .before .before .before .args .e) sheet) ≡ slice word-end end sheet ∷ []
+  piece : d .is-word .result ≡ true → behind-word (now (d .before .before .before .before .before .before .args .word)) (slice (d .before .before .before .before .before .before .args .a) (d .before .before .before .before .before .before .args .e) sheet) ≡ slice word-end end sheet ∷ []
   piece h = behind-here sheet (now (d .before .before .before .before .before .before .args .word)) (d .before .before .before .before .before .before .args .a) (d .before .before .before .before .before .before .args .e) end word-end (d .before .before .bare-end .ensures) (d .before .field-end .ensures) (d .before .before .before .before .before .before .pre .0 .1) (sym (d .is-word .ensures) ∙ h)
 
   within : end ≤ length sheet

@@ -10,7 +10,7 @@ use lib.ListN.{length, drop, length-append}
 use lib.Seq.{slice}
 use Rattle.chars.specs.Pieces.{lines}
 use Rattle.chars.proofs.Ends.{lines-gone}
-use Rattle.merge.specs.Inner.{Grows, behindWord, section}
+use Rattle.merge.specs.Inner.{Grows, behind-word, section}
 use Rattle.merge.proofs.PartLists.{grows-none, grows-as, grows-then}
 use Rattle.merge.proofs.Sections.{section-more, section-none}
 use Rattle.merge.proofs.parts.sections.Statement.{statement}
@@ -28,7 +28,7 @@ loop-holds : tie.Need-loop-holds Inv-loop μ-loop
 loop-holds c = (omega arith, refl, refl, λ cut b z k w l q g. g)
 
 -- the parts from a line on, by the line
-cut-line : (w l : List ℕ) (ls ms : List (List ℕ)) → ms ≡ l ∷ ls → section w ms ≡ behindWord w l ++ section w ls
+cut-line : (w l : List ℕ) (ls ms : List (List ℕ)) → ms ≡ l ∷ ls → section w ms ≡ behind-word w l ++ section w ls
 cut-line w l ls ms e = ap (section w) e ∙ section-more w l ls
 
 section-line-requires : tie.Need-section-line-requires Inv-loop μ-loop
@@ -40,7 +40,7 @@ section-line-requires c κs =
     let f = c .before .line-end in
     let t = slice (l .a) (f .result) s in
     let ls = lines (drop (f .result + 1) s) in
-    let n = ap length (cut-line w t ls (lines (drop (l .a) s)) (f .ensures .cut)) ∙ length-append (behindWord w t) (section w ls) in
+    let n = ap length (cut-line w t ls (lines (drop (l .a) s)) (f .ensures .cut)) ∙ length-append (behind-word w t) (section w ls) in
     let p = c .before .before .before .before .before .before .before .pre .1 in
     let i = l .inv .1 in
     let j = l .inv .2 in
@@ -57,7 +57,7 @@ loop-again c =
     let t = slice (l .a) (f .result) s in
     let ls = lines (drop (f .result + 1) s) in
     let e = cut-line w t ls (lines (drop (l .a) s)) (f .ensures .cut) in
-    let n = ap length e ∙ length-append (behindWord w t) (section w ls) in
+    let n = ap length e ∙ length-append (behind-word w t) (section w ls) in
     let u = f .ensures .within in
     let b₀ : length (now (a .s)) ≤ 65536 = c .before .before .before .before .before .before .before .before .before .before .pre .0 .1 in
     let m = x .ensures .1 in
@@ -66,8 +66,8 @@ loop-again c =
       omega arith,
       x .kept .1 .1 .1 .1 .1 .0 ∙ l .inv .2,
       λ cut b z k v o q g. l .inv .3 cut b z k v o q
-          (grows-as cut (b ++ (s ++ z)) (l .list) o (l .n) q (behindWord w t ++ section w ls) _ (sym e)
-          (grows-then cut (b ++ (s ++ z)) (l .list) (x .last .1 .1 .1 .1 .1 .0) o (l .n) (x .result) q (behindWord w t) (section w ls) (x .ensures .0 cut b z k v) g)),
+          (grows-as cut (b ++ (s ++ z)) (l .list) o (l .n) q (behind-word w t ++ section w ls) _ (sym e)
+          (grows-then cut (b ++ (s ++ z)) (l .list) (x .last .1 .1 .1 .1 .1 .0) o (l .n) (x .result) q (behind-word w t) (section w ls) (x .ensures .0 cut b z k v) g)),
     )
 
 returns : tie.Need-returns Inv-loop μ-loop

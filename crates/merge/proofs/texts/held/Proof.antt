@@ -8,7 +8,7 @@ use native.Mathlib.Omega.{arith}
 use denote.Ref.{now}
 use lib.ListN.{length}
 use Rattle.writer.specs.Text.{holding}
-use Rattle.merge.specs.Inner.{At, Inside, Grows, partAt, partsFrom}
+use Rattle.merge.specs.Inner.{At, Inside, Grows, part-at, parts-from}
 use Rattle.merge.proofs.PartLists.{parts-none, grows-none, grows-as, grows-then}
 use Rattle.merge.proofs.Turns.{held-none, held-turn}
 use Rattle.merge.proofs.texts.held.Statement.{statement}
@@ -18,7 +18,7 @@ abbrev Inv-loop : tie.InvT-loop
 Inv-loop list₀ lo hi state at n₀ i₀ list n i =
     (lo ≤ i) × (i ≤ hi) × (at ≤ n) × (n ≤ at + (i - lo)) × (length list ≡ length list₀)
     × ((cut : ℕ) (u : List ℕ) → Inside cut u list₀ at → Inside cut u list n
-    × ((l : List ℕ) (q : ℕ) → Grows cut u list n l q (holding (i - lo) (state .0) (partsFrom u list i (hi - i))) → Grows cut u list₀ at l q (holding 0 (state .0) (partsFrom u list₀ lo (hi - lo)))))
+    × ((l : List ℕ) (q : ℕ) → Grows cut u list n l q (holding (i - lo) (state .0) (parts-from u list i (hi - i))) → Grows cut u list₀ at l q (holding 0 (state .0) (parts-from u list₀ lo (hi - lo)))))
 
 abbrev μ-loop : tie.MeasureT-loop
 μ-loop list₀ lo hi state at n₀ i₀ list n i = hi - i
@@ -27,7 +27,7 @@ loop-holds : tie.Need-loop-holds Inv-loop μ-loop
 loop-holds c =
     let a = c .before .args in
     let e : 0 ≡ a .lo - a .lo = omega arith in
-    (omega arith, omega (arith, c .before .pre .0), omega arith, omega arith, refl, λ cut u g. (g, λ l q h. grows-as cut u _ l _ q _ _ (ap (λ (k : ℕ). holding k (a .state .0) (partsFrom u (now (a .list)) (a .lo) (a .hi - a .lo))) (sym e)) h))
+    (omega arith, omega (arith, c .before .pre .0), omega arith, omega arith, refl, λ cut u g. (g, λ l q h. grows-as cut u _ l _ q _ _ (ap (λ (k : ℕ). holding k (a .state .0) (parts-from u (now (a .list)) (a .lo) (a .hi - a .lo))) (sym e)) h))
 
 held-one-requires : tie.Need-held-one-requires Inv-loop μ-loop
 held-one-requires c κs =
@@ -67,7 +67,7 @@ loop-again c =
             G .inside at,
             λ z q f.
                 l .inv .5 cut u g .1 z q (grows-as cut u (l .list) z (l .n) q _ _
-                (ap (λ (j : ℕ). holding (l .i - a .lo) st (partAt u (l .list) (l .i) ∷ []) ++ holding j st (partsFrom u (x .last .0) (l .i + 1) (a .hi - (l .i + 1)))) step
+                (ap (λ (j : ℕ). holding (l .i - a .lo) st (part-at u (l .list) (l .i) ∷ []) ++ holding j st (parts-from u (x .last .0) (l .i + 1) (a .hi - (l .i + 1)))) step
                 ∙ held-turn cut u (l .list) (x .last .0) (l .n) (x .result) (l .i) (a .hi) (l .i - a .lo) st _ t (omega arith) G refl)
                 (grows-then cut u (l .list) (x .last .0) z (l .n) (x .result) q _ _ G f)),
           ),

@@ -8,7 +8,7 @@ use native.Mathlib.Omega.{arith}
 use denote.Ref.{now}
 use lib.ListN.{length, length-append}
 use Rattle.writer.proofs.Filling.{Gives, gives-none, gives-then, gives-as}
-use Rattle.merge.specs.Inner.{partAt, partsFrom, wrapped}
+use Rattle.merge.specs.Inner.{part-at, parts-from, wrapped}
 use Rattle.merge.proofs.PartLists.{parts-first, parts-none}
 use Rattle.merge.proofs.Turns.{wrapped-more, wrapped-none}
 use Rattle.merge.proofs.texts.put_all.Statement.{statement}
@@ -16,8 +16,8 @@ use Rattle.merge.proofs.texts.put_all.Tie as tie
 
 abbrev Inv-loop : tie.InvT-loop
 Inv-loop first second list lo hi word end out₀ at p₀ i₀ out p i =
-    (lo ≤ i) × (i ≤ hi) × (p + length (wrapped word end (partsFrom (first ++ second) list i (hi - i))) ≡ at + length (wrapped word end (partsFrom (first ++ second) list lo (hi - lo)))) × (length out ≡ length out₀)
-    × ((o : List ℕ) (q : ℕ) → Gives out p (wrapped word end (partsFrom (first ++ second) list i (hi - i))) o q → Gives out₀ at (wrapped word end (partsFrom (first ++ second) list lo (hi - lo))) o q)
+    (lo ≤ i) × (i ≤ hi) × (p + length (wrapped word end (parts-from (first ++ second) list i (hi - i))) ≡ at + length (wrapped word end (parts-from (first ++ second) list lo (hi - lo)))) × (length out ≡ length out₀)
+    × ((o : List ℕ) (q : ℕ) → Gives out p (wrapped word end (parts-from (first ++ second) list i (hi - i))) o q → Gives out₀ at (wrapped word end (parts-from (first ++ second) list lo (hi - lo))) o q)
 
 abbrev μ-loop : tie.MeasureT-loop
 μ-loop first second list lo hi word end out₀ at p₀ i₀ out p i = hi - i
@@ -26,8 +26,8 @@ loop-holds : tie.Need-loop-holds Inv-loop μ-loop
 loop-holds c = (omega arith, c .before .before .before .before .before .before .pre .1 .0, refl, refl, λ o q g. g)
 
 -- the first part and the rest
-cut : (u list w z : List ℕ) (i hi : ℕ) → i + 1 ≤ hi → wrapped w z (partsFrom u list i (hi - i)) ≡ ((w ++ partAt u list i) ++ z) ++ wrapped w z (partsFrom u list (i + 1) (hi - (i + 1)))
-cut u list w z i hi h = ap (wrapped w z) (parts-first u list i hi (omega arith)) ∙ wrapped-more w z (partAt u list i) (partsFrom u list (i + 1) (hi - (i + 1)))
+cut : (u list w z : List ℕ) (i hi : ℕ) → i + 1 ≤ hi → wrapped w z (parts-from u list i (hi - i)) ≡ ((w ++ part-at u list i) ++ z) ++ wrapped w z (parts-from u list (i + 1) (hi - (i + 1)))
+cut u list w z i hi h = ap (wrapped w z) (parts-first u list i hi (omega arith)) ∙ wrapped-more w z (part-at u list i) (parts-from u list (i + 1) (hi - (i + 1)))
 
 put-one-requires : tie.Need-put-one-requires Inv-loop μ-loop
 put-one-requires c κs =
@@ -38,7 +38,7 @@ put-one-requires c κs =
     let W = now (a .word) in
     let Z = now (a .end) in
     let t = c .before .loop-test .taken in
-    let n = ap length (cut u z W Z (l .i) (a .hi) (omega arith)) ∙ length-append ((W ++ partAt u z (l .i)) ++ Z) (wrapped W Z (partsFrom u z (l .i + 1) (a .hi - (l .i + 1)))) in
+    let n = ap length (cut u z W Z (l .i) (a .hi) (omega arith)) ∙ length-append ((W ++ part-at u z (l .i)) ++ Z) (wrapped W Z (parts-from u z (l .i + 1) (a .hi - (l .i + 1)))) in
     let p = c .before .before .before .before .before .before .before .before .before .pre .1 .1 in
     let i = l .inv .2 in
     let j = l .inv .3 in
@@ -54,8 +54,8 @@ loop-again c =
     let W = now (a .word) in
     let Z = now (a .end) in
     let t = c .before .before .before .before .loop-test .taken in
-    let P = (W ++ partAt u z (l .i)) ++ Z in
-    let R = wrapped W Z (partsFrom u z (l .i + 1) (a .hi - (l .i + 1))) in
+    let P = (W ++ part-at u z (l .i)) ++ Z in
+    let R = wrapped W Z (parts-from u z (l .i + 1) (a .hi - (l .i + 1))) in
     let e = cut u z W Z (l .i) (a .hi) (omega arith) in
     let n = ap length e ∙ length-append P R in
     let m = x .ensures .0 in

@@ -7,7 +7,7 @@ use native.Mathlib.Omega.{arith}
 use denote.Ref.{now}
 use lib.ListN.{length, length-append}
 use lib.Seq.{slice}
-use Rattle.merge.specs.Inner.{partAt}
+use Rattle.merge.specs.Inner.{part-at}
 use Rattle.writer.proofs.Filling.{gives-then, gives-as}
 use Rattle.merge.proofs.Turns.{whole-slice}
 use Rattle.merge.proofs.texts.put_one.Statement.{statement}
@@ -20,14 +20,14 @@ sizes w p z = let a = length-append (w ++ p) z in let b = length-append w p in o
 put-part-requires : tie.Need-put-part-requires
 put-part-requires c κs =
     let a = c .before .before .before .before .before .before .before .before .args in
-    let s = sizes (now (a .word)) (partAt (now (a .first) ++ now (a .second)) (now (a .list)) (a .i)) (now (a .end)) in
+    let s = sizes (now (a .word)) (part-at (now (a .first) ++ now (a .second)) (now (a .list)) (a .i)) (now (a .end)) in
     let p = c .before .before .before .before .before .before .before .before .pre .1 in
     (omega arith, omega arith, omega arith)
 
 put-part-requires-2 : tie.Need-put-part-requires-2
 put-part-requires-2 c κs =
     let a = c .before .before .before .before .before .before .before .before .before .before .before .before .args in
-    let s = sizes (now (a .word)) (partAt (now (a .first) ++ now (a .second)) (now (a .list)) (a .i)) (now (a .end)) in
+    let s = sizes (now (a .word)) (part-at (now (a .first) ++ now (a .second)) (now (a .list)) (a .i)) (now (a .end)) in
     let p = c .before .before .before .before .before .before .before .before .before .before .before .before .pre .1 in
     let x = c .before .before .before .put-part in
     let n = x .ensures .0 in
@@ -39,7 +39,7 @@ put-part-requires-2 c κs =
 put-part-requires-3 : tie.Need-put-part-requires-3
 put-part-requires-3 c κs =
     let a = c .before .before .before .before .before .before .before .before .before .before .before .before .before .before .before .before .args in
-    let s = sizes (now (a .word)) (partAt (now (a .first) ++ now (a .second)) (now (a .list)) (a .i)) (now (a .end)) in
+    let s = sizes (now (a .word)) (part-at (now (a .first) ++ now (a .second)) (now (a .list)) (a .i)) (now (a .end)) in
     let p = c .before .before .before .before .before .before .before .before .before .before .before .before .before .before .before .before .pre .1 in
     let x = c .before .before .before .before .before .before .before .put-part in
     let y = c .before .before .before .put-part2 in
@@ -55,7 +55,7 @@ put-part-requires-3 c κs =
 returns : tie.Need-returns
 returns c =
     let a = c .before .before .before .before .before .before .before .before .before .before .before .before .before .before .before .before .before .before .before .args in
-    let P = partAt (now (a .first) ++ now (a .second)) (now (a .list)) (a .i) in
+    let P = part-at (now (a .first) ++ now (a .second)) (now (a .list)) (a .i) in
     let W = now (a .word) in
     let Z = now (a .end) in
     let s = sizes W P Z in

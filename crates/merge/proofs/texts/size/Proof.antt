@@ -7,7 +7,7 @@ use Prim.Native.Nat.{ℕ, _+_, _*_, _-_, _≤_}
 use native.Mathlib.Omega.{arith}
 use denote.Ref.{now}
 use lib.ListN.{length}
-use Rattle.merge.specs.Inner.{partAt, partsFrom, wrapped}
+use Rattle.merge.specs.Inner.{part-at, parts-from, wrapped}
 use Rattle.merge.proofs.PartLists.{parts-first, parts-none}
 use Rattle.merge.proofs.Turns.{wrapped-size, wrapped-none, part-short}
 use Rattle.merge.proofs.texts.size.Statement.{statement}
@@ -16,7 +16,7 @@ use Rattle.merge.proofs.texts.size.Tie as tie
 abbrev Inv-loop : tie.InvT-loop
 Inv-loop first second list lo hi around n₀ i₀ n i =
     (lo ≤ i) × (i ≤ hi) × (n ≤ 131080 * (i - lo))
-    × ((w z : List ℕ) → length w + length z ≡ around → n + length (wrapped w z (partsFrom (first ++ second) list i (hi - i))) ≡ length (wrapped w z (partsFrom (first ++ second) list lo (hi - lo))))
+    × ((w z : List ℕ) → length w + length z ≡ around → n + length (wrapped w z (parts-from (first ++ second) list i (hi - i))) ≡ length (wrapped w z (parts-from (first ++ second) list lo (hi - lo))))
 
 abbrev μ-loop : tie.MeasureT-loop
 μ-loop first second list lo hi around n₀ i₀ n i = hi - i
@@ -60,7 +60,7 @@ loop-again c =
       omega arith,
       λ w x h.
           let i = l .inv .3 w x h in
-          let f = ap (λ (y : List (List ℕ)). length (wrapped w x y)) (parts-first u z (l .i) (a .hi) t) ∙ wrapped-size w x (partAt u z (l .i)) (partsFrom u z (l .i + 1) (a .hi - (l .i + 1))) in
+          let f = ap (λ (y : List (List ℕ)). length (wrapped w x y)) (parts-first u z (l .i) (a .hi) t) ∙ wrapped-size w x (part-at u z (l .i)) (parts-from u z (l .i + 1) (a .hi - (l .i + 1))) in
           omega arith,
     )
 

@@ -8,7 +8,7 @@ use native.Mathlib.Omega.{arith}
 use denote.Ref.{now}
 use Rattle.steps.specs.State.{inserted}
 use Rattle.chars.specs.Places.{place}
-use Rattle.merge.specs.Inner.{partAt, partsFrom}
+use Rattle.merge.specs.Inner.{part-at, parts-from}
 use Rattle.merge.proofs.texts.start_one.Statement.{statement}
 use Rattle.merge.proofs.texts.start_one.Tie as tie
 
@@ -19,7 +19,7 @@ returns c =
     let z = now (a .list) in
     let h = sym (c .before .before .before .holds .ensures) ∙ c .before .before .if1 .taken in
     let f = c .before .find .ensures .0 in
-    let p = place (partAt u z (a .i)) (partsFrom u z (a .lo) (a .hi - a .lo)) in
+    let p = place (part-at u z (a .i)) (parts-from u z (a .lo) (a .hi - a .lo)) in
     let e : c .before .find .result - a .lo ≡ p = omega arith in
     c .insert .ensures ∙ ap (inserted (a .to .0)) e ∙ sym (ap (λ (v : Bool). cond v (inserted (a .to .0) p) (a .to .0)) h)
 
@@ -29,7 +29,7 @@ returns-2 c =
     let u = now (a .first) ++ now (a .second) in
     let z = now (a .list) in
     let h = sym (c .before .holds .ensures) ∙ c .if1 .left in
-    sym (ap (λ (v : Bool). cond v (inserted (a .to .0) (place (partAt u z (a .i)) (partsFrom u z (a .lo) (a .hi - a .lo)))) (a .to .0)) h)
+    sym (ap (λ (v : Bool). cond v (inserted (a .to .0) (place (part-at u z (a .i)) (parts-from u z (a .lo) (a .hi - a .lo)))) (a .to .0)) h)
 
 sub-insert : tie.Need-sub-insert
 sub-insert c = let f = c .find .ensures .0 in omega arith

@@ -6,7 +6,7 @@ use mathlib.Core.List.{List, _++_}
 use Prim.Native.Nat.{ℕ, suc, _+_, _-_, _≤_}
 use native.Mathlib.Omega.{arith}
 use denote.Ref.{now}
-use Rattle.merge.specs.Inner.{partAt, partsFrom, insertedIn}
+use Rattle.merge.specs.Inner.{part-at, parts-from, inserted-in}
 use Rattle.merge.proofs.PartLists.{parts-first, parts-none}
 use Rattle.merge.proofs.Turns.{inserted-more, inserted-none}
 use Rattle.merge.proofs.texts.starts.Statement.{statement}
@@ -14,8 +14,8 @@ use Rattle.merge.proofs.texts.starts.Tie as tie
 
 abbrev Inv-loop : tie.InvT-loop
 Inv-loop first second list from end lo hi s state₀ i₀ state i =
-    (from ≤ i) × (i ≤ end) × (insertedIn (partsFrom (first ++ second) list lo (hi - lo)) 0 (s .0) (partsFrom (first ++ second) list from (end - from)) (state₀ .0)
-    ≡ insertedIn (partsFrom (first ++ second) list lo (hi - lo)) (i - from) (s .0) (partsFrom (first ++ second) list i (end - i)) (state .0))
+    (from ≤ i) × (i ≤ end) × (inserted-in (parts-from (first ++ second) list lo (hi - lo)) 0 (s .0) (parts-from (first ++ second) list from (end - from)) (state₀ .0)
+    ≡ inserted-in (parts-from (first ++ second) list lo (hi - lo)) (i - from) (s .0) (parts-from (first ++ second) list i (end - i)) (state .0))
 
 abbrev μ-loop : tie.MeasureT-loop
 μ-loop first second list from end lo hi s state₀ i₀ state i = end - i
@@ -26,7 +26,7 @@ loop-holds c =
     let u = now (a .first) ++ now (a .second) in
     let z = now (a .list) in
     let e : 0 ≡ a .from - a .from = omega arith in
-    (omega arith, omega (arith, c .before .before .before .pre .1 .1 .1), ap (λ (k : ℕ). insertedIn (partsFrom u z (a .lo) (a .hi - a .lo)) k (a .s .0) (partsFrom u z (a .from) (a .end - a .from)) (a .to .0)) e)
+    (omega arith, omega (arith, c .before .before .before .pre .1 .1 .1), ap (λ (k : ℕ). inserted-in (parts-from u z (a .lo) (a .hi - a .lo)) k (a .s .0) (parts-from u z (a .from) (a .end - a .from)) (a .to .0)) e)
 
 start-one-requires : tie.Need-start-one-requires Inv-loop μ-loop
 start-one-requires c κs = let p = c .before .before .before .before .before .pre in (p .0 (c .before .loop .i) (c .loop-test .taken), (p .1 .0, p .1 .1 .0))
@@ -37,16 +37,16 @@ loop-again c =
     let a = c .before .before .before .before .before .before .args in
     let u = now (a .first) ++ now (a .second) in
     let z = now (a .list) in
-    let all = partsFrom u z (a .lo) (a .hi - a .lo) in
-    let rest = partsFrom u z (l .i + 1) (a .end - (l .i + 1)) in
+    let all = parts-from u z (a .lo) (a .hi - a .lo) in
+    let rest = parts-from u z (l .i + 1) (a .end - (l .i + 1)) in
     let t = c .before .loop-test .taken in
     let step : suc (l .i - a .from) ≡ l .i + 1 - a .from = omega arith in (
       omega arith,
       omega arith,
-      l .inv .2 ∙ ap (λ (y : List (List ℕ)). insertedIn all (l .i - a .from) (a .s .0) y (l .state .0)) (parts-first u z (l .i) (a .end) t)
-          ∙ inserted-more all (l .i - a .from) (a .s .0) (partAt u z (l .i)) rest (l .state .0)
-          ∙ ap (insertedIn all (suc (l .i - a .from)) (a .s .0) rest) (sym (c .start-one .ensures))
-          ∙ ap (λ (k : ℕ). insertedIn all k (a .s .0) rest (c .start-one .result .0)) step,
+      l .inv .2 ∙ ap (λ (y : List (List ℕ)). inserted-in all (l .i - a .from) (a .s .0) y (l .state .0)) (parts-first u z (l .i) (a .end) t)
+          ∙ inserted-more all (l .i - a .from) (a .s .0) (part-at u z (l .i)) rest (l .state .0)
+          ∙ ap (inserted-in all (suc (l .i - a .from)) (a .s .0) rest) (sym (c .start-one .ensures))
+          ∙ ap (λ (k : ℕ). inserted-in all k (a .s .0) rest (c .start-one .result .0)) step,
     )
 
 returns : tie.Need-returns Inv-loop μ-loop
@@ -55,8 +55,8 @@ returns c =
     let a = c .before .before .before .before .before .args in
     let u = now (a .first) ++ now (a .second) in
     let z = now (a .list) in
-    let all = partsFrom u z (a .lo) (a .hi - a .lo) in
-    sym (l .inv .2 ∙ ap (λ (y : List (List ℕ)). insertedIn all (l .i - a .from) (a .s .0) y (l .state .0)) (parts-none u z (l .i) (a .end) (c .loop-test .left)) ∙ inserted-none all (l .i - a .from) (a .s .0) (l .state .0))
+    let all = parts-from u z (a .lo) (a .hi - a .lo) in
+    sym (l .inv .2 ∙ ap (λ (y : List (List ℕ)). inserted-in all (l .i - a .from) (a .s .0) y (l .state .0)) (parts-none u z (l .i) (a .end) (c .loop-test .left)) ∙ inserted-none all (l .i - a .from) (a .s .0) (l .state .0))
 
 pub starts-spec : {M : Type 1} → statement M
 starts-spec = tie.close (tie.spec Inv-loop μ-loop loop-holds (λ c. search needs) start-one-requires (λ c. search needs) (λ c. search needs) loop-again returns)

@@ -4,15 +4,12 @@ use mathlib.Core.Path.{_∙_}
 use borrow.Author.Needs.{needs}
 use mathlib.Core.List.{_∷_}
 use lib.ListN.{length, length-set, length-replicate}
-use Rattle.unfolding.proofs.Walk.{startAt, addedBy}
+use Rattle.unfolding.proofs.Walk.{start-at, added-by}
 use Rattle.unfolding.proofs.Sizes.{sized-less}
 use Rattle.unfolding.proofs.Places.{no-place}
 use Rattle.unfolding.proofs.Writing.{whole}
 use Rattle.path.proofs.list.list_sized.Statement.{statement}
 use Rattle.path.proofs.list.list_sized.Tie as tie
-
-slice-aggregate-place-all : tie.Need-slice-aggregate-place-all
-slice-aggregate-place-all c = search needs
 
 place-all-requires : tie.Need-place-all-requires
 place-all-requires c κs =
@@ -28,15 +25,6 @@ place-all-requires c κs =
       room = p .2;
     }
 
-start-requires : tie.Need-start-requires
-start-requires c κs = search needs
-
-slice-write-states : tie.Need-slice-write-states
-slice-write-states c = search needs
-
-slice-aggregate-write-all : tie.Need-slice-aggregate-write-all
-slice-aggregate-write-all c = search needs
-
 write-all-requires : tie.Need-write-all-requires
 write-all-requires c κs =
     let a = c .before .before .before .before .before .before .before .before .before .before .before .before .args in
@@ -44,7 +32,7 @@ write-all-requires c κs =
       checked = c .before .before .before .before .before .before .before .before .before .before .before .before .pre .0;
       sizes-long = omega (arith, c .before .before .before .before .before .before .before .before .before .before .before .before .pre .1);
       offsets-long = rw (c .before .before .before .before .place-all .ensures .0, length-replicate) (omega (arith, c .before .before .before .before .before .before .before .before .before .before .before .before .pre .0 .readable .most));
-      wanted = startAt (a .calls .now) (a .answers .now) (a .asked) ∷ addedBy (a .rules .now) (a .goal .now) (a .calls .now) (a .answers .now) (a .asked);
+      wanted = start-at (a .calls .now) (a .answers .now) (a .asked) ∷ added-by (a .rules .now) (a .goal .now) (a .calls .now) (a .answers .now) (a .asked);
       fits = rw length-set (omega (arith, c .before .before .before .before .before .before .before .before .before .before .before .before .pre .2));
       laid = c .before .before .before .before .place-all .ensures .1;
       cap = length (a .states .now);
@@ -65,11 +53,5 @@ pub list-sized-spec : {M : Type 1} → statement M
 list-sized-spec =
     tie.close
     (tie.spec
-    slice-aggregate-place-all
-    place-all-requires
-    start-requires
-    slice-write-states
-    slice-aggregate-write-all
-    write-all-requires
-    same-length
-    returns)
+    (λ c. search needs) place-all-requires (λ c κs. search needs) (λ c. search needs)
+    (λ c. search needs) write-all-requires same-length returns)

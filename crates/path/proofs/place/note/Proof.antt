@@ -5,17 +5,11 @@ use borrow.Author.Needs.{needs}
 use Rattle.path.proofs.place.note.Statement.{statement}
 use Rattle.path.proofs.place.note.Tie as tie
 
-is-call-requires : tie.Need-is-call-requires
-is-call-requires c κs = search needs
-
 mul-offsets : tie.Need-mul-offsets
 mul-offsets c = omega (arith, c .before .before .before .pre (sym (c .before .is-call .ensures) ∙ c .if1 .taken))
 
 slice-write-offsets : tie.Need-slice-write-offsets
 slice-write-offsets c = c .before .before .before .pre (sym (c .before .is-call .ensures) ∙ c .if1 .taken)
-
-same-length : tie.Need-same-length
-same-length c = search needs
 
 returns : tie.Need-returns
 returns c = rw (sym (c .before .is-call .ensures) ∙ c .if1 .taken) refl
@@ -26,4 +20,5 @@ returns-2 c = rw (sym (c .before .is-call .ensures) ∙ c .if1 .left) refl
 pub note-spec : {M : Type 1} → statement M
 note-spec =
     tie.close
-    (tie.spec is-call-requires mul-offsets slice-write-offsets same-length returns returns-2)
+    (tie.spec
+    (λ c κs. search needs) mul-offsets slice-write-offsets (λ c. search needs) returns returns-2)

@@ -4,14 +4,14 @@ use native.Mathlib.Omega.{arith}
 use mathlib.Core.Path.{_≡_, refl, _∙_}
 use mathlib.Core.List.{_∷_}
 use lib.ListN.{length, getD, length-set}
-use Rattle.unfolding.proofs.Walk.{checked-less, addedBy, startAt}
+use Rattle.unfolding.proofs.Walk.{checked-less, added-by, start-at}
 use Rattle.unfolding.proofs.Sizes.{sized-less}
 use Rattle.unfolding.proofs.Places.{Laid, laid-first, laid-skip, laid-more}
 use Rattle.path.proofs.place.place_all.Statement.{statement}
 use Rattle.path.proofs.place.place_all.Tie as tie
 
 abbrev Inv-loop : tie.InvT-loop
-Inv-loop rules goal calls answers asked sizes offsets₀ n₀ offsets n = (n ≤ asked + 1) × (length offsets ≡ length offsets₀) × Laid rules goal calls answers asked n (startAt calls answers asked ∷ addedBy rules goal calls answers asked) offsets
+Inv-loop rules goal calls answers asked sizes offsets₀ n₀ offsets n = (n ≤ asked + 1) × (length offsets ≡ length offsets₀) × Laid rules goal calls answers asked n (start-at calls answers asked ∷ added-by rules goal calls answers asked) offsets
 
 abbrev μ-loop : tie.MeasureT-loop
 μ-loop rules goal calls answers asked sizes offsets₀ n₀ offsets n = n

@@ -4,13 +4,13 @@ use native.Mathlib.Omega.{arith}
 use mathlib.Core.Path.{_≡_, refl, sym}
 use lib.ListN.{length, length-set, length-take}
 use lib.Seq.{length-take-le}
-use Rattle.unfolding.proofs.Walk.{checked-less, addedBy}
+use Rattle.unfolding.proofs.Walk.{checked-less, added-by}
 use Rattle.unfolding.proofs.Sizes.{Sized, sized-none, sized-take, sized-more}
 use Rattle.path.proofs.size.size_all.Statement.{statement}
 use Rattle.path.proofs.size.size_all.Tie as tie
 
 abbrev Inv-loop : tie.InvT-loop
-Inv-loop rules goal calls answers count cap sizes₀ n₀ sizes n = (n ≤ count) × (length sizes ≡ length sizes₀) × Sized (addedBy rules goal calls answers) sizes n cap
+Inv-loop rules goal calls answers count cap sizes₀ n₀ sizes n = (n ≤ count) × (length sizes ≡ length sizes₀) × Sized (added-by rules goal calls answers) sizes n cap
 
 abbrev μ-loop : tie.MeasureT-loop
 μ-loop rules goal calls answers count cap sizes₀ n₀ sizes n = count - n

@@ -6,17 +6,8 @@ use Rattle.steps.proofs.WordLaws.{not-on}
 use Rattle.path.proofs.walk.after.Statement.{statement}
 use Rattle.path.proofs.walk.after.Tie as tie
 
-of-requires : tie.Need-of-requires
-of-requires c κs = search needs
-
 follow-requires : tie.Need-follow-requires
 follow-requires c κs = c .before .before .before .pre .0
-
-enum-known-next : tie.Need-enum-known-next
-enum-known-next c = search needs
-
-enum-told : tie.Need-enum-told
-enum-told c = search needs
 
 returns : tie.Need-returns
 unfolding onward
@@ -28,4 +19,6 @@ returns-2 c = absurd (not-on (rw (c .enum-told .given .1, c .before .before .bef
 
 pub after-spec : {M : Type 1} → statement M
 after-spec =
-    tie.close (tie.spec of-requires follow-requires enum-known-next enum-told returns returns-2)
+    tie.close
+    (tie.spec
+    (λ c κs. search needs) follow-requires (λ c. search needs) (λ c. search needs) returns returns-2)

@@ -10,9 +10,6 @@ use Rattle.path.proofs.walk.take_step.Tie as tie
 after-requires : tie.Need-after-requires
 after-requires c κs = (c .before .before .before .pre .0, c .before .before .before .pre .2)
 
-is-call-requires : tie.Need-is-call-requires
-is-call-requires c κs = search needs
-
 mul-t11 : tie.Need-mul-t11
 mul-t11 c = omega (arith, leads-below (sym (c .before .is-call .ensures) ∙ c .if1 .taken) (c .before .before .after .ensures), c .before .before .before .before .before .before .pre .0 .most)
 
@@ -23,9 +20,6 @@ returns : tie.Need-returns
 unfolding size-of
 returns c = record { to = c .before .before .before .after .ensures; sized = rw (sym (c .before .before .is-call .ensures) ∙ c .before .if1 .taken) refl }
 
-shown-requires : tie.Need-shown-requires
-shown-requires c κs = search needs
-
 returns-2 : tie.Need-returns-2
 unfolding size-of
 returns-2 c = record { to = c .before .before .before .after .ensures; sized = rw (sym (c .before .before .is-call .ensures) ∙ c .before .if1 .left) (c .shown .ensures _) }
@@ -34,10 +28,5 @@ pub take-step-spec : {M : Type 1} → statement M
 take-step-spec =
     tie.close
     (tie.spec
-    after-requires
-    is-call-requires
-    mul-t11
-    shared-slice-read-t13
-    returns
-    shown-requires
-    returns-2)
+    after-requires (λ c κs. search needs) mul-t11 shared-slice-read-t13 returns
+    (λ c κs. search needs) returns-2)

@@ -4,114 +4,113 @@ use Prim.Native.Nat.{_-_, _<_}
 use native.Mathlib.Omega.{arith}
 use mathlib.Core.Path.{_≡_, ap}
 use lib.ListN.{length, getD}
-use Rattle.unfolding.proofs.Walk.{checked-less, leads-most, wordsAt, stands-first, stands-goes}
+use Rattle.unfolding.proofs.Walk.{checked-less, leads-most, words-at, stands-first, stands-goes}
 use Rattle.unfolding.proofs.Places.{Along, along-first, along-next, along-end, exact, exact-call, room-left}
 use Rattle.unfolding.proofs.Writing.{Wrote, wrote-none, wrote-more}
 use Rattle.path.proofs.write.write.Statement.{statement}
 use Rattle.path.proofs.write.write.Tie as tie
 
 abbrev Inv-loop : tie.InvT-loop
-Inv-loop rules goal calls answers n sizes offsets list₀ steps state₀ at₀ q₀ list state at q = (steps ≡ wordsAt rules goal answers n) × Along rules goal calls answers n (getD offsets n 0) q state at × Wrote rules goal calls answers offsets n at list₀ list
+Inv-loop rules goal calls answers n sizes offsets list₀ steps state₀ at₀ q₀ list state at q = (steps ≡ words-at rules goal answers n) × Along rules goal calls answers n (getD offsets n 0) q state at × Wrote rules goal calls answers offsets n at list₀ list
 
 abbrev μ-loop : tie.MeasureT-loop
 μ-loop rules goal calls answers n sizes offsets list₀ steps state₀ at₀ q₀ list state at q = length steps - q
 
-mul-steps-of : tie.Need-mul-steps-of Inv-loop μ-loop
-mul-steps-of c = omega (arith, c .before .before .before .before .before .before .before .pre .checked .readable .long, c .before .before .before .before .before .before .before .pre .checked .readable .most)
-
-add-steps-of : tie.Need-add-steps-of Inv-loop μ-loop
-add-steps-of c = omega (arith, c .before .before .before .before .before .before .before .pre .checked .readable .long, c .before .before .before .before .before .before .before .pre .checked .readable .most)
-
-mul-steps-of-2 : tie.Need-mul-steps-of-2 Inv-loop μ-loop
-mul-steps-of-2 c = omega (arith, c .before .before .before .before .before .before .before .pre .checked .readable .long, c .before .before .before .before .before .before .before .pre .checked .readable .most)
-
-shared-slice-read-steps-of : tie.Need-shared-slice-read-steps-of Inv-loop μ-loop
-shared-slice-read-steps-of c = omega (arith, c .before .before .before .before .before .before .before .before .pre .checked .readable .long, c .before .before .before .before .before .before .before .before .pre .checked .readable .most)
-
 steps-of-requires : tie.Need-steps-of-requires Inv-loop μ-loop
-steps-of-requires c κs = (c .before .before .before .before .before .before .before .before .pre .checked .short, c .before .before .before .before .before .before .before .before .pre .checked .fits (c .before .before .before .before .before .before .before .before .args .n) (omega arith))
+steps-of-requires c κs =
+    let entry = c .before .before .before .before .before .before .before in
+    (entry .args .calls .now, entry .pre .checked)
 
 start-requires : tie.Need-start-requires Inv-loop μ-loop
-start-requires c κs = c .before .before .before .before .before .before .before .before .before .pre .checked .readable
+start-requires c κs =
+    let entry = c .before .before .before .before .before .before .before .before in
+    entry .pre .checked .readable
 
 mul-at : tie.Need-mul-at Inv-loop μ-loop
-mul-at c = omega (arith, c .before .before .before .before .before .before .before .before .before .before .pre .offsets-long)
+mul-at c = omega (arith, c .before .before .before .before .before .before .before .before .before .pre .offsets-long)
 
 shared-slice-read-at : tie.Need-shared-slice-read-at Inv-loop μ-loop
-shared-slice-read-at c = omega (arith, c .before .before .before .before .before .before .before .before .before .before .before .pre .offsets-long)
+shared-slice-read-at c = omega (arith, c .before .before .before .before .before .before .before .before .before .before .pre .offsets-long)
 
 loop-holds : tie.Need-loop-holds Inv-loop μ-loop
-loop-holds c = (c .before .before .steps-of .ensures .0, rw (c .before .start .ensures) (along-first _ _ _ _ (stands-first _ _ _ _ (c .before .before .before .before .before .before .before .before .before .before .before .pre .checked) (omega arith))), wrote-none _ _ _ _ _ _ _)
+loop-holds c =
+    let entry = c .before .before .before .before .before .before .before .before .before .before in
+    (c .before .before .steps-of .ensures .0, rw (c .before .start .ensures) (along-first _ _ _ _ (stands-first _ _ _ _ (entry .pre .checked) (omega arith))), wrote-none _ _ _ _ _ _ _)
 
 mul-step : tie.Need-mul-step Inv-loop μ-loop
-mul-step c = omega (arith, c .before .before .before .before .before .before .before .before .before .before .before .before .before .pre .checked .readable .long, c .before .before .before .before .before .before .before .before .before .before .before .before .before .pre .checked .readable .most, c .before .before .before .before .steps-of .ensures .1)
+mul-step c = omega (arith, c .before .before .before .before .before .before .before .before .before .before .before .before .pre .checked .readable .long, c .before .before .before .before .before .before .before .before .before .before .before .before .pre .checked .readable .most, c .before .before .before .before .steps-of .ensures .1)
 
 shared-slice-read-step : tie.Need-shared-slice-read-step Inv-loop μ-loop
-shared-slice-read-step c = omega (arith, c .before .before .before .before .before .before .before .before .before .before .before .before .before .before .pre .checked .readable .long, c .before .before .before .before .before .before .before .before .before .before .before .before .before .before .pre .checked .readable .most, c .before .before .before .before .before .steps-of .ensures .1)
+shared-slice-read-step c = omega (arith, c .before .before .before .before .before .before .before .before .before .before .before .before .before .pre .checked .readable .long, c .before .before .before .before .before .before .before .before .before .before .before .before .before .pre .checked .readable .most, c .before .before .before .before .before .steps-of .ensures .1)
 
-mul-used : tie.Need-mul-used Inv-loop μ-loop
-mul-used c = omega (arith, c .before .before .before .before .before .before .before .before .before .before .before .before .before .before .pre .checked .readable .long, c .before .before .before .before .before .before .before .before .before .before .before .before .before .before .pre .checked .readable .most, c .before .before .before .before .before .steps-of .ensures .1)
-
-add-used : tie.Need-add-used Inv-loop μ-loop
-add-used c = omega (arith, c .before .before .before .before .before .before .before .before .before .before .before .before .before .before .pre .checked .readable .long, c .before .before .before .before .before .before .before .before .before .before .before .before .before .before .pre .checked .readable .most, c .before .before .before .before .before .steps-of .ensures .1)
-
-add-used-2 : tie.Need-add-used-2 Inv-loop μ-loop
-add-used-2 c = omega (arith, c .before .before .before .before .before .before .before .before .before .before .before .before .before .before .pre .checked .readable .long, c .before .before .before .before .before .before .before .before .before .before .before .before .before .before .pre .checked .readable .most, c .before .before .before .before .before .steps-of .ensures .1)
-
-mul-used-2 : tie.Need-mul-used-2 Inv-loop μ-loop
-mul-used-2 c = omega (arith, c .before .before .before .before .before .before .before .before .before .before .before .before .before .before .pre .checked .readable .long, c .before .before .before .before .before .before .before .before .before .before .before .before .before .before .pre .checked .readable .most, c .before .before .before .before .before .steps-of .ensures .1)
-
-shared-slice-read-used : tie.Need-shared-slice-read-used Inv-loop μ-loop
-shared-slice-read-used c = omega (arith, c .before .before .before .before .before .before .before .before .before .before .before .before .before .before .before .pre .checked .readable .long, c .before .before .before .before .before .before .before .before .before .before .before .before .before .before .before .pre .checked .readable .most, c .before .before .before .before .before .before .steps-of .ensures .1)
+evidence-of-requires : tie.Need-evidence-of-requires Inv-loop μ-loop
+evidence-of-requires c κs =
+    let at-steps-of = c .before .before .before .before .before in
+    let entry = at-steps-of .before .before .before .before .before .before .before .before in
+    (omega (arith, entry .pre .checked .readable .long), omega (arith, at-steps-of .steps-of .ensures .1))
 
 take-step-requires : tie.Need-take-step-requires Inv-loop μ-loop
 take-step-requires c κs =
-    let a = c .before .before .before .before .before .before .before .before .before .before .before .before .before .before .before .args in
-    let i = c .before .before .before .loop .inv in
-    let l : c .before .before .before .loop .q < length (wordsAt (a .rules .now) (a .goal .now) (a .answers .now) (a .n)) = omega (arith, ap length (i .0)) in
-    (checked-less {n = a .n} (omega arith) (c .before .before .before .before .before .before .before .before .before .before .before .before .before .before .before .pre .checked) .readable, c .before .before .before .before .before .before .before .before .before .before .before .before .before .before .before .pre .sizes-long, rw (i .0) (stands-goes (a .rules .now) (a .goal .now) (a .calls .now) (a .answers .now) (a .n) _ _ l (i .1 .stands)))
+    let at-loop = c .before .before .before in
+    let entry = at-loop .before .before .before .before .before .before .before .before .before .before .before in
+    let a = entry .args in
+    let i = at-loop .loop .inv in
+    let l : at-loop .loop .q < length (words-at (a .rules .now) (a .goal .now) (a .answers .now) (a .n)) = omega (arith, ap length (i .0)) in
+    (checked-less {n = a .n} (omega arith) (entry .pre .checked) .readable, entry .pre .sizes-long, rw (i .0, c .evidence-of .ensures) (stands-goes (a .rules .now) (a .goal .now) (a .calls .now) (a .answers .now) (a .n) _ _ l (i .1 .stands)))
 
 mul-write-step : tie.Need-mul-write-step Inv-loop μ-loop
-mul-write-step c = omega (arith, leads-most (c .take-step .ensures .to), c .before .before .before .before .before .before .before .before .before .before .before .before .before .before .before .before .pre .offsets-long)
+mul-write-step c = omega (arith, leads-most (c .take-step .ensures .to), c .before .before .before .before .before .before .before .before .before .before .before .before .before .before .before .pre .offsets-long)
 
 shared-slice-read-write-step : tie.Need-shared-slice-read-write-step Inv-loop μ-loop
-shared-slice-read-write-step c = omega (arith, leads-most (c .before .take-step .ensures .to), c .before .before .before .before .before .before .before .before .before .before .before .before .before .before .before .before .before .pre .offsets-long)
+shared-slice-read-write-step c = omega (arith, leads-most (c .before .take-step .ensures .to), c .before .before .before .before .before .before .before .before .before .before .before .before .before .before .before .before .pre .offsets-long)
 
 write-step-requires : tie.Need-write-step-requires Inv-loop μ-loop
 write-step-requires c κs =
-    let a = c .before .before .before .before .before .before .before .before .before .before .before .before .before .before .before .before .before .before .args in
-    let i = c .before .before .before .before .before .before .loop .inv in
-    let l : c .before .before .before .before .before .before .loop .q < length (wordsAt (a .rules .now) (a .goal .now) (a .answers .now) (a .n)) = omega (arith, ap length (i .0)) in
-    let u = rw (i .0) at (c .before .before .take-step .ensures) in
-    let r = c .before .before .before .before .before .before .before .before .before .before .before .before .before .before .before .before .before .before .pre .roomy in (
-      omega (arith, room-left (a .rules .now) (a .goal .now) (a .calls .now) (a .answers .now) (a .n) _ _ _ _ (i .1) l r u, c .before .before .before .before .before .before .before .before .before .before .before .before .before .before .before .before .before .before .pre .inside (a .n) (r .after-first), i .2 .long),
-      λ k. (let k′ = rw (i .0) at k in omega (arith, exact-call (a .rules .now) (a .goal .now) (a .calls .now) (a .answers .now) (a .n) _ _ _ _ (i .1) l r u k′, c .before .before .before .before .before .before .before .before .before .before .before .before .before .before .before .before .before .before .pre .inside _ (c .before .before .before .before .before .before .before .before .before .before .before .before .before .before .before .before .before .before .pre .linked _ l k′), i .2 .long)),
+    let at-evidence-of = c .before .before .before in
+    let at-loop = at-evidence-of .before .before .before in
+    let entry = at-loop .before .before .before .before .before .before .before .before .before .before .before in
+    let a = entry .args in
+    let i = at-loop .loop .inv in
+    let l : at-loop .loop .q < length (words-at (a .rules .now) (a .goal .now) (a .answers .now) (a .n)) = omega (arith, ap length (i .0)) in
+    let u = rw (i .0, at-evidence-of .evidence-of .ensures) at (c .before .before .take-step .ensures) in
+    let r = entry .pre .roomy in (
+      omega (arith, room-left (a .rules .now) (a .goal .now) (a .calls .now) (a .answers .now) (a .n) _ _ _ _ (i .1) l r u, entry .pre .inside (a .n) (r .after-first), i .2 .long),
+      λ k. (let k′ = rw (i .0) at k in rw (at-evidence-of .evidence-of .ensures) (omega (arith, exact-call (a .rules .now) (a .goal .now) (a .calls .now) (a .answers .now) (a .n) _ _ _ _ (i .1) l r u k′, entry .pre .inside _ (entry .pre .linked _ l k′), i .2 .long))),
     )
 
 add-at : tie.Need-add-at Inv-loop μ-loop
 add-at c =
-    let a = c .before .before .before .before .before .before .before .before .before .before .before .before .before .before .before .before .before .before .before .before .before .before .args in
-    let i = c .before .before .before .before .before .before .before .before .before .before .loop .inv in
-    let l : c .before .before .before .before .before .before .before .before .before .before .loop .q < length (wordsAt (a .rules .now) (a .goal .now) (a .answers .now) (a .n)) = omega (arith, ap length (i .0)) in
-    let u = rw (i .0) at (c .before .before .before .before .before .before .take-step .ensures) in
-    omega (arith, room-left (a .rules .now) (a .goal .now) (a .calls .now) (a .answers .now) (a .n) _ _ _ _ (i .1) l (c .before .before .before .before .before .before .before .before .before .before .before .before .before .before .before .before .before .before .before .before .before .before .pre .roomy) u, c .before .before .before .before .before .before .before .before .before .before .before .before .before .before .before .before .before .before .before .before .before .before .pre .roomy .room, c .before .before .before .before .before .before .before .before .before .before .before .before .before .before .before .before .before .before .before .before .before .before .pre .roomy .small)
+    let at-take-step = c .before .before .before .before .before .before in
+    let at-evidence-of = at-take-step .before in
+    let at-loop = at-evidence-of .before .before .before in
+    let entry = at-loop .before .before .before .before .before .before .before .before .before .before .before in
+    let a = entry .args in
+    let i = at-loop .loop .inv in
+    let l : at-loop .loop .q < length (words-at (a .rules .now) (a .goal .now) (a .answers .now) (a .n)) = omega (arith, ap length (i .0)) in
+    let u = rw (i .0, at-evidence-of .evidence-of .ensures) at (at-take-step .take-step .ensures) in
+    omega (arith, room-left (a .rules .now) (a .goal .now) (a .calls .now) (a .answers .now) (a .n) _ _ _ _ (i .1) l (entry .pre .roomy) u, entry .pre .roomy .room, entry .pre .roomy .small)
 
 add-q : tie.Need-add-q Inv-loop μ-loop
-add-q c = omega (arith, c .before .before .before .before .before .before .before .before .before .before .before .before .before .before .before .before .before .before .before .before .before .before .pre .checked .readable .long, c .before .before .before .before .before .before .before .before .before .before .before .before .before .before .before .before .before .before .before .before .before .before .pre .checked .readable .most, c .before .before .before .before .before .before .before .before .before .before .before .before .before .steps-of .ensures .1)
+add-q c = omega (arith, c .before .before .before .before .before .before .before .before .before .before .before .before .before .before .before .before .before .before .before .before .before .pre .checked .readable .long, c .before .before .before .before .before .before .before .before .before .before .before .before .before .before .before .before .before .before .before .before .before .pre .checked .readable .most, c .before .before .before .before .before .before .before .before .before .before .before .before .before .steps-of .ensures .1)
 
 loop-less : tie.Need-loop-less Inv-loop μ-loop
-loop-less c = omega (arith, c .before .before .before .before .before .before .before .before .before .before .before .before .before .before .before .before .before .before .before .before .before .before .pre .checked .readable .long, c .before .before .before .before .before .before .before .before .before .before .before .before .before .before .before .before .before .before .before .before .before .before .pre .checked .readable .most, c .before .before .before .before .before .before .before .before .before .before .before .before .before .steps-of .ensures .1)
+loop-less c = omega (arith, c .before .before .before .before .before .before .before .before .before .before .before .before .before .before .before .before .before .before .before .before .before .pre .checked .readable .long, c .before .before .before .before .before .before .before .before .before .before .before .before .before .before .before .before .before .before .before .before .before .pre .checked .readable .most, c .before .before .before .before .before .before .before .before .before .before .before .before .before .steps-of .ensures .1)
 
 loop-again : tie.Need-loop-again Inv-loop μ-loop
 loop-again c =
-    let a = c .before .before .before .before .before .before .before .before .before .before .before .before .before .before .before .before .before .before .before .before .before .before .args in
-    let i = c .before .before .before .before .before .before .before .before .before .before .loop .inv in
-    let l : c .before .before .before .before .before .before .before .before .before .before .loop .q < length (wordsAt (a .rules .now) (a .goal .now) (a .answers .now) (a .n)) = omega (arith, ap length (i .0)) in
-    let u = rw (i .0) at (c .before .before .before .before .before .before .take-step .ensures) in
-    let e = exact (a .rules .now) (a .goal .now) (a .calls .now) (a .answers .now) (a .n) _ _ _ _ (i .1) l (c .before .before .before .before .before .before .before .before .before .before .before .before .before .before .before .before .before .before .before .before .before .before .pre .roomy) u in (
+    let at-write-step = c .before .before .before in
+    let at-take-step = at-write-step .before .before .before in
+    let at-evidence-of = at-take-step .before in
+    let at-loop = at-evidence-of .before .before .before in
+    let entry = at-loop .before .before .before .before .before .before .before .before .before .before .before in
+    let a = entry .args in
+    let i = at-loop .loop .inv in
+    let l : at-loop .loop .q < length (words-at (a .rules .now) (a .goal .now) (a .answers .now) (a .n)) = omega (arith, ap length (i .0)) in
+    let u = rw (i .0, at-evidence-of .evidence-of .ensures) at (at-take-step .take-step .ensures) in
+    let e = exact (a .rules .now) (a .goal .now) (a .calls .now) (a .answers .now) (a .n) _ _ _ _ (i .1) l (entry .pre .roomy) u in (
       i .0,
       along-next (a .rules .now) (a .goal .now) (a .calls .now) (a .answers .now) (a .n) _ _ _ _ (i .1) l _ (u .to) _ e,
-      wrote-more (a .rules .now) (a .goal .now) (a .calls .now) (a .answers .now) _ (a .n) _ _ _ _ _ _ _ _ (i .2) (c .before .before .before .before .before .before .before .before .before .before .before .before .before .before .before .before .before .before .before .before .before .before .pre .roomy .after-first) (i .1) (c .before .before .before .before .before .before .before .before .before .before .before .before .before .before .before .before .before .before .before .before .before .before .pre .linked) l (u .to) e (rw (i .0) at (c .before .before .before .write-step .ensures)),
+      wrote-more (a .rules .now) (a .goal .now) (a .calls .now) (a .answers .now) _ (a .n) _ _ _ _ _ _ _ _ (i .2) (entry .pre .roomy .after-first) (i .1) (entry .pre .linked) l (u .to) e (rw (i .0, at-evidence-of .evidence-of .ensures) at (at-write-step .write-step .ensures)),
     )
 
 same-length : tie.Need-same-length Inv-loop μ-loop
@@ -119,7 +118,8 @@ same-length c = c .before .loop .inv .2 .long
 
 returns : tie.Need-returns Inv-loop μ-loop
 returns c =
-    let a = c .before .before .before .before .before .before .before .before .before .before .before .before .before .args in
+    let entry = c .before .before .before .before .before .before .before .before .before .before .before .before in
+    let a = entry .args in
     let i = c .before .loop .inv in
     let e = along-end (a .rules .now) (a .goal .now) (a .calls .now) (a .answers .now) (a .n) _ _ _ _ (i .1) (omega (arith, ap length (i .0))) in
     rw e at (i .2)
@@ -128,31 +128,7 @@ pub write-spec : {M : Type 1} → statement M
 write-spec =
     tie.close
     (tie.spec
-    Inv-loop
-    μ-loop
-    mul-steps-of
-    add-steps-of
-    mul-steps-of-2
-    shared-slice-read-steps-of
-    steps-of-requires
-    start-requires
-    mul-at
-    shared-slice-read-at
-    loop-holds
-    mul-step
-    shared-slice-read-step
-    mul-used
-    add-used
-    add-used-2
-    mul-used-2
-    shared-slice-read-used
-    take-step-requires
-    mul-write-step
-    shared-slice-read-write-step
-    write-step-requires
-    add-at
-    add-q
-    loop-less
-    loop-again
-    same-length
+    Inv-loop μ-loop steps-of-requires start-requires mul-at shared-slice-read-at loop-holds mul-step
+    shared-slice-read-step evidence-of-requires take-step-requires mul-write-step
+    shared-slice-read-write-step write-step-requires add-at add-q loop-less loop-again same-length
     returns)

@@ -7,29 +7,14 @@ use Rattle.unfolding.proofs.Writing.{stepped-copy, stepped-none, stepped-store}
 use Rattle.path.proofs.write.write_step.Statement.{statement}
 use Rattle.path.proofs.write.write_step.Tie as tie
 
-is-call-requires : tie.Need-is-call-requires
-is-call-requires c κs = search needs
-
 copy-requires : tie.Need-copy-requires
 copy-requires c κs = (c .before .before .before .before .before .pre .1 (sym (c .before .before .before .is-call .ensures) ∙ c .before .before .if1 .taken), c .before .before .before .before .before .pre .0)
-
-same-length : tie.Need-same-length
-same-length c = search needs
 
 returns : tie.Need-returns
 returns c = stepped-copy (sym (c .before .before .before .before .before .before .is-call .ensures) ∙ c .before .before .before .before .before .if1 .taken) (c .before .before .copy .ensures)
 
 returns-2 : tie.Need-returns-2
 returns-2 c = stepped-copy (sym (c .before .before .is-call .ensures) ∙ c .before .if1 .taken) (rw (c .if2 .left) (copied-same _ _ _))
-
-mul-list : tie.Need-mul-list
-mul-list c = search needs
-
-slice-write-list : tie.Need-slice-write-list
-slice-write-list c = search needs
-
-same-length-2 : tie.Need-same-length-2
-same-length-2 c = search needs
 
 returns-3 : tie.Need-returns-3
 returns-3 c = stepped-store (sym (c .before .before .is-call .ensures) ∙ c .before .if1 .left) (omega (arith, c .if3 .taken)) (omega arith)
@@ -41,13 +26,5 @@ pub write-step-spec : {M : Type 1} → statement M
 write-step-spec =
     tie.close
     (tie.spec
-    is-call-requires
-    copy-requires
-    same-length
-    returns
-    returns-2
-    mul-list
-    slice-write-list
-    same-length-2
-    returns-3
-    returns-4)
+    (λ c κs. search needs) copy-requires (λ c. search needs) returns returns-2 (λ c. search needs)
+    (λ c. search needs) (λ c. search needs) returns-3 returns-4)

@@ -31,8 +31,8 @@ element-write-words c = search needs
 next-requires-2 : tie.Need-next-requires-2 Inv-loop μ-loop
 next-requires-2 c κs = search needs
 
-pick-requires : tie.Need-pick-requires Inv-loop μ-loop
-pick-requires c κs = search needs
+length-requires : tie.Need-length-requires Inv-loop μ-loop
+length-requires c κs = search needs
 
 cast-words-2 : tie.Need-cast-words-2 Inv-loop μ-loop
 cast-words-2 c = search needs
@@ -101,7 +101,7 @@ record-spec =
     mul-words
     element-write-words
     next-requires-2
-    pick-requires
+    length-requires
     cast-words-2
     add-words
     mul-words-2

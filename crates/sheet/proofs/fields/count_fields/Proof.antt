@@ -6,13 +6,13 @@ use native.Mathlib.Omega.{arith}
 use borrow.Author.Needs.{needs}
 use denote.Ref.{now}
 use lib.ListN.{length}
-use Rattle.chars.specs.Inner.{fieldsFrom}
+use Rattle.chars.specs.Inner.{fields-from}
 use Rattle.chars.proofs.Ends.{fields-gone}
 use Rattle.sheet.proofs.fields.count_fields.Statement.{statement}
 use Rattle.sheet.proofs.fields.count_fields.Tie as tie
 
 abbrev Inv-loop : tie.InvT-loop
-Inv-loop s p e n₀ at₀ n at = (at ≤ e + 1) × (n + p ≤ at) × (n + length (fieldsFrom at e s) ≡ length (fieldsFrom p e s))
+Inv-loop s p e n₀ at₀ n at = (at ≤ e + 1) × (n + p ≤ at) × (n + length (fields-from at e s) ≡ length (fields-from p e s))
 
 abbrev μ-loop : tie.MeasureT-loop
 μ-loop s p e n₀ at₀ n at = e + 1 - at

@@ -8,7 +8,7 @@ use lib.Seq.{slice}
 use borrow.Author.Tests.{lt-ltb}
 use Rattle.steps.specs.State.{added}
 use Rattle.sheet.specs.Verdict.{accept}
-use Rattle.sheet.specs.Held.{symbolsOf}
+use Rattle.sheet.specs.Held.{symbols-of}
 use Rattle.sheet.proofs.Verdicts.{answer-ok, answer-no}
 use Rattle.sheet.proofs.FieldVerdicts.{start-refused, start-twice, start-once}
 use borrow.Author.Needs.{needs}
@@ -19,11 +19,11 @@ used-name-requires : tie.Need-used-name-requires
 used-name-requires c κs = search needs
 
 returns : tie.Need-returns
-unfolding symbolsOf
+unfolding symbols-of
 returns c =
     let a = c .before .before .before .args in
     let s = now (a .s) in
-    let y = symbolsOf s (a .n) in
+    let y = symbols-of s (a .n) in
     let f = slice (a .a) (a .e) s in
     let u = c .before .used-name in
     let g : a .n .fluents - 0 ≡ a .n .fluents = omega arith in
@@ -35,11 +35,11 @@ holds-requires : tie.Need-holds-requires
 holds-requires c κs = search needs
 
 returns-2 : tie.Need-returns-2
-unfolding symbolsOf
+unfolding symbols-of
 returns-2 c =
     let a = c .before .before .before .before .before .args in
     let s = now (a .s) in
-    let y = symbolsOf s (a .n) in
+    let y = symbols-of s (a .n) in
     let f = slice (a .a) (a .e) s in
     let u = c .before .before .before .used-name in
     let g : a .n .fluents - 0 ≡ a .n .fluents = omega arith in
@@ -51,11 +51,11 @@ insert-requires : tie.Need-insert-requires
 insert-requires c κs = search needs
 
 returns-3 : tie.Need-returns-3
-unfolding symbolsOf
+unfolding symbols-of
 returns-3 c =
     let a = c .before .before .before .before .before .before .args in
     let s = now (a .s) in
-    let y = symbolsOf s (a .n) in
+    let y = symbols-of s (a .n) in
     let f = slice (a .a) (a .e) s in
     let u = c .before .before .before .before .used-name in
     let g : a .n .fluents - 0 ≡ a .n .fluents = omega arith in

@@ -6,17 +6,17 @@ use native.Mathlib.Omega.{arith}
 use borrow.Author.Needs.{needs}
 use denote.Ref.{now}
 use lib.Seq.{slice}
-use Rattle.chars.specs.Inner.{fieldsFrom}
+use Rattle.chars.specs.Inner.{fields-from}
 use Rattle.chars.proofs.Ends.{fields-gone}
-use Rattle.sheet.specs.Field.{startNames}
-use Rattle.sheet.specs.Held.{symbolsOf}
+use Rattle.sheet.specs.Field.{start-names}
+use Rattle.sheet.specs.Held.{symbols-of}
 use Rattle.sheet.proofs.Verdicts.{answer-ok, answer-no}
 use Rattle.sheet.proofs.FieldVerdicts.{starts-stop, starts-go, starts-end}
 use Rattle.sheet.proofs.fields.start_names.Statement.{statement}
 use Rattle.sheet.proofs.fields.start_names.Tie as tie
 
 abbrev Inv-loop : tie.InvT-loop
-Inv-loop s p e n state₀ at₀ state at = (at ≤ e + 1) × (startNames (symbolsOf s n) 0 (fieldsFrom p e s) ≡ startNames (symbolsOf s n) (state .0) (fieldsFrom at e s))
+Inv-loop s p e n state₀ at₀ state at = (at ≤ e + 1) × (start-names (symbols-of s n) 0 (fields-from p e s) ≡ start-names (symbols-of s n) (state .0) (fields-from at e s))
 
 abbrev μ-loop : tie.MeasureT-loop
 μ-loop s p e n state₀ at₀ state at = e + 1 - at
@@ -34,11 +34,11 @@ returns : tie.Need-returns Inv-loop μ-loop
 returns c =
     let a = c .before .before .before .before .before .before .args in
     let s = now (a .s) in
-    let y = symbolsOf s (a .n) in
+    let y = symbols-of s (a .n) in
     let q = c .before .before .field-end in
     let r = c .before .start-name in
     let f = slice (c .before .before .before .before .loop .at) (q .result) s in
-    let fs = fieldsFrom (q .result + 1) (a .e) s in
+    let fs = fields-from (q .result + 1) (a .e) s in
     let g = c .before .before .before .before .loop .inv .1 in
     let h = rw (q .ensures .cut) at g in
     let v = answer-no (r .result .refusal) (r .result .state .0) (c .if1 .taken) in
@@ -54,11 +54,11 @@ loop-again : tie.Need-loop-again Inv-loop μ-loop
 loop-again c =
     let a = c .before .before .before .before .before .before .before .args in
     let s = now (a .s) in
-    let y = symbolsOf s (a .n) in
+    let y = symbols-of s (a .n) in
     let q = c .before .before .before .field-end in
     let r = c .before .before .start-name in
     let f = slice (c .before .before .before .before .before .loop .at) (q .result) s in
-    let fs = fieldsFrom (q .result + 1) (a .e) s in
+    let fs = fields-from (q .result + 1) (a .e) s in
     let g = c .before .before .before .before .before .loop .inv .1 in
     let h = rw (q .ensures .cut) at g in
     let v = answer-ok (r .result .refusal) (r .result .state .0) (c .before .if1 .left) in
@@ -71,7 +71,7 @@ returns-2 c =
     let s = now (a .s) in
     let g = c .before .loop .inv .1 in
     let h = rw (fields-gone s (c .before .loop .at) (a .e) (c .loop-test .left)) at g in
-    sym (h ∙ starts-end (symbolsOf s (a .n)) (c .before .loop .state .0))
+    sym (h ∙ starts-end (symbols-of s (a .n)) (c .before .loop .state .0))
 
 pub start-names-spec : {M : Type 1} → statement M
 start-names-spec =

@@ -8,10 +8,10 @@ use borrow.Author.Needs.{needs}
 use denote.Ref.{now}
 use lib.ListN.{length, take}
 use lib.Seq.{slice}
-use Rattle.chars.specs.Inner.{fieldsFrom}
+use Rattle.chars.specs.Inner.{fields-from}
 use Rattle.chars.proofs.Ends.{fields-gone}
-use Rattle.sheet.specs.Field.{stepWords}
-use Rattle.sheet.specs.Held.{symbolsOf, Filled}
+use Rattle.sheet.specs.Field.{step-words}
+use Rattle.sheet.specs.Held.{symbols-of, Filled}
 use Rattle.sheet.proofs.Verdicts.{answer-ok, answer-no}
 use Rattle.sheet.proofs.Bodies.{prefix, steps-stop, steps-go, steps-end, steps-begin, filled-next, taken-next}
 use Rattle.sheet.proofs.fields.steps.Statement.{statement}
@@ -19,8 +19,8 @@ use Rattle.sheet.proofs.fields.steps.Tie as tie
 
 abbrev Inv-loop : tie.InvT-loop
 Inv-loop s p e n words₀ len₀ at₀ words len at =
-    (at ≤ e + 1) × (len + length (fieldsFrom at e s) ≤ 16) × Filled len words
-    × (stepWords (symbolsOf s n) (fieldsFrom p e s) ≡ prefix (take len words) (stepWords (symbolsOf s n) (fieldsFrom at e s)))
+    (at ≤ e + 1) × (len + length (fields-from at e s) ≤ 16) × Filled len words
+    × (step-words (symbols-of s n) (fields-from p e s) ≡ prefix (take len words) (step-words (symbols-of s n) (fields-from at e s)))
 
 abbrev μ-loop : tie.MeasureT-loop
 μ-loop s p e n words₀ len₀ at₀ words len at = e + 1 - at
@@ -39,11 +39,11 @@ returns : tie.Need-returns Inv-loop μ-loop
 returns c =
     let l = c .before .before .before .before in
     let a = l .before .before .args in
-    let y = symbolsOf (now (a .s)) (a .n) in
+    let y = symbols-of (now (a .s)) (a .n) in
     let q = c .before .before .field-end in
     let r = c .before .step in
     let v = sym (r .ensures .0) ∙ answer-no (r .result .refusal) (r .result .value) (c .if1 .taken) in
-    let f = steps-stop y (take (l .loop .len) (l .loop .words)) (slice (l .loop .at) (q .result) (now (a .s))) (fieldsFrom (q .result + 1) (a .e) (now (a .s))) (r .result .refusal) v in
+    let f = steps-stop y (take (l .loop .len) (l .loop .words)) (slice (l .loop .at) (q .result) (now (a .s))) (fields-from (q .result + 1) (a .e) (now (a .s))) (r .result .refusal) v in
     let g = l .loop .inv .3 in
     let h = rw (q .ensures .cut) at g in
     (answer-no (r .result .refusal) [] (c .if1 .taken) ∙ sym (h ∙ f), record { few = omega arith; size = refl; zeros = refl })
@@ -72,13 +72,13 @@ loop-again : tie.Need-loop-again Inv-loop μ-loop
 loop-again c =
     let l = c .before .before .before .before in
     let a = l .before .before .args in
-    let y = symbolsOf (now (a .s)) (a .n) in
+    let y = symbols-of (now (a .s)) (a .n) in
     let q = c .before .before .field-end in
     let r = c .before .step in
     let x = ap length (q .ensures .cut) in
     let w = take (l .loop .len) (l .loop .words) in
     let v = sym (r .ensures .0) ∙ answer-ok (r .result .refusal) (r .result .value) (c .if1 .left) in
-    let f = steps-go y w (slice (l .loop .at) (q .result) (now (a .s))) (fieldsFrom (q .result + 1) (a .e) (now (a .s))) (r .result .value) v in
+    let f = steps-go y w (slice (l .loop .at) (q .result) (now (a .s))) (fields-from (q .result + 1) (a .e) (now (a .s))) (r .result .value) v in
     let b = l .loop .inv .2 in
     let z = b .size in
     let t = taken-next (l .loop .words) (l .loop .len) (r .result .value) (omega arith) in
@@ -90,7 +90,7 @@ returns-2 : tie.Need-returns-2 Inv-loop μ-loop
 returns-2 c =
     let l = c .before in
     let a = l .before .before .args in
-    let y = symbolsOf (now (a .s)) (a .n) in
+    let y = symbols-of (now (a .s)) (a .n) in
     let g = l .loop .inv .3 in
     let h = rw (fields-gone (now (a .s)) (l .loop .at) (a .e) (c .loop-test .left)) at g in
     (sym (h ∙ steps-end y (take (l .loop .len) (l .loop .words))), l .loop .inv .2)

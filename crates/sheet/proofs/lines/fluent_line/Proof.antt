@@ -4,12 +4,11 @@ use Prim.Native.Nat.{_+_}
 use native.Mathlib.Omega.{arith}
 use denote.Ref.{now}
 use lib.Seq.{slice}
-use Rattle.chars.specs.Inner.{fieldsFrom}
+use Rattle.chars.specs.Inner.{fields-from}
 use Rattle.chars.proofs.Fields.{one-field, some-field}
 use Rattle.sheet.specs.declared.lines.Word.the-variants.{Fluent}
 use Rattle.sheet.specs.declared.names.Names.{Names}
-use Rattle.sheet.specs.Line.{recordLine}
-use Rattle.sheet.specs.Held.{bookOf, symbolsOf, Held}
+use Rattle.sheet.specs.Held.{book-in, reading-in, recorded, symbols-of, Held}
 use Rattle.sheet.proofs.Verdicts.{answer-ok, answer-no}
 use Rattle.sheet.proofs.LineVerdicts.{fluent-refused, fluent-read}
 use Rattle.sheet.proofs.NamesHeld.{fluent-names, held-more, counted}
@@ -27,7 +26,7 @@ blank-requires : tie.Need-blank-requires
 blank-requires c κs = search needs
 
 returns : tie.Need-returns
-unfolding bookOf
+unfolding book-in
 returns c = λ w.
     let a = c .before .before .before .before .before .args in
     let s = now (a .s) in
@@ -35,8 +34,8 @@ returns c = λ w.
     let r = c .before .before .new-name in
     let o = one-field s (a .p) (a .e) (c .before .before .before .before .before .pre .1 .1 .0) (c .before .before .before .before .before .pre .1 .1 .1) in
     let q = sym (r .ensures) ∙ answer-no (r .result) f (c .before .if1 .taken) in
-    let v = ap (recordLine (bookOf s w (a .b)) Fluent) o ∙ fluent-refused (bookOf s w (a .b)) f (r .result) q in
-    refused-answers s w (c .blank .result) (r .result) (recordLine (bookOf s w (a .b)) Fluent (fieldsFrom (a .p) (a .e) s)) (c .blank .ensures) (c .before .if1 .taken) v
+    let v = ap (recorded (reading-in s w (a .b)) Fluent) o ∙ fluent-refused (reading-in s w (a .b)) f (r .result) q in
+    refused-answers s w (c .blank .result) (r .result) (recorded (reading-in s w (a .b)) Fluent (fields-from (a .p) (a .e) s)) (c .blank .ensures) (c .before .if1 .taken) v
 
 stored-requires : tie.Need-stored-requires
 stored-requires c κs = search needs
@@ -48,7 +47,7 @@ add-more c =
     omega (arith, t, i)
 
 returns-2 : tie.Need-returns-2
-unfolding bookOf
+unfolding book-in
 returns-2 c = λ w.
     let a = c .before .before .before .before .before .before .args in
     let s = now (a .s) in
@@ -60,9 +59,9 @@ returns-2 c = λ w.
     let part = some-field s (a .p) (a .e) (omega arith) in
     let none = c .before .before .before .before .before .before .pre .0 .early (c .before .before .before .before .before .before .pre .1 .0 .1) in
     let q = sym (r .ensures) ∙ answer-ok (r .result) f (c .before .before .if1 .left) in
-    let v = ap (recordLine (bookOf s w (a .b)) Fluent) o ∙ fluent-read (bookOf s w (a .b)) f q in
+    let v = ap (recorded (reading-in s w (a .b)) Fluent) o ∙ fluent-read (reading-in s w (a .b)) f q in
     let t = c .before .stored .ensures in
-    let y = ap (λ (m : Names). symbolsOf s (counted m (m .fluents + 1) (m .actions))) t ∙ fluent-names s n (a .p) (a .e) h (c .before .before .before .before .before .before .pre .1 .0 .2) none in
+    let y = ap (λ (m : Names). symbols-of s (counted m (m .fluents + 1) (m .actions))) t ∙ fluent-names s n (a .p) (a .e) h (c .before .before .before .before .before .before .pre .1 .0 .2) none in
     let few = c .before .before .before .before .before .before .pre .1 .0 .2 in
     let i = h .few-fluents in
     let j = h .few-actions in

@@ -4,7 +4,7 @@ use mathlib.Core.Bool.{true, false}
 use Prim.Native.Nat.{_≤_, _<_}
 use native.Mathlib.Omega.{arith}
 use Rattle.sheet.specs.Line.{row}
-use Rattle.sheet.specs.Held.{bookOf}
+use Rattle.sheet.specs.Held.{reading-in}
 use Rattle.sheet.proofs.LineHeads.{head-no-word, head-late, head-overfull, head-miscounted, head-passed}
 use borrow.Author.Needs.{needs}
 use Rattle.sheet.proofs.lines.head_refusal.Statement.{statement}
@@ -14,14 +14,12 @@ row-requires : tie.Need-row-requires
 row-requires c κs = search needs
 
 returns : tie.Need-returns
-unfolding bookOf
-returns c = λ s w. sym (head-no-word (bookOf s w (c .before .before .args .b)) (c .before .before .args .w) (c .before .before .args .n) (sym (c .before .row .ensures) ∙ c .if1 .taken))
+returns c = λ s w. sym (head-no-word (reading-in s w (c .before .before .args .b)) (c .before .before .args .w) (c .before .before .args .n) (sym (c .before .row .ensures) ∙ c .if1 .taken))
 
 returns-2 : tie.Need-returns-2
-unfolding bookOf
 returns-2 c = λ s w.
     let h : row (c .before .before .before .before .args .w) < c .before .before .before .before .args .b .stage = omega (arith, c .before .before .before .row .ensures, c .if2 .taken) in
-    sym (head-late (bookOf s w (c .before .before .before .before .args .b)) (c .before .before .before .before .args .w) (c .before .before .before .before .args .n) h)
+    sym (head-late (reading-in s w (c .before .before .before .before .args .b)) (c .before .before .before .before .args .w) (c .before .before .before .before .args .n) h)
 
 overfull-requires : tie.Need-overfull-requires
 overfull-requires c κs = search needs
@@ -30,27 +28,24 @@ miscounted-requires : tie.Need-miscounted-requires
 miscounted-requires c κs = search needs
 
 returns-3 : tie.Need-returns-3
-unfolding bookOf
 returns-3 c = λ s w.
     let h : c .before .before .before .before .before .before .before .args .b .stage ≤ row (c .before .before .before .before .before .before .before .args .w) = omega (arith, c .before .before .before .before .before .before .row .ensures, c .before .before .before .if2 .left) in
     let full : c .before .before .overfull .result ≡ true = search needs in
-    sym (head-overfull (bookOf s w (c .before .before .before .before .before .before .before .args .b)) (c .before .before .before .before .before .before .before .args .w) (c .before .before .before .before .before .before .before .args .n) (λ e. c .before .before .before .before .before .if1 .left (c .before .before .before .before .before .before .row .ensures ∙ e)) h (sym (c .before .before .overfull .ensures s w) ∙ full))
+    sym (head-overfull (reading-in s w (c .before .before .before .before .before .before .before .args .b)) (c .before .before .before .before .before .before .before .args .w) (c .before .before .before .before .before .before .before .args .n) (λ e. c .before .before .before .before .before .if1 .left (c .before .before .before .before .before .before .row .ensures ∙ e)) h (sym (c .before .before .overfull .ensures s w) ∙ full))
 
 returns-4 : tie.Need-returns-4
-unfolding bookOf
 returns-4 c = λ s w.
     let h : c .before .before .before .before .before .before .before .before .args .b .stage ≤ row (c .before .before .before .before .before .before .before .before .args .w) = omega (arith, c .before .before .before .before .before .before .before .row .ensures, c .before .before .before .before .if2 .left) in
     let full : c .before .before .before .overfull .result ≡ false = search needs in
     let wrong : c .before .before .miscounted .result ≡ true = search needs in
-    sym (head-miscounted (bookOf s w (c .before .before .before .before .before .before .before .before .args .b)) (c .before .before .before .before .before .before .before .before .args .w) (c .before .before .before .before .before .before .before .before .args .n) (λ e. c .before .before .before .before .before .before .if1 .left (c .before .before .before .before .before .before .before .row .ensures ∙ e)) h (sym (c .before .before .before .overfull .ensures s w) ∙ full) (sym (c .before .before .miscounted .ensures) ∙ wrong))
+    sym (head-miscounted (reading-in s w (c .before .before .before .before .before .before .before .before .args .b)) (c .before .before .before .before .before .before .before .before .args .w) (c .before .before .before .before .before .before .before .before .args .n) (λ e. c .before .before .before .before .before .before .if1 .left (c .before .before .before .before .before .before .before .row .ensures ∙ e)) h (sym (c .before .before .before .overfull .ensures s w) ∙ full) (sym (c .before .before .miscounted .ensures) ∙ wrong))
 
 returns-5 : tie.Need-returns-5
-unfolding bookOf
 returns-5 c = λ s w.
     let h : c .before .before .before .before .before .before .before .before .args .b .stage ≤ row (c .before .before .before .before .before .before .before .before .args .w) = omega (arith, c .before .before .before .before .before .before .before .row .ensures, c .before .before .before .before .if2 .left) in
     let full : c .before .before .before .overfull .result ≡ false = search needs in
     let wrong : c .before .before .miscounted .result ≡ false = search needs in
-    sym (head-passed (bookOf s w (c .before .before .before .before .before .before .before .before .args .b)) (c .before .before .before .before .before .before .before .before .args .w) (c .before .before .before .before .before .before .before .before .args .n) (λ e. c .before .before .before .before .before .before .if1 .left (c .before .before .before .before .before .before .before .row .ensures ∙ e)) h (sym (c .before .before .before .overfull .ensures s w) ∙ full) (sym (c .before .before .miscounted .ensures) ∙ wrong))
+    sym (head-passed (reading-in s w (c .before .before .before .before .before .before .before .before .args .b)) (c .before .before .before .before .before .before .before .before .args .w) (c .before .before .before .before .before .before .before .before .args .n) (λ e. c .before .before .before .before .before .before .if1 .left (c .before .before .before .before .before .before .before .row .ensures ∙ e)) h (sym (c .before .before .before .overfull .ensures s w) ∙ full) (sym (c .before .before .miscounted .ensures) ∙ wrong))
 
 pub head-refusal-spec : {M : Type 1} → statement M
 head-refusal-spec =

@@ -3,9 +3,8 @@ use mathlib.Core.Path.{sym, ap, _∙_, subst⁻¹}
 use denote.Ref.{now}
 use lib.Seq.{slice}
 use Rattle.sheet.specs.Verdict.{Verdict}
-use Rattle.sheet.specs.Book.{Book}
-use Rattle.sheet.specs.Line.{plainLine}
-use Rattle.sheet.specs.Held.{bookOf, Answers}
+use Rattle.sheet.specs.Line.{Reading, plain-line}
+use Rattle.sheet.specs.Held.{reading-in, Answers}
 use Rattle.sheet.proofs.Verdicts.{answer-ok}
 use Rattle.sheet.proofs.LineVerdicts.{line-comment, line-plain}
 use borrow.Author.Needs.{needs}
@@ -19,7 +18,7 @@ returns : tie.Need-returns
 returns c =
     let a = c .before .before .before .before .args in
     let p = c .before .before .before .before .pre in
-    let b = bookOf (now (a .s)) (now (a .words)) (a .b) in
+    let b = reading-in (now (a .s)) (now (a .words)) (a .b) in
     let l = slice (a .a) (a .e) (now (a .s)) in
     record {
       says = answer-ok (a .b .refusal) b (p .1 .1 .0) ∙ sym (line-comment b l (sym (c .before .is-comment .ensures) ∙ c .if1 .taken));
@@ -40,12 +39,12 @@ returns-2 c =
     let x = c .before .before .plain-line in
     let d = c .before .before .before .before .before .before .before .before .before in
     let a = d .args in
-    let b = bookOf (now (a .s)) (now (a .words)) (a .b) in
+    let b = reading-in (now (a .s)) (now (a .words)) (a .b) in
     let l = slice (a .a) (a .e) (now (a .s)) in
     let e = c .before .before .before .before in
     let n = sym (e .before .before .is-comment .ensures) ∙ e .before .if1 .left in
-    let h = line-plain b l n ∙ ap (plainLine b) (e .bare-end .ensures .cut) in
-    subst⁻¹ (λ (o : Verdict Book). Answers (now (a .s)) (x .last .1 .1 .1 .1 .0) (x .result) o) h (x .ensures)
+    let h = line-plain b l n ∙ ap (plain-line b) (e .bare-end .ensures .cut) in
+    subst⁻¹ (λ (o : Verdict Reading). Answers (now (a .s)) (x .last .1 .1 .1 .1 .0) (x .result) o) h (x .ensures)
 
 pub next-line-spec : {M : Type 1} → statement M
 next-line-spec = tie.close (tie.spec is-comment-requires returns bare-end-requires plain-line-requires same-length returns-2)

@@ -6,13 +6,12 @@ use native.Mathlib.Omega.{arith}
 use denote.Ref.{now}
 use lib.ListN.{length}
 use lib.Seq.{slice}
-use Rattle.chars.specs.Inner.{fieldsFrom}
+use Rattle.chars.specs.Inner.{fields-from}
 use Rattle.sheet.specs.declared.lines.Word.{Word}
 use Rattle.sheet.specs.declared.lines.Word.the-variants.{Fluent, Action, Rule, Start, Goal, Other}
 use Rattle.sheet.specs.Verdict.{Verdict, accept}
-use Rattle.sheet.specs.Book.{Book}
-use Rattle.sheet.specs.Line.{lineHead, lineOf, plainLine, recordLine}
-use Rattle.sheet.specs.Held.{answer, bookOf, Answers}
+use Rattle.sheet.specs.Line.{Reading, line-of, plain-line}
+use Rattle.sheet.specs.Held.{line-head, answer, book-in, reading-in, recorded, Answers}
 use Rattle.sheet.proofs.Verdicts.{answer-ok, answer-no}
 use Rattle.sheet.proofs.LineHeads.{fluent-room, action-room, rule-room, goal-room, other-never}
 use Rattle.sheet.proofs.LineVerdicts.{plain-fields, line-stopped, line-passed}
@@ -21,7 +20,7 @@ use borrow.Author.Needs.{needs}
 use Rattle.sheet.proofs.lines.plain_line.Statement.{statement}
 use Rattle.sheet.proofs.lines.plain_line.Tie as tie
 
--- what the places of the match share: the book, the line's word and the fields after it
+-- what the places of the match share: the reading, the line's word and the fields after it
 abbrev entry : tie.After-head-refusal → tie.Start
 entry d = d .before .before .before .before .before .before
 
@@ -31,34 +30,34 @@ sheet d = now (entry d .args .s)
 abbrev words : tie.After-head-refusal → List ℕ
 words d = now (entry d .args .words)
 
-abbrev book : tie.After-head-refusal → Book
-book d = bookOf (sheet d) (words d) (entry d .args .b)
+abbrev book : tie.After-head-refusal → Reading
+book d = reading-in (sheet d) (words d) (entry d .args .b)
 
 abbrev end : tie.After-head-refusal → ℕ
 end d = d .before .before .before .field-end .result
 
 abbrev rest : tie.After-head-refusal → List (List ℕ)
-rest d = fieldsFrom (end d + 1) (entry d .args .e) (sheet d)
+rest d = fields-from (end d + 1) (entry d .args .e) (sheet d)
 
 abbrev this : tie.After-head-refusal → List ℕ
 this d = slice (entry d .args .a) (entry d .args .e) (sheet d)
 
 module _ (d : tie.After-head-refusal) where
-  whole : plainLine (book d) (this d) ≡ lineOf (book d) (d .before .before .word-at .result) (rest d)
+  whole : plain-line (book d) (this d) ≡ line-of (book d) (d .before .before .word-at .result) (rest d)
   whole =
       plain-fields (book d) (sheet d) (entry d .args .a) (entry d .args .e) (end d) (entry d .pre .1 .0 .0) (d .before .before .before .field-end .ensures)
-      ∙ ap (λ (v : Word). lineOf (book d) v (rest d)) (sym (d .before .before .word-at .ensures))
+      ∙ ap (λ (v : Word). line-of (book d) v (rest d)) (sym (d .before .before .word-at .ensures))
 
-  head : answer (d .head-refusal .result) tt ≡ lineHead (book d) (d .before .before .word-at .result) (length (rest d))
-  head = d .head-refusal .ensures (sheet d) (words d) ∙ ap (lineHead (book d) (d .before .before .word-at .result)) (d .before .count-fields .ensures)
+  head : answer (d .head-refusal .result) tt ≡ line-head (book d) (d .before .before .word-at .result) (length (rest d))
+  head = d .head-refusal .ensures (sheet d) (words d) ∙ ap (line-head (book d) (d .before .before .word-at .result)) (d .before .count-fields .ensures)
 
   -- where the head is not refused: what it says, and the line by its word
   module _ (z : d .head-refusal .result ≡ 0) (y : Word) (t : d .before .before .word-at .result ≡ y) where
-    passes : lineHead (book d) y (length (rest d)) ≡ accept tt
+    passes : line-head (book d) y (length (rest d)) ≡ accept tt
     passes = rw (← t) (sym head ∙ answer-ok (d .head-refusal .result) tt z)
 
-    is : plainLine (book d) (this d) ≡ recordLine (book d) y (rest d)
-    is = whole ∙ ap (λ (v : Word). lineOf (book d) v (rest d)) t ∙ line-passed (book d) y (rest d) passes
+    is : plain-line (book d) (this d) ≡ recorded (book d) y (rest d)
+    is = whole ∙ ap (λ (v : Word). line-of (book d) v (rest d)) t ∙ line-passed (book d) y (rest d) passes
 
 field-end-requires : tie.Need-field-end-requires
 field-end-requires c κs = search needs
@@ -79,12 +78,12 @@ blank-requires : tie.Need-blank-requires
 blank-requires c κs = search needs
 
 returns : tie.Need-returns
-unfolding bookOf
+unfolding book-in
 returns c =
     let d = c .before .before in
     let r = d .head-refusal in
     let v = whole d ∙ line-stopped (book d) (d .before .before .word-at .result) (rest d) (r .result) (sym (head d) ∙ answer-no (r .result) tt (c .before .if1 .taken)) in
-    refused-answers (sheet d) (words d) (c .blank .result) (r .result) (plainLine (book d) (this d)) (c .blank .ensures) (c .before .if1 .taken) v
+    refused-answers (sheet d) (words d) (c .blank .result) (r .result) (plain-line (book d) (this d)) (c .blank .ensures) (c .before .if1 .taken) v
 
 enum-told : tie.Need-enum-told
 enum-told c = search needs
@@ -93,7 +92,7 @@ add-fluent-line : tie.Need-add-fluent-line
 add-fluent-line c = search needs
 
 fluent-line-requires : tie.Need-fluent-line-requires
-unfolding bookOf
+unfolding book-in
 fluent-line-requires c κs =
     let d = c .before .before .before in
     let r = fluent-room (book d) (length (rest d)) (passes d (c .before .before .if1 .left) Fluent (c .enum-told .given .1)) in
@@ -155,41 +154,41 @@ blank-requires-2 : tie.Need-blank-requires-2
 blank-requires-2 c κs = search needs
 
 returns-2 : tie.Need-returns-2
-unfolding bookOf
+unfolding book-in
 returns-2 c =
     let d = c .before .before .before .before in
-    subst⁻¹ (λ (o : Verdict Book). Answers (sheet d) (words d) (c .fluent-line .result) o) (is d (c .before .before .before .if1 .left) Fluent (c .before .enum-told .given .1)) (c .fluent-line .ensures (words d))
+    subst⁻¹ (λ (o : Verdict Reading). Answers (sheet d) (words d) (c .fluent-line .result) o) (is d (c .before .before .before .if1 .left) Fluent (c .before .enum-told .given .1)) (c .fluent-line .ensures (words d))
 
 returns-3 : tie.Need-returns-3
-unfolding bookOf
+unfolding book-in
 returns-3 c =
     let d = c .before .before .before .before in
-    subst⁻¹ (λ (o : Verdict Book). Answers (sheet d) (words d) (c .action-line .result) o) (is d (c .before .before .before .if1 .left) Action (c .before .enum-told2 .given .1)) (c .action-line .ensures (words d))
+    subst⁻¹ (λ (o : Verdict Reading). Answers (sheet d) (words d) (c .action-line .result) o) (is d (c .before .before .before .if1 .left) Action (c .before .enum-told2 .given .1)) (c .action-line .ensures (words d))
 
 same-length : tie.Need-same-length
 same-length c = search needs
 
 returns-4 : tie.Need-returns-4
-unfolding bookOf
+unfolding book-in
 returns-4 c =
     let x = c .before .before .rule-line in
     let d = c .before .before .before .before .before .before .before in
-    subst⁻¹ (λ (o : Verdict Book). Answers (sheet d) (x .last .1 .1 .1 .1 .0) (x .result) o) (is d (c .before .before .before .before .before .before .if1 .left) Rule (c .before .before .before .before .enum-told3 .given .1)) (x .ensures)
+    subst⁻¹ (λ (o : Verdict Reading). Answers (sheet d) (x .last .1 .1 .1 .1 .0) (x .result) o) (is d (c .before .before .before .before .before .before .if1 .left) Rule (c .before .before .before .before .enum-told3 .given .1)) (x .ensures)
 
 returns-5 : tie.Need-returns-5
-unfolding bookOf
+unfolding book-in
 returns-5 c =
     let d = c .before .before .before .before in
-    subst⁻¹ (λ (o : Verdict Book). Answers (sheet d) (words d) (c .start-line .result) o) (is d (c .before .before .before .if1 .left) Start (c .before .enum-told4 .given .1)) (c .start-line .ensures (words d))
+    subst⁻¹ (λ (o : Verdict Reading). Answers (sheet d) (words d) (c .start-line .result) o) (is d (c .before .before .before .if1 .left) Start (c .before .enum-told4 .given .1)) (c .start-line .ensures (words d))
 
 returns-6 : tie.Need-returns-6
-unfolding bookOf
+unfolding book-in
 returns-6 c =
     let d = c .before .before .before .before in
-    subst⁻¹ (λ (o : Verdict Book). Answers (sheet d) (words d) (c .goal-line .result) o) (is d (c .before .before .before .if1 .left) Goal (c .before .enum-told5 .given .1)) (c .goal-line .ensures (words d))
+    subst⁻¹ (λ (o : Verdict Reading). Answers (sheet d) (words d) (c .goal-line .result) o) (is d (c .before .before .before .if1 .left) Goal (c .before .enum-told5 .given .1)) (c .goal-line .ensures (words d))
 
 returns-7 : tie.Need-returns-7
-unfolding bookOf
+unfolding book-in
 returns-7 c =
     let d = c .before .before .before .before in
     absurd (other-never (book d) (length (rest d)) (passes d (c .before .before .before .if1 .left) Other (c .before .enum-told6 .given .1)))

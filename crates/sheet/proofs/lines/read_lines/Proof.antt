@@ -1,4 +1,4 @@
--- `lines::read_lines` meets its contract. The invariant: the outcome of all lines is that of the lines from `at` on, after the book so far.
+-- `lines::read_lines` meets its contract. The invariant: the outcome of all lines is that of the lines from `at` on, after the reading so far.
 -- The measure is what is left of the sheet. Assumes nothing.
 use mathlib.Core.Path.{_≡_, sym, ap, _∙_, subst⁻¹}
 use Rattle.sheet.specs.declared.lines.Parse.{Parse}
@@ -10,19 +10,19 @@ use lib.ListN.{length, drop}
 use lib.Seq.{slice}
 use Rattle.chars.specs.Pieces.{lines}
 use Rattle.chars.proofs.Ends.{lines-gone}
-use Rattle.sheet.specs.Reader.{readLines}
-use Rattle.sheet.specs.Book.{empty, Book}
-use Rattle.sheet.specs.Held.{bookOf, Kept}
+use Rattle.sheet.specs.Reader.{read-lines}
+use Rattle.sheet.specs.Line.{Reading, empty}
+use Rattle.sheet.specs.Held.{reading-in, Kept}
 use Rattle.sheet.proofs.Verdicts.{answer-ok, answer-no}
 use Rattle.sheet.proofs.LineVerdicts.{line-read, line-refused, lines-read}
-use Rattle.sheet.proofs.Kept.{begun-kept, begun-book, outcome-ok, outcome-no}
+use Rattle.sheet.proofs.Kept.{begun-kept, begun-book, ending-ok, ending-no}
 use Rattle.sheet.proofs.lines.read_lines.Statement.{statement}
 use Rattle.sheet.proofs.lines.read_lines.Tie as tie
 
 abbrev Inv-loop : tie.InvT-loop
 Inv-loop s words₀ b₀ n₀ at₀ words b n at =
     (at ≤ length s + 1) × (n ≤ at + 1) × (b .refusal ≡ 0) × Kept s b × (length words ≡ 4608)
-    × (readLines 1 empty (lines s) ≡ readLines n (bookOf s words b) (lines (drop at s)))
+    × (read-lines 1 empty (lines s) ≡ read-lines n (reading-in s words b) (lines (drop at s)))
 
 abbrev μ-loop : tie.MeasureT-loop
 μ-loop s words₀ b₀ n₀ at₀ words b n at = length s + 1 - at
@@ -36,7 +36,7 @@ loop-holds c =
     let s = now (st .args .s) in
     let w = now (st .args .words) in
     let e = c .fresh .ensures in
-    (omega arith, omega arith, ap (λ (b : Parse). b .refusal) e, subst⁻¹ (λ (b : Parse). Kept s b) e (begun-kept s), st .pre, ap (λ (b : Book). readLines 1 b (lines s)) (sym (ap (bookOf s w) e ∙ begun-book s w)))
+    (omega arith, omega arith, ap (λ (b : Parse). b .refusal) e, subst⁻¹ (λ (b : Parse). Kept s b) e (begun-kept s), st .pre, ap (λ (b : Reading). read-lines 1 b (lines s)) (sym (ap (reading-in s w) e ∙ begun-book s w)))
 
 line-end-requires : tie.Need-line-end-requires Inv-loop μ-loop
 line-end-requires c κs = search needs
@@ -57,14 +57,14 @@ returns c =
     let w = x .last .1 .1 .1 .1 .0 in
     let z = x .kept .1 .1 .1 .1 .0 in
     let y = l .loop .inv .4 in
-    let b = bookOf s (l .loop .words) (l .loop .b) in
+    let b = reading-in s (l .loop .words) (l .loop .b) in
     let q = slice (l .loop .at) (f .result) s in
     let ls = lines (drop (f .result + 1) s) in
     let g = l .loop .inv .5 in
     let h = rw (f .ensures .cut) at g in
-    let v = sym (x .ensures .says) ∙ answer-no (x .result .refusal) (bookOf s w (x .result)) (c .if1 .taken) in
+    let v = sym (x .ensures .says) ∙ answer-no (x .result .refusal) (reading-in s w (x .result)) (c .if1 .taken) in
     let k = line-refused (l .loop .n) b q ls (x .result .refusal) v in
-    record { says = outcome-no s w (l .loop .n) (x .result) (c .if1 .taken) ∙ sym (h ∙ k); keeps = x .ensures .keeps; size = z ∙ y }
+    record { says = ending-no s w (l .loop .n) (x .result) (c .if1 .taken) ∙ sym (h ∙ k); keeps = x .ensures .keeps; size = z ∙ y }
 
 add-n : tie.Need-add-n Inv-loop μ-loop
 add-n c = search needs
@@ -85,13 +85,13 @@ loop-again c =
     let w = x .last .1 .1 .1 .1 .0 in
     let z = x .kept .1 .1 .1 .1 .0 in
     let y = l .loop .inv .4 in
-    let b = bookOf s (l .loop .words) (l .loop .b) in
+    let b = reading-in s (l .loop .words) (l .loop .b) in
     let q = slice (l .loop .at) (f .result) s in
     let ls = lines (drop (f .result + 1) s) in
     let g = l .loop .inv .5 in
     let h = rw (f .ensures .cut) at g in
-    let v = sym (x .ensures .says) ∙ answer-ok (x .result .refusal) (bookOf s w (x .result)) (c .if1 .left) in
-    let k = line-read (l .loop .n) b q ls (bookOf s w (x .result)) v in
+    let v = sym (x .ensures .says) ∙ answer-ok (x .result .refusal) (reading-in s w (x .result)) (c .if1 .left) in
+    let k = line-read (l .loop .n) b q ls (reading-in s w (x .result)) v in
     let u = f .ensures .within in
     let t = f .ensures .from in
     (omega arith, omega arith, c .if1 .left, x .ensures .keeps (c .if1 .left), z ∙ y, h ∙ k)
@@ -106,7 +106,7 @@ returns-2 c =
     let s = now (st .args .s) in
     let g = l .loop .inv .5 in
     let h = rw (lines-gone s (l .loop .at) (c .loop-test .left)) at g in
-    record { says = outcome-ok s (l .loop .words) 0 (l .loop .b) (l .loop .inv .2) ∙ sym (h ∙ lines-read (l .loop .n) (bookOf s (l .loop .words) (l .loop .b))); keeps = λ e. l .loop .inv .3; size = l .loop .inv .4 }
+    record { says = ending-ok s (l .loop .words) 0 (l .loop .b) (l .loop .inv .2) ∙ sym (h ∙ lines-read (l .loop .n) (reading-in s (l .loop .words) (l .loop .b))); keeps = λ e. l .loop .inv .3; size = l .loop .inv .4 }
 
 pub read-lines-spec : {M : Type 1} → statement M
 read-lines-spec =

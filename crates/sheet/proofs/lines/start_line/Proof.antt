@@ -2,10 +2,9 @@
 use mathlib.Core.Path.{sym, _∙_}
 use native.Mathlib.Omega.{arith}
 use denote.Ref.{now}
-use Rattle.chars.specs.Inner.{fieldsFrom}
+use Rattle.chars.specs.Inner.{fields-from}
 use Rattle.sheet.specs.declared.lines.Word.the-variants.{Start}
-use Rattle.sheet.specs.Line.{recordLine}
-use Rattle.sheet.specs.Held.{bookOf}
+use Rattle.sheet.specs.Held.{book-in, reading-in, recorded}
 use Rattle.sheet.proofs.Verdicts.{answer-ok, answer-no}
 use Rattle.sheet.proofs.LineVerdicts.{start-line-refused, start-line-read}
 use Rattle.sheet.proofs.Kept.{refused-answers, said-start}
@@ -20,26 +19,26 @@ blank-requires : tie.Need-blank-requires
 blank-requires c κs = search needs
 
 returns : tie.Need-returns
-unfolding bookOf
+unfolding book-in
 returns c = λ w.
     let a = c .before .before .before .before .before .before .args in
     let s = now (a .s) in
     let r = c .before .before .before .start-names in
     let q = sym (r .ensures) ∙ answer-no (r .result .refusal) (r .result .state .0) (c .before .if1 .taken) in
-    let v = start-line-refused (bookOf s w (a .b)) (fieldsFrom (a .p) (a .e) s) (r .result .refusal) q in
-    refused-answers s w (c .blank .result) (r .result .refusal) (recordLine (bookOf s w (a .b)) Start (fieldsFrom (a .p) (a .e) s)) (c .blank .ensures) (c .before .if1 .taken) v
+    let v = start-line-refused (reading-in s w (a .b)) (fields-from (a .p) (a .e) s) (r .result .refusal) q in
+    refused-answers s w (c .blank .result) (r .result .refusal) (recorded (reading-in s w (a .b)) Start (fields-from (a .p) (a .e) s)) (c .blank .ensures) (c .before .if1 .taken) v
 
 returns-2 : tie.Need-returns-2
-unfolding bookOf
+unfolding book-in
 returns-2 c = λ w.
     let a = c .before .before .before .before .before .args in
     let s = now (a .s) in
     let r = c .before .before .start-names in
     let q = sym (r .ensures) ∙ answer-ok (r .result .refusal) (r .result .state .0) (c .if1 .left) in
-    let v = start-line-read (bookOf s w (a .b)) (fieldsFrom (a .p) (a .e) s) (r .result .state .0) q in
+    let v = start-line-read (reading-in s w (a .b)) (fields-from (a .p) (a .e) s) (r .result .state .0) q in
     let k = c .before .before .before .before .before .pre .0 in
     record {
-      says = answer-ok _ _ (c .before .before .before .before .before .pre .1 .0) ∙ said-start (bookOf s w (a .b)) (r .result .state .0) (omega arith) ∙ sym v;
+      says = answer-ok _ _ (c .before .before .before .before .before .pre .1 .0) ∙ said-start (reading-in s w (a .b)) (r .result .state .0) (omega arith) ∙ sym v;
       keeps = λ _. record { names = k .names; few-rules = k .few-rules; filled = k .filled; early = λ x. absurd (omega arith) };
     }
 

@@ -7,14 +7,14 @@ use borrow.Author.Needs.{needs}
 use denote.Ref.{now}
 use lib.Seq.{slice}
 use Rattle.chars.specs.Places.{place}
-use Rattle.sheet.specs.Held.{namesIn}
+use Rattle.sheet.specs.Held.{names-in}
 use Rattle.sheet.proofs.NamePlaces.{found, passed, nowhere}
 use Rattle.sheet.proofs.names.find_name.Statement.{statement}
 use Rattle.sheet.proofs.names.find_name.Tie as tie
 
 abbrev Inv-loop : tie.InvT-loop
 Inv-loop s a e lo hi n k₀ k =
-    (lo ≤ k) × (k ≤ hi) × (lo + place (slice a e s) (namesIn s (n .from) (n .to) lo (hi - lo)) ≡ k + place (slice a e s) (namesIn s (n .from) (n .to) k (hi - k)))
+    (lo ≤ k) × (k ≤ hi) × (lo + place (slice a e s) (names-in s (n .from) (n .to) lo (hi - lo)) ≡ k + place (slice a e s) (names-in s (n .from) (n .to) k (hi - k)))
 
 abbrev μ-loop : tie.MeasureT-loop
 μ-loop s a e lo hi n k₀ k = hi - k

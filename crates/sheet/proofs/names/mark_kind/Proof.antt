@@ -2,38 +2,38 @@
 use mathlib.Core.Path.{sym, ap}
 use borrow.Author.Tests.{ne-eqb}
 use Prim.Native.Nat.{ℕ}
-use Rattle.chars.specs.Places.{byteAt}
+use Rattle.chars.specs.Places.{byte-at}
 use Rattle.sheet.specs.Field.{marks}
 use Rattle.sheet.proofs.names.mark_kind.Statement.{statement}
 use Rattle.sheet.proofs.names.mark_kind.Tie as tie
 
 returns : tie.Need-returns
-unfolding byteAt
+unfolding byte-at
 returns c =
-    ap (λ (m : ℕ). byteAt m marks) (sym (c .match .keys1))
+    ap (λ (m : ℕ). byte-at m marks) (sym (c .match .keys1))
 
 returns-2 : tie.Need-returns-2
-unfolding byteAt
+unfolding byte-at
 returns-2 c =
-    ap (λ (m : ℕ). byteAt m marks) (sym (c .match .keys2))
+    ap (λ (m : ℕ). byte-at m marks) (sym (c .match .keys2))
 
 returns-3 : tie.Need-returns-3
-unfolding byteAt
+unfolding byte-at
 returns-3 c =
-    ap (λ (m : ℕ). byteAt m marks) (sym (c .match .keys3))
+    ap (λ (m : ℕ). byte-at m marks) (sym (c .match .keys3))
 
 returns-4 : tie.Need-returns-4
-unfolding byteAt
+unfolding byte-at
 returns-4 c =
-    ap (λ (m : ℕ). byteAt m marks) (sym (c .match .keys4))
+    ap (λ (m : ℕ). byte-at m marks) (sym (c .match .keys4))
 
 returns-5 : tie.Need-returns-5
-unfolding byteAt
+unfolding byte-at
 returns-5 c =
-    ap (λ (m : ℕ). byteAt m marks) (sym (c .match .keys5))
+    ap (λ (m : ℕ). byte-at m marks) (sym (c .match .keys5))
 
 returns-6 : tie.Need-returns-6
-unfolding byteAt
+unfolding byte-at
 returns-6 c =
     let m = c .before .args .mark in
     let r = c .match .rest in

@@ -5,7 +5,7 @@ use native.Mathlib.Omega.{arith}
 use borrow.Author.Tests.{not-true, not-false}
 use denote.Ref.{now}
 use lib.Seq.{slice}
-use Rattle.sheet.specs.Held.{symbolsOf}
+use Rattle.sheet.specs.Held.{symbols-of}
 use Rattle.sheet.proofs.FieldVerdicts.{new-no-name}
 use Rattle.sheet.proofs.NamesHeld.{name-known, name-fresh}
 use borrow.Author.Needs.{needs}
@@ -20,7 +20,7 @@ returns c =
     let a = c .before .before .before .args in
     let s = now (a .s) in
     let e = not-true (c .before .is-name .result) (c .if1 .taken) in
-    sym (new-no-name (symbolsOf s (a .n)) (slice (a .a) (a .e) s) (sym (c .before .is-name .ensures) ∙ e))
+    sym (new-no-name (symbols-of s (a .n)) (slice (a .a) (a .e) s) (sym (c .before .is-name .ensures) ∙ e))
 
 add-all : tie.Need-add-all
 add-all c = search needs

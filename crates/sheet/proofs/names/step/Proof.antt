@@ -5,8 +5,8 @@ use native.Mathlib.Omega.{arith}
 use borrow.Author.Tests.{ne-eqb, eqb-false}
 use denote.Ref.{now}
 use lib.ListN.{getD}
-use Rattle.sheet.specs.Field.{stepFrom, marks}
-use Rattle.sheet.specs.Held.{symbolsOf}
+use Rattle.sheet.specs.Field.{marks}
+use Rattle.sheet.specs.Held.{symbols-of, step-from}
 use Rattle.sheet.proofs.FieldVerdicts.{step-empty, step-unmarked, step-marked, mark-le}
 use borrow.Author.Needs.{needs}
 use Rattle.sheet.proofs.names.step.Statement.{statement}
@@ -15,7 +15,7 @@ use Rattle.sheet.proofs.names.step.Tie as tie
 returns : tie.Need-returns
 returns c =
     let a = c .before .before .args in
-    (sym (step-empty (now (a .s)) (a .a) (a .e) (symbolsOf (now (a .s)) (a .n)) (c .if1 .taken)), omega arith)
+    (sym (step-empty (now (a .s)) (a .a) (a .e) (symbols-of (now (a .s)) (a .n)) (c .if1 .taken)), omega arith)
 
 shared-slice-read-mark-kind : tie.Need-shared-slice-read-mark-kind
 shared-slice-read-mark-kind c = search needs
@@ -28,7 +28,7 @@ returns-2 c =
     let b = c .before .before .before .before .before in
     let a = b .args in
     let q = sym (c .before .mark-kind .ensures) ∙ c .if2 .taken in
-    (sym (step-unmarked (now (a .s)) (a .a) (a .e) (symbolsOf (now (a .s)) (a .n)) (omega arith) (b .pre .1 .1) q), omega arith)
+    (sym (step-unmarked (now (a .s)) (a .a) (a .e) (symbols-of (now (a .s)) (a .n)) (omega arith) (b .pre .1 .1) q), omega arith)
 
 add-all : tie.Need-add-all
 add-all c = search needs
@@ -43,15 +43,15 @@ step-of-requires : tie.Need-step-of-requires
 step-of-requires c κs = search needs
 
 returns-3 : tie.Need-returns-3
-unfolding symbolsOf
+unfolding symbols-of
 returns-3 c =
     let b = c .before .before .before .before .before .before .before .before .before in
     let a = b .args in
     let q = sym (c .before .before .before .before .before .mark-kind .ensures) ∙ c .before .before .before .if3 .taken in
-    let f = step-marked (now (a .s)) (a .a) (a .e) (symbolsOf (now (a .s)) (a .n)) (omega arith) (b .pre .1 .1) 3 q (eqb-false 3 5 refl) in
+    let f = step-marked (now (a .s)) (a .a) (a .e) (symbols-of (now (a .s)) (a .n)) (omega arith) (b .pre .1 .1) 3 q (eqb-false 3 5 refl) in
     let g : a .n .fluents + a .n .actions - a .n .fluents ≡ a .n .actions = omega arith in
     let u = c .before .used-name .ensures .0 in
-    (c .step-of .ensures .0 ∙ ap (stepFrom 3) (rw g at u) ∙ sym f, c .step-of .ensures .1)
+    (c .step-of .ensures .0 ∙ ap (step-from 3) (rw g at u) ∙ sym f, c .step-of .ensures .1)
 
 add-used-name-2 : tie.Need-add-used-name-2
 add-used-name-2 c = search needs
@@ -65,16 +65,16 @@ step-of-requires-2 c κs =
     omega (arith, c .before .before .before .mark-kind .ensures)
 
 returns-4 : tie.Need-returns-4
-unfolding symbolsOf
+unfolding symbols-of
 returns-4 c =
     let b = c .before .before .before .before .before .before .before .before in
     let a = b .args in
     let k = c .before .before .before .before .mark-kind in
-    let f = step-marked (now (a .s)) (a .a) (a .e) (symbolsOf (now (a .s)) (a .n)) (omega arith) (b .pre .1 .1) (k .result) (sym (k .ensures)) (c .before .before .before .if2 .left) in
+    let f = step-marked (now (a .s)) (a .a) (a .e) (symbols-of (now (a .s)) (a .n)) (omega arith) (b .pre .1 .1) (k .result) (sym (k .ensures)) (c .before .before .before .if2 .left) in
     let e = ne-eqb (k .result) 3 (c .before .before .if3 .left) in
     let g : a .n .fluents - 0 ≡ a .n .fluents = omega arith in
     let u = c .before .used-name2 .ensures .0 in
-    (c .step-of2 .ensures .0 ∙ ap (stepFrom (k .result)) (rw g at u) ∙ sym (rw e at f), c .step-of2 .ensures .1)
+    (c .step-of2 .ensures .0 ∙ ap (step-from (k .result)) (rw g at u) ∙ sym (rw e at f), c .step-of2 .ensures .1)
 
 pub step-spec : {M : Type 1} → statement M
 step-spec =

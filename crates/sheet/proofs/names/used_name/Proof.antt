@@ -7,7 +7,7 @@ use denote.Ref.{now}
 use lib.Seq.{slice}
 use Rattle.chars.specs.Places.{place}
 use Rattle.sheet.specs.Verdict.{accept}
-use Rattle.sheet.specs.Held.{namesIn}
+use Rattle.sheet.specs.Held.{names-in}
 use Rattle.sheet.proofs.NamePlaces.{names-length}
 use Rattle.sheet.proofs.FieldVerdicts.{used-no-name, used-unknown, used-known}
 use borrow.Author.Needs.{needs}
@@ -22,7 +22,7 @@ returns c =
     let a = c .before .before .before .args in
     let s = now (a .s) in
     let e = not-true (c .before .is-name .result) (c .if1 .taken) in
-    (sym (used-no-name (namesIn s (a .n .from) (a .n .to) (a .lo) (a .hi - a .lo)) (slice (a .a) (a .e) s) (sym (c .before .is-name .ensures) ∙ e)), omega arith)
+    (sym (used-no-name (names-in s (a .n .from) (a .n .to) (a .lo) (a .hi - a .lo)) (slice (a .a) (a .e) s) (sym (c .before .is-name .ensures) ∙ e)), omega arith)
 
 find-name-requires : tie.Need-find-name-requires
 find-name-requires c κs = search needs
@@ -34,7 +34,7 @@ returns-2 c =
     let s = now (a .s) in
     let e = not-false (c .before .before .before .is-name .result) (c .before .before .if1 .left) in
     let l = names-length s (a .n .from) (a .n .to) (a .lo) (a .hi - a .lo) in
-    (sym (used-unknown (namesIn s (a .n .from) (a .n .to) (a .lo) (a .hi - a .lo)) (slice (a .a) (a .e) s) (sym (c .before .before .before .is-name .ensures) ∙ e) (omega arith)), omega arith)
+    (sym (used-unknown (names-in s (a .n .from) (a .n .to) (a .lo) (a .hi - a .lo)) (slice (a .a) (a .e) s) (sym (c .before .before .before .is-name .ensures) ∙ e) (omega arith)), omega arith)
 
 sub-t10 : tie.Need-sub-t10
 sub-t10 c = search needs
@@ -47,9 +47,9 @@ returns-3 c =
     let e = not-false (c .before .before .before .is-name .result) (c .before .before .if1 .left) in
     let l = names-length s (a .n .from) (a .n .to) (a .lo) (a .hi - a .lo) in
     let f = c .before .find-name .ensures .0 in
-    let p = place (slice (a .a) (a .e) s) (namesIn s (a .n .from) (a .n .to) (a .lo) (a .hi - a .lo)) in
+    let p = place (slice (a .a) (a .e) s) (names-in s (a .n .from) (a .n .to) (a .lo) (a .hi - a .lo)) in
     let d : p ≡ c .before .find-name .result - a .lo = omega arith in
-    (sym (used-known (namesIn s (a .n .from) (a .n .to) (a .lo) (a .hi - a .lo)) (slice (a .a) (a .e) s) (sym (c .before .before .before .is-name .ensures) ∙ e) (omega arith) ∙ ap (λ (k : ℕ). accept k) d), omega arith)
+    (sym (used-known (names-in s (a .n .from) (a .n .to) (a .lo) (a .hi - a .lo)) (slice (a .a) (a .e) s) (sym (c .before .before .before .is-name .ensures) ∙ e) (omega arith) ∙ ap (λ (k : ℕ). accept k) d), omega arith)
 
 pub used-name-spec : {M : Type 1} → statement M
 used-name-spec =

@@ -30,9 +30,6 @@ mul-good-step c = omega arith
 shared-slice-read-good-step : tie.Need-shared-slice-read-good-step Inv-loop μ-loop
 shared-slice-read-good-step c = omega arith
 
-good-step-requires : tie.Need-good-step-requires Inv-loop μ-loop
-good-step-requires c κs = search needs
-
 returns-2 : tie.Need-returns-2 Inv-loop μ-loop
 unfolding bad-goal
 returns-2 c =
@@ -64,15 +61,5 @@ pub bad-goal-spec : {M : Type 1} → statement M
 bad-goal-spec =
     tie.close
     (tie.spec
-    Inv-loop
-    μ-loop
-    returns
-    loop-holds
-    mul-good-step
-    shared-slice-read-good-step
-    good-step-requires
-    returns-2
-    add-i
-    loop-less
-    loop-again
-    returns-3)
+    Inv-loop μ-loop returns loop-holds mul-good-step shared-slice-read-good-step
+    (λ c κs. search needs) returns-2 add-i loop-less loop-again returns-3)

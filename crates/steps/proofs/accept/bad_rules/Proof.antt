@@ -9,9 +9,10 @@ use Rattle.steps.specs.Acceptance.{each-below, good-rule, bad-rules}
 use Rattle.steps.proofs.EachBelow.{each-none, each-more, each-not}
 use Rattle.steps.proofs.accept.bad_rules.Statement.{statement}
 use Rattle.steps.proofs.accept.bad_rules.Tie as tie
+use Rattle.steps.specs.Words.{rule-width}
 
 abbrev Inv-loop : tie.InvT-loop
-Inv-loop fluents actions rules count r₀ r = (r ≤ count) × (count ≡ length rules / 18) × (each-below r (good-rule fluents actions rules) ≡ true)
+Inv-loop fluents actions rules count r₀ r = (r ≤ count) × (count ≡ length rules / rule-width) × (each-below r (good-rule fluents actions rules) ≡ true)
 
 abbrev μ-loop : tie.MeasureT-loop
 μ-loop fluents actions rules count r₀ r = count - r
@@ -28,7 +29,7 @@ returns c =
     let l = c .before .before .before .loop .inv in
     let rules = c .before .before .before .before .before .args .rules .now in
     let r = c .before .before .before .loop .r in
-    let within : r < length rules / 18 = omega arith in
+    let within : r < length rules / rule-width = omega arith in
     rw (each-not _ _ r within (sym (c .before .good-rule .ensures) ∙ not-true _ (c .if1 .taken))) refl
 
 add-r : tie.Need-add-r Inv-loop μ-loop
@@ -46,7 +47,7 @@ returns-2 : tie.Need-returns-2 Inv-loop μ-loop
 unfolding bad-rules
 returns-2 c =
     let l = c .before .loop .inv in
-    let e : c .before .loop .r ≡ length (c .before .before .before .args .rules .now) / 18 = omega arith in
+    let e : c .before .loop .r ≡ length (c .before .before .before .args .rules .now) / rule-width = omega arith in
     rw (rw e at (l .2)) refl
 
 pub bad-rules-spec : {M : Type 1} → statement M

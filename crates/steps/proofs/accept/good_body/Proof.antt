@@ -9,9 +9,10 @@ use Rattle.steps.specs.Acceptance.{each-below, good-word}
 use Rattle.steps.proofs.EachBelow.{each-none, each-more, each-not}
 use Rattle.steps.proofs.accept.good_body.Statement.{statement}
 use Rattle.steps.proofs.accept.good_body.Tie as tie
+use Rattle.steps.specs.Words.{rule-width}
 
 abbrev Inv-loop : tie.InvT-loop
-Inv-loop fluents actions rules r n i₀ i = (i ≤ 16) × (each-below i (λ i. good-word fluents actions n i (getD rules (18 * r + 2 + i) 0)) ≡ true)
+Inv-loop fluents actions rules r n i₀ i = (i ≤ 16) × (each-below i (λ i. good-word fluents actions n i (getD rules (rule-width * r + 2 + i) 0)) ≡ true)
 
 abbrev μ-loop : tie.MeasureT-loop
 μ-loop fluents actions rules r n i₀ i = 16 - i

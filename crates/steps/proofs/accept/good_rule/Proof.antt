@@ -7,36 +7,13 @@ use borrow.Author.Tests.{lt-ltb, le-ltb}
 use Rattle.steps.specs.Acceptance.{good-rule}
 use Rattle.steps.proofs.accept.good_rule.Statement.{statement}
 use Rattle.steps.proofs.accept.good_rule.Tie as tie
-
-mul-head : tie.Need-mul-head
-mul-head c = search needs
-
-mul-head-2 : tie.Need-mul-head-2
-mul-head-2 c = search needs
-
-shared-slice-read-head : tie.Need-shared-slice-read-head
-shared-slice-read-head c = search needs
+use Rattle.steps.specs.Words.{rule-width}
 
 cast-head : tie.Need-cast-head
-cast-head c = omega (arith, c .shared-slice-known2 .given (18 * c .before .before .args .r))
-
-mul-n : tie.Need-mul-n
-mul-n c = search needs
-
-add-n : tie.Need-add-n
-add-n c = search needs
-
-mul-n-2 : tie.Need-mul-n-2
-mul-n-2 c = search needs
-
-shared-slice-read-n : tie.Need-shared-slice-read-n
-shared-slice-read-n c = search needs
+cast-head c = omega (arith, c .shared-slice-known2 .given (rule-width * c .before .before .args .r))
 
 cast-n : tie.Need-cast-n
-cast-n c = omega (arith, c .shared-slice-known3 .given (18 * c .before .before .before .args .r + 1))
-
-good-body-requires : tie.Need-good-body-requires
-good-body-requires c κs = search needs
+cast-n c = omega (arith, c .shared-slice-known3 .given (rule-width * c .before .before .before .args .r + 1))
 
 returns : tie.Need-returns
 unfolding good-rule
@@ -54,16 +31,6 @@ pub good-rule-spec : {M : Type 1} → statement M
 good-rule-spec =
     tie.close
     (tie.spec
-    mul-head
-    mul-head-2
-    shared-slice-read-head
-    cast-head
-    mul-n
-    add-n
-    mul-n-2
-    shared-slice-read-n
-    cast-n
-    good-body-requires
-    returns
-    returns-2
-    returns-3)
+    (λ c. search needs) (λ c. search needs) (λ c. search needs) cast-head (λ c. search needs)
+    (λ c. search needs) (λ c. search needs) (λ c. search needs) cast-n (λ c κs. search needs)
+    returns returns-2 returns-3)

@@ -7,12 +7,6 @@ use Rattle.steps.specs.Acceptance.{good-step}
 use Rattle.steps.proofs.accept.good_step.Statement.{statement}
 use Rattle.steps.proofs.accept.good_step.Tie as tie
 
-kind-requires : tie.Need-kind-requires
-kind-requires c κs = search needs
-
-index-requires : tie.Need-index-requires
-index-requires c κs = search needs
-
 returns : tie.Need-returns
 unfolding good-step
 returns c =
@@ -32,4 +26,7 @@ returns-3 c =
     rw (← e, le-ltb _ 5 (c .if2 .left)) refl
 
 pub good-step-spec : {M : Type 1} → statement M
-good-step-spec = tie.close (tie.spec kind-requires index-requires returns returns-2 returns-3)
+good-step-spec =
+    tie.close
+    (tie.spec
+    (λ c κs. search needs) (λ c κs. search needs) returns returns-2 returns-3)

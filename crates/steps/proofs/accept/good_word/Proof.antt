@@ -5,9 +5,6 @@ use Rattle.steps.specs.Acceptance.{good-word}
 use Rattle.steps.proofs.accept.good_word.Statement.{statement}
 use Rattle.steps.proofs.accept.good_word.Tie as tie
 
-good-step-requires : tie.Need-good-step-requires
-good-step-requires c κs = search needs
-
 returns : tie.Need-returns
 unfolding good-word
 returns c = rw (lt-ltb _ _ (c .before .if1 .taken)) (c .good-step .ensures)
@@ -17,4 +14,4 @@ unfolding good-word
 returns-2 c = rw (le-ltb _ _ (c .if1 .left))
 
 pub good-word-spec : {M : Type 1} → statement M
-good-word-spec = tie.close (tie.spec good-step-requires returns returns-2)
+good-word-spec = tie.close (tie.spec (λ c κs. search needs) returns returns-2)

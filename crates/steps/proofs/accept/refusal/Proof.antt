@@ -6,28 +6,24 @@ use Rattle.steps.specs.Acceptance.{refusal-of}
 use Rattle.steps.proofs.accept.refusal.Statement.{statement}
 use Rattle.steps.proofs.accept.refusal.Tie as tie
 
-words-refusal-requires : tie.Need-words-refusal-requires
-words-refusal-requires c κs = search needs
-
 returns : tie.Need-returns
 unfolding refusal-of
 returns c = rw (← c .before .words-refusal .ensures, ne-eqb _ 0 (c .if1 .taken)) refl
-
-bad-start-requires : tie.Need-bad-start-requires
-bad-start-requires c κs = search needs
 
 returns-2 : tie.Need-returns-2
 unfolding refusal-of
 returns-2 c =
     let w = c .before .before in
-    rw (← w .before .words-refusal .ensures, eq-eqb _ 0 (w .if1 .left), ← c .before .bad-start .ensures, c .if2 .taken) refl
+    rw (← w .before .words-refusal .ensures, eq-eqb _ 0 (w .if1 .left), ← c .before .bad-state .ensures, c .if2 .taken) refl
 
 returns-3 : tie.Need-returns-3
 unfolding refusal-of
 returns-3 c =
     let w = c .before .before in
-    rw (← w .before .words-refusal .ensures, eq-eqb _ 0 (w .if1 .left), ← c .before .bad-start .ensures, c .if2 .left) refl
+    rw (← w .before .words-refusal .ensures, eq-eqb _ 0 (w .if1 .left), ← c .before .bad-state .ensures, c .if2 .left) refl
 
 pub refusal-spec : {M : Type 1} → statement M
 refusal-spec =
-    tie.close (tie.spec words-refusal-requires returns bad-start-requires returns-2 returns-3)
+    tie.close
+    (tie.spec
+    (λ c κs. search needs) returns (λ c κs. search needs) returns-2 returns-3)

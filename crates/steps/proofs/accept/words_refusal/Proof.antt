@@ -5,31 +5,19 @@ use Rattle.steps.specs.Acceptance.{words-refusal}
 use Rattle.steps.proofs.accept.words_refusal.Statement.{statement}
 use Rattle.steps.proofs.accept.words_refusal.Tie as tie
 
-bad-counts-requires : tie.Need-bad-counts-requires
-bad-counts-requires c κs = search needs
-
 returns : tie.Need-returns
 unfolding words-refusal
 returns c = rw (← c .before .bad-counts .ensures, c .if1 .taken) refl
 
-bad-length-requires : tie.Need-bad-length-requires
-bad-length-requires c κs = search needs
-
 returns-2 : tie.Need-returns-2
 unfolding words-refusal
 returns-2 c = rw (← c .before .before .before .bad-counts .ensures, c .before .before .if1 .left, ← c .before .bad-length .ensures, c .if2 .taken) refl
-
-bad-rules-requires : tie.Need-bad-rules-requires
-bad-rules-requires c κs = search needs
 
 returns-3 : tie.Need-returns-3
 unfolding words-refusal
 returns-3 c =
     let l = c .before .before in
     rw (← l .before .before .before .bad-counts .ensures, l .before .before .if1 .left, ← l .before .bad-length .ensures, l .if2 .left, ← c .before .bad-rules .ensures, c .if3 .taken) refl
-
-bad-goal-requires : tie.Need-bad-goal-requires
-bad-goal-requires c κs = search needs
 
 returns-4 : tie.Need-returns-4
 unfolding words-refusal
@@ -49,12 +37,5 @@ pub words-refusal-spec : {M : Type 1} → statement M
 words-refusal-spec =
     tie.close
     (tie.spec
-    bad-counts-requires
-    returns
-    bad-length-requires
-    returns-2
-    bad-rules-requires
-    returns-3
-    bad-goal-requires
-    returns-4
-    returns-5)
+    (λ c κs. search needs) returns (λ c κs. search needs) returns-2 (λ c κs. search needs) returns-3
+    (λ c κs. search needs) returns-4 returns-5)

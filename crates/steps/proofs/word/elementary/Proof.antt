@@ -9,15 +9,6 @@ use Rattle.steps.proofs.ElementaryLaws.{query-word, insert-word, delete
 use Rattle.steps.proofs.word.elementary.Statement.{statement}
 use Rattle.steps.proofs.word.elementary.Tie as tie
 
-kind-requires : tie.Need-kind-requires
-kind-requires c κs = search needs
-
-index-requires : tie.Need-index-requires
-index-requires c κs = search needs
-
-holds-requires : tie.Need-holds-requires
-holds-requires c κs = search needs
-
 returns : tie.Need-returns
 unfolding onward
 returns c =
@@ -31,9 +22,6 @@ returns-2 c =
     let i = c .before .before .before in
     let a = i .before .before .args in
     rw (query-word (a .word) (a .state .0) (sym (i .before .kind .ensures) ∙ c .before .before .if1 .taken), ← i .index .ensures, ← c .before .holds .ensures, c .if2 .left) refl
-
-insert-requires : tie.Need-insert-requires
-insert-requires c κs = search needs
 
 returns-3 : tie.Need-returns-3
 unfolding onward
@@ -50,9 +38,6 @@ returns-4 c =
     let a = i .before .before .args in
     rw (insert-word (a .word) (a .state .0) (sym (i .before .kind .ensures) ∙ c .before .if3 .taken), ← i .index .ensures, le-ltb _ 64 (c .if4 .left)) refl
 
-delete-requires : tie.Need-delete-requires
-delete-requires c κs = search needs
-
 returns-5 : tie.Need-returns-5
 unfolding onward
 returns-5 c =
@@ -66,9 +51,6 @@ returns-6 c =
     let i = c .before .before .before .before in
     let a = i .before .before .args in
     sym (call-stuck (a .word) (a .state .0) (sym (i .before .kind .ensures) ∙ c .if6 .taken))
-
-holds-requires-2 : tie.Need-holds-requires-2
-holds-requires-2 c κs = search needs
 
 returns-7 : tie.Need-returns-7
 unfolding onward
@@ -90,17 +72,6 @@ pub elementary-spec : {M : Type 1} → statement M
 elementary-spec =
     tie.close
     (tie.spec
-    kind-requires
-    index-requires
-    holds-requires
-    returns
-    returns-2
-    insert-requires
-    returns-3
-    returns-4
-    delete-requires
-    returns-5
-    returns-6
-    holds-requires-2
-    returns-7
-    returns-8)
+    (λ c κs. search needs) (λ c κs. search needs) (λ c κs. search needs) returns returns-2
+    (λ c κs. search needs) returns-3 returns-4 (λ c κs. search needs) returns-5 returns-6
+    (λ c κs. search needs) returns-7 returns-8)

@@ -9,9 +9,6 @@ use Rattle.steps.proofs.StateLaws.{has, held, held-low, one-shl}
 use Rattle.steps.proofs.state.State.delete.Statement.{statement}
 use Rattle.steps.proofs.state.State.delete.Tie as tie
 
-holds-requires : tie.Need-holds-requires
-holds-requires c κs = search needs
-
 shl-t4 : tie.Need-shl-t4
 shl-t4 c =
     let a = c .before .before .args in
@@ -36,4 +33,4 @@ returns-2 c =
     rw no refl
 
 pub delete-spec : {M : Type 1} → statement M
-delete-spec = tie.close (tie.spec holds-requires shl-t4 sub-t5 returns returns-2)
+delete-spec = tie.close (tie.spec (λ c κs. search needs) shl-t4 sub-t5 returns returns-2)

@@ -7,12 +7,6 @@ use Rattle.steps.proofs.StateLaws.{high}
 use Rattle.steps.proofs.state.State.holds.Statement.{statement}
 use Rattle.steps.proofs.state.State.holds.Tie as tie
 
-shr-result : tie.Need-shr-result
-shr-result c = search needs
-
-returns : tie.Need-returns
-returns c = search needs
-
 returns-2 : tie.Need-returns-2
 returns-2 c =
     let a = c .before .args in
@@ -20,4 +14,4 @@ returns-2 c =
     rw none refl
 
 pub holds-spec : {M : Type 1} → statement M
-holds-spec = tie.close (tie.spec shr-result returns returns-2)
+holds-spec = tie.close (tie.spec (λ c. search needs) (λ c. search needs) returns-2)

@@ -10,17 +10,11 @@ use Rattle.steps.proofs.StateLaws.{room, not-held, one-shl}
 use Rattle.steps.proofs.state.State.insert.Statement.{statement}
 use Rattle.steps.proofs.state.State.insert.Tie as tie
 
-holds-requires : tie.Need-holds-requires
-holds-requires c κs = search needs
-
 returns : tie.Need-returns
 returns c =
     let a = c .before .before .before .args in
     let yes : holds (a .self .0) (a .k) ≡ true = sym (c .before .holds .ensures) ∙ c .if2 .taken in
     rw (lt-ltb (a .k) 64 (c .before .before .if1 .taken), yes) refl
-
-shl-t5 : tie.Need-shl-t5
-shl-t5 c = search needs
 
 add-t6 : tie.Need-add-t6
 add-t6 c =
@@ -40,4 +34,7 @@ returns-3 : tie.Need-returns-3
 returns-3 c = rw (le-ltb (c .before .args .k) 64 (c .if1 .left)) refl
 
 pub insert-spec : {M : Type 1} → statement M
-insert-spec = tie.close (tie.spec holds-requires returns shl-t5 add-t6 returns-2 returns-3)
+insert-spec =
+    tie.close
+    (tie.spec
+    (λ c κs. search needs) returns (λ c. search needs) add-t6 returns-2 returns-3)

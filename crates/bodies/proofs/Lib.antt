@@ -1,2 +1,0 @@
--- Laws: what a rule number that goes with an action gives; accepted words are short.
-pub mod Laws

@@ -1,2 +1,0 @@
--- Short: what the functions of bodies ask of the rule and goal words.
-pub mod Short

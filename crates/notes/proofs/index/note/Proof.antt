@@ -1,0 +1,22 @@
+-- `note` meets its contract: its two stores are those of `noted`. Assumes nothing.
+use native.Mathlib.Omega.{arith}
+use borrow.Author.Needs.{needs}
+use lib.ListN.{length-set}
+use Rattle.notes.specs.Index.{noted}
+use Rattle.notes.proofs.index.note.Statement.{statement}
+use Rattle.notes.proofs.index.note.Tie as tie
+
+slice-write-index-2 : tie.Need-slice-write-index-2
+slice-write-index-2 c = simp length-set (omega arith)
+
+returns : tie.Need-returns
+unfolding noted
+returns c = search needs
+
+pub note-spec : {M : Type 1} → statement M
+note-spec =
+    tie.close
+    (tie.spec
+    (λ c. search needs) (λ c. search needs) (λ c. search needs) (λ c. search needs)
+    (λ c. search needs) (λ c. search needs) (λ c. search needs) slice-write-index-2
+    (λ c. search needs) returns)

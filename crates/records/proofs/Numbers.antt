@@ -1,0 +1,60 @@
+-- The rules by their numbers: those of the rule words in order, then 256 for the goal; and what acceptance says of their bodies. Assumes nothing.
+use Prim.Native.Nat.{ℕ, _+_, _/_, _<_}
+use native.Mathlib.Omega.{arith}
+use mathlib.Core.Path.{_≡_, refl, sym}
+use mathlib.Core.Bool.{Bool, true, false, cond, _&&_}
+use mathlib.Core.List.{List, List·Memᴰ}
+use lib.ListN.{length}
+use lib.Dec.{eqb, ltb}
+use borrow.Author.Tests.{ltb-true, lt-ltb, le-ltb, eqb-true, eqb-false, eq-eqb, ne-eqb}
+use Rattle.steps.specs.Step.{Step, query, insert, delete, call, deny}
+use Rattle.steps.specs.Run.{Goal}
+use Rattle.steps.specs.Words.{body-of, head-of, words-of, rule-width}
+use Rattle.steps.proofs.EachBelow.{both}
+use Rattle.steps.proofs.WordLaws.{Low, words-short}
+use Rattle.steps.proofs.AcceptanceLaws.{AcceptedWords, Indexed, goal-indexed, words-indexed-of}
+use Rattle.records.specs.Records.{bodies-of, goal-rule}
+use Rattle.records.proofs.Justification.{Proper}
+use Rattle.records.specs.Bodies.{number-at}
+
+module _ (rules goal : List ℕ) where
+  -- what it is for a rule number to go with an action
+  pub fits-cases : (i a : ℕ) → bodies-of rules goal .fits i a ≡ true → (Q : Type 0) → (i ≡ goal-rule → a ≡ Goal → Q) → ((i ≡ goal-rule → ⊥) → i < length rules / rule-width → head-of rules i ≡ a → Q) → Q
+  fits-cases i a e Q g r = by (eqb i goal-rule) refl e
+    where
+      by : (b : Bool) → eqb i goal-rule ≡ b → cond b (eqb a Goal) (ltb i (length rules / rule-width) && eqb (head-of rules i) a) ≡ true → Q
+      by true z h = g (eqb-true i goal-rule z) (eqb-true a Goal h)
+      by false z h = let (l, f) = both (ltb i (length rules / rule-width)) (eqb (head-of rules i) a) h in r (eqb-false i goal-rule z) (ltb-true i (length rules / rule-width) l) (eqb-true (head-of rules i) a f)
+
+  -- every rule number that goes with some action is one of them
+  pub numbers-all : (i a : ℕ) → bodies-of rules goal .fits i a ≡ true → (k : ℕ) × (k < length rules / rule-width + 1) × (number-at (length rules / rule-width) k ≡ i)
+  unfolding number-at
+  numbers-all i a e = fits-cases i a e _
+      (λ z g. (length rules / rule-width, omega arith, rw (le-ltb (length rules / rule-width) (length rules / rule-width) (omega arith)) (sym z)))
+      (λ n l h. (i, omega arith, rw (lt-ltb i (length rules / rule-width) l) refl))
+
+  -- the words of a rule and of the goal
+  pub words-goal : (i : ℕ) → i ≡ goal-rule → bodies-of rules goal .words i ≡ goal
+  words-goal i z = rw (eq-eqb i goal-rule z) refl
+
+  pub words-rule : (i : ℕ) → (i ≡ goal-rule → ⊥) → bodies-of rules goal .words i ≡ words-of rules i
+  words-rule i n = rw (ne-eqb i goal-rule n) refl
+
+  module _ {fluents actions : ℕ} (acc : AcceptedWords fluents actions rules goal) where
+    indexed-low : (x : Step) → Indexed fluents actions x → Low x
+    indexed-low (query p) h = omega (arith, acc .few-fluents)
+    indexed-low (insert p) h = omega (arith, acc .few-fluents)
+    indexed-low (delete p) h = omega (arith, acc .few-fluents)
+    indexed-low (deny p) h = omega (arith, acc .few-fluents)
+    indexed-low (call a) h = tt
+
+    -- Accepted bodies have at most 16 steps, of fluents that a state has.
+    pub proper-of : Proper (bodies-of rules goal)
+    proper-of = record {
+      short = λ i a e. fits-cases i a e _
+          (λ z g. rw (words-goal i z) (acc .short))
+          (λ n l h. rw (words-rule i n) (omega (arith, words-short rules i, acc .counts i l)));
+      low = λ i a e x. fits-cases i a e (List·Memᴰ x (body-of (bodies-of rules goal .words i)) → Low x)
+          (λ z g m. indexed-low x (goal-indexed acc x (rw (words-goal i z) at m)))
+          (λ n l h m. indexed-low x (words-indexed-of acc i l x (rw (words-rule i n) at m)));
+    }

@@ -1,0 +1,91 @@
+-- The records of the two tables, rooms, and when an answer record is justified. Assumes nothing.
+use Prim.Native.Nat.{ℕ, suc, _+_, _-_, _*_, _/_, min}
+use mathlib.Core.Bool.{Bool, false, cond, _&&_}
+use mathlib.Core.List.{List, [], _∷_}
+use lib.ListN.{getD, length}
+use lib.Dec.{eqb, ltb}
+use Rattle.steps.specs.State.{State}
+use Rattle.steps.specs.Step.{Step, query, insert, delete, call, deny, Body}
+use Rattle.steps.specs.Run.{Goal}
+use Rattle.steps.specs.Words.{body-of, head-of, words-of, rule-width}
+use Rattle.steps.specs.Acceptance.{each-below}
+use Rattle.steps.specs.Elementary.{Onward, on, stuck, elementary}
+
+-- A table of call records: how many there are, and of each its action and its state.
+abbrev pub Calls : Type 0
+Calls = record { count : ℕ; action : ℕ → ℕ; state : ℕ → State }
+
+-- A table of answer records: how many there are, and of each its call record number, final state, rule number and evidence at each place.
+abbrev pub Answers : Type 0
+Answers = record { count : ℕ; call : ℕ → ℕ; final : ℕ → State; rule : ℕ → ℕ; evidence : ℕ → ℕ → ℕ }
+
+-- Call record: action, state. The first n records of a table whose records have `width` words.
+abbrev pub calls-in : ℕ → List ℕ → ℕ → Calls
+calls-in width words n = record { count = n; action = λ i. getD words (width * i) 0; state = λ i. getD words (width * i + 1) 0 }
+
+-- Answer record: call record number; final state; rule number; then 16 evidence words.
+abbrev pub answers-in : ℕ → List ℕ → ℕ → Answers
+answers-in width words n = record {
+  count = n;
+  call = λ x. getD words (width * x) 0;
+  final = λ x. getD words (width * x + 1) 0;
+  rule = λ x. getD words (width * x + 2) 0;
+  evidence = λ x q. getD words (width * x + 3 + q) 0;
+}
+
+-- A call record has 2 words, an answer record 19.
+abbrev pub call-width : ℕ
+call-width = 2
+
+abbrev pub answer-width : ℕ
+answer-width = 19
+
+-- The first n records in the words of a table.
+abbrev pub call-table : List ℕ → ℕ → Calls
+call-table words n = calls-in call-width words n
+
+abbrev pub answer-table : List ℕ → ℕ → Answers
+answer-table words n = answers-in answer-width words n
+
+-- Room of a table: its length divided by the record's width, rounded down, at most 65,536.
+abbrev pub room : ℕ → ℕ → ℕ
+room width len = min (len / width) 65536
+
+-- The bodies that answers may name: whether a rule number goes with an action, and its step words.
+abbrev pub Bodies : Type 0
+Bodies = record { fits : ℕ → ℕ → Bool; words : ℕ → List ℕ }
+
+-- The goal's number among the rules.
+abbrev pub goal-rule : ℕ
+goal-rule = 256
+
+-- A rule goes with its head; the goal goes with action 64 (no accepted head is 64).
+abbrev pub bodies-of : List ℕ → List ℕ → Bodies
+bodies-of rules goal = record {
+  fits = λ i a. cond (eqb i goal-rule) (eqb a Goal) (ltb i (length rules / rule-width) && eqb (head-of rules i) a);
+  words = λ i. cond (eqb i goal-rule) goal (words-of rules i);
+}
+
+module _ (calls : Calls) (answers : Answers) (n : ℕ) where
+  -- Where step x of record n leads from state s with evidence e. A call takes the named answer: its number is smaller than n, and
+  -- its call is this step's action at s (that its call record exists is asked of the named answer's own record). Any other step is done, and
+  -- its evidence is 0.
+  unfoldable pub follow : Step → State → ℕ → Onward
+  follow (call a) s e =
+      cond (ltb e n && (eqb (calls .action (answers .call e)) a && eqb (calls .state (answers .call e)) s)) (on (answers .final e)) stuck
+  follow (query p) s e = cond (eqb e 0) (elementary (query p) s) stuck
+  follow (insert p) s e = cond (eqb e 0) (elementary (insert p) s) stuck
+  follow (delete p) s e = cond (eqb e 0) (elementary (delete p) s) stuck
+  follow (deny p) s e = cond (eqb e 0) (elementary (deny p) s) stuck
+
+  -- Walking the steps from place q on, from state s, ends in record n's final state; evidence past the steps is 0.
+  unfoldable pub follows : Body → ℕ → State → Bool
+  follows [] q s = eqb s (answers .final n) && each-below (16 - q) (λ i. eqb (answers .evidence n (q + i)) 0)
+  follows (x ∷ rest) q s = elim (follow x s (answers .evidence n q)) [ on t ↦ follows rest (suc q) t | stuck ↦ false ]
+
+  -- Record n is justified: its call record exists, its rule goes with that call's action, and walking the body from the call's state
+  -- with its evidence ends in its final state.
+  unfoldable pub justified : Bodies → Bool
+  justified bodies =
+      ltb (answers .call n) (calls .count) && (bodies .fits (answers .rule n) (calls .action (answers .call n))
+      && follows (body-of (bodies .words (answers .rule n))) 0 (calls .state (answers .call n)))

@@ -1,0 +1,2 @@
+-- Refusals: the number of each refusal.
+pub mod Refusals

@@ -1,0 +1,240 @@
+// The rounds of an evaluation (serial-Horn Transaction Logic, figure 4 of source document 000).
+//
+// A round walks every body of every call record that stood when it began, with only the answers that stood then, and adds what it finds; a
+// round that adds nothing is the last. A record whose callees have gained no answer since it was walked has nothing to add, and is passed; a
+// walk that was done before passes over the answers that lead to nothing new (`notes::uses`). A walk is a depth-first search over answers in
+// rising order (crate `walk`). Tables that a round adds nothing to are closed, and every record in them is reached or justified: so they hold
+// exactly the run's calls and answers.
+use notes::marks;
+use notes::uses;
+use records::bodies;
+use records::tables;
+use walk::Job;
+use walk::Leave;
+use walk::Spot;
+ghost use mathlib.Core.Path.{_≡_};
+ghost use mathlib.Core.List.{List};
+ghost use Prim.Native.Nat.{ℕ, _≤_};
+ghost use lib.ListN.{length};
+ghost use Rattle.steps.proofs.AcceptanceLaws.{AcceptedWords};
+ghost use Rattle.records.specs.Records.{bodies-of};
+ghost use Rattle.tabling.proofs.Evidence.{Among, Valid};
+ghost use Rattle.notes.specs.Marks.{Stamped};
+ghost use Rattle.notes.specs.Uses.{heat};
+ghost use Rattle.loops.proofs.Going.{Kept, Indexed, in-words};
+ghost use Rattle.loops.proofs.Filling.{Standing, Went, Filled};
+
+// How many records the tables hold, or that a table is full.
+pub struct Counted {
+    pub full: bool,
+    pub calls: usize,
+    pub answers: usize,
+}
+
+// How far the rounds have come: how many records the tables hold, up to which call record and with which answers records were walked, and the
+// number of the last walk.
+pub struct Stage {
+    pub calls: usize,
+    pub answers: usize,
+    pub walked: usize,
+    pub seen: usize,
+    pub walk: u64,
+}
+
+// What a round leaves: how many records there are then, or that a table is full, and the number of its last walk.
+pub struct Rounded {
+    pub full: bool,
+    pub calls: usize,
+    pub answers: usize,
+    pub walk: u64,
+}
+
+// One round: walks every body of the call records from `first` on, but for those that have nothing to add, with the answers that stood at its
+// start, and adds what it finds.
+fn round<'a>(
+    rules: &'a [u16],
+    goal: &'a [u16],
+    first: usize,
+    stage: Stage,
+    calls: &mut [u64],
+    call_index: &mut [u16],
+    answers: &mut [u64],
+    answer_index: &mut [u16],
+    marks: &mut [u32],
+    uses: &mut [u16],
+) -> Rounded
+    requires { ⌜ Standing (now rules) (now goal) first (stage .walked) (stage .seen) (now calls) (stage .calls) (now «call_index»)
+        (now answers) (stage .answers) (now «answer_index») (now marks) (stage .walk) (now uses) ⌝ }
+    ensures { λ r. ⌜ Went (now (rules .entry)) (now (goal .entry)) first (stage .walked) (stage .seen) (now (calls .entry)) (stage .calls)
+        (now (answers .entry)) (stage .answers) (now (uses .entry)) (r .full) (now (calls .exit)) (r .calls) (now («call_index» .exit))
+        (now (answers .exit)) (r .answers)
+        (now («answer_index» .exit)) (now (marks .exit)) (r .walk) (now (uses .exit)) ⌝ }
+{
+    let count = rules.len() / steps::word::RULE_WORDS;
+    let rows = stage.calls;
+    let known = stage.answers;
+    let walked = stage.walked;
+    let seen = stage.seen;
+    let span = uses::span_of(uses, answers, seen, known, walked, rows);
+    let low = span.low;
+    let high = span.high;
+    let top = span.top;
+    let mut n = rows;
+    let mut m = known;
+    let mut walk = stage.walk;
+    // Left in its first turn: it stands for a block with a label.
+    'round: loop {
+        for row in low..top {
+            if high <= row {
+                if row < walked {
+                    continue;
+                }
+            }
+            for rule in 0..count + 1 {
+                if !bodies::is_at(rules, rule, tables::action_of(calls, row)) {
+                    continue;
+                }
+                let number = bodies::number_of(rule, count);
+                walk = marks::next_walk(marks, walk);
+                let job = Job {
+                    rule: number,
+                    row: row,
+                    known: known,
+                    walk: walk,
+                    first: first,
+                    old: span.old,
+                    seen: seen,
+                    warm: span.warm,
+                };
+                let body = bodies::steps_of(rules, goal, number);
+                let mut chosen = [0u64; 16];
+                let mut rest = body;
+                let mut spot = Spot {
+                    state: tables::state_of(calls, row),
+                    last: 0,
+                };
+                loop {
+                    let turn = walk::turn(
+                        body,
+                        rest,
+                        job,
+                        calls,
+                        n,
+                        call_index,
+                        answers,
+                        m,
+                        answer_index,
+                        marks,
+                        uses,
+                        &mut chosen,
+                        spot,
+                    );
+                    n = turn.calls;
+                    m = turn.answers;
+                    let next = turn.leave;
+                    match next {
+                        Leave::On(after) => {
+                            rest = &rest[1..];
+                            spot = after;
+                        }
+                        Leave::Back(place, after) => {
+                            rest = &body[place..];
+                            spot = after;
+                        }
+                        Leave::Done => {
+                            break;
+                        }
+                        Leave::Full => {
+                            break 'round;
+                        }
+                    }
+                }
+            }
+        }
+        return Rounded {
+            full: false,
+            calls: n,
+            answers: m,
+            walk: walk,
+        };
+    }
+    Rounded {
+        full: true,
+        calls: n,
+        answers: m,
+        walk: walk,
+    }
+}
+
+// Rounds over the call records from `first` on until one adds nothing, under the rules and the goal, or until a table is full. The tables hold
+// n0 call records and m0 answers at first; what they can hold is fixed by the lengths of the lent words.
+pub fn fill<'a>(
+    rules: &'a [u16],
+    goal: &'a [u16],
+    calls: &mut [u64],
+    n0: usize,
+    call_index: &mut [u16],
+    answers: &mut [u64],
+    m0: usize,
+    answer_index: &mut [u16],
+    first: usize,
+    marks: &mut [u32],
+    uses: &mut [u16],
+) -> Counted
+    requires { ⌜ Kept (now calls) n0 (now answers) m0 × Indexed (now calls) n0 (now «call_index») (now answers) m0 (now «answer_index»)
+        × Stamped (now marks) 0 × (first ≤ n0) × (length (now uses) ≡ 327680) × ((k : ℕ) → heat (now uses) k ≡ 0) ⌝ }
+    requires { ⌜ ((fluents : ℕ) × (actions : ℕ) × AcceptedWords fluents actions (now rules) (now goal)) ⌝ }
+    requires { ⌜ ((roots : List (ℕ × ℕ)) × Valid (bodies-of (now rules) (now goal)) (Among roots) (in-words (now calls) n0 (now answers) m0)) ⌝ }
+    ensures { λ r. ⌜ ((roots : List (ℕ × ℕ)) → Valid (bodies-of (now (rules .entry)) (now (goal .entry))) (Among roots)
+        (in-words (now (calls .entry)) n0 (now (answers .entry)) m0)
+        → Filled (now (rules .entry)) (now (goal .entry)) roots first (now (calls .entry)) (now (answers .entry)) (now (calls .exit))
+        (now (answers .exit)) (r .full) (r .calls) (r .answers)) ⌝ }
+{
+    let mut n = n0;
+    let mut m = m0;
+    let mut walked = first;
+    let mut seen = 0;
+    let mut walk: u64 = 0;
+    loop {
+        let stage = Stage {
+            calls: n,
+            answers: m,
+            walked: walked,
+            seen: seen,
+            walk: walk,
+        };
+        let done = round(
+            rules,
+            goal,
+            first,
+            stage,
+            calls,
+            call_index,
+            answers,
+            answer_index,
+            marks,
+            uses,
+        );
+        let rows = done.calls;
+        let known = done.answers;
+        if done.full {
+            return Counted {
+                full: true,
+                calls: rows,
+                answers: known,
+            };
+        }
+        if rows + known == n + m {
+            return Counted {
+                full: false,
+                calls: rows,
+                answers: known,
+            };
+        }
+        walked = n;
+        seen = m;
+        n = rows;
+        m = known;
+        walk = done.walk;
+    }
+}
