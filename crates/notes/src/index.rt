@@ -82,8 +82,8 @@ fn note(index: &mut [u16], k: usize, n: usize)
 // The record of the call, which is added to the table and noted in the index if there is none.
 pub fn add_call(calls: &mut [u64], n: usize, index: &mut [u16], call: Call) -> Put
     requires { ⌜ Stored call-width (now calls) n × CallIndex (call-table (now calls) n) (now index) ⌝ }
-    ensures { λ r. ⌜ CallStored call-width (now (calls .entry)) n (call .action) (call .state .0) (now (calls .exit)) (r .row) (r .count) (r .full) ⌝
-        }
+    ensures { λ r. ⌜ CallStored call-width (now (calls .entry)) n (call .action) (call .state .0) (now (calls .exit))
+        (r .row) (r .count) (r .full) ⌝ }
     ensures { λ r. ⌜ CallIndex (call-table (now (calls .exit)) (r .count)) (now (index .exit)) ⌝ }
 {
     let row = find_call(calls, n, index, call);
