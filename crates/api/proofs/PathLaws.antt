@@ -6,12 +6,13 @@ use mathlib.Core.Bool.{false}
 use mathlib.Core.List.{List}
 use mathlib.Core.Logic.{_≢_}
 use borrow.Author.Tests.{le-ltb}
-use Rattle.refusals.specs.Refusals as refusals
+use Rattle.refusals.specs.Run.{run-refusals}
+use Rattle.refusals.specs.Path.{path-refusals}
 use Rattle.checks.specs.Checks.{over-room}
-use Rattle.path.specs.Outcome as path
+use Rattle.path.specs.Answered as path
 use Rattle.path.proofs.OutcomeLaws.{never-42}
 use Rattle.path.proofs.FinishedLaws.{finished-sound, finished-never-42}
-use Rattle.evaluator.specs.Evaluated.{Evaluated, Asked, Lent, Told, told, refused-with, Tabled, not-accepted, no-room, short-list, ends-listed}
+use Rattle.evaluator.specs.Evaluated.{Evaluated, Asked, Lent, Told, told, refused-with, Tabled, not-accepted, outgrown, short-list, ends-listed}
 use Rattle.evaluator.proofs.Determined.{tabled-rooms}
 
 -- What the path is lent after an evaluation: what was asked of it, the tables, and the counts given.
@@ -29,21 +30,21 @@ sound {q} {after = after} {r = r} t = finished-sound (left-by q after r) (q .sta
 -- After whatever evaluation no record number below the count of answers (which is 0 but after 0 or 31) meets a fault of the path, 20 to 42.
 pub evaluated-sound : {q : Asked} {before after : Lent} {r : Told} → Evaluated q before after r → (x : ℕ) → x < r .answers → path.fault (left-by q after r) x ≡ 0
 evaluated-sound (not-accepted n z u) x h = absurd (omega (arith, ap (λ (r : Told). r .answers) z))
-evaluated-sound (no-room e f z u) x h = absurd (omega (arith, ap (λ (r : Told). r .answers) z))
+evaluated-sound (outgrown e f z u) x h = absurd (omega (arith, ap (λ (r : Told). r .answers) z))
 evaluated-sound (short-list z t l u) x h = sound t x h
 evaluated-sound (ends-listed z t l up u) x h = sound t x h
 
 module _ (q : Asked) (after : Lent) (x : ℕ) (list : List ℕ) where
   abbrev Never : Told → Type 0
-  Never r = path.path-refusal (left-by q after r) x list ≢ refusals.bad-record
+  Never r = path.path-refusal (left-by q after r) x list ≢ path-refusals .bad-record
 
   -- no record is counted
   empty : (refusal : ℕ) → Never (told refusal 0 0 0)
   empty refusal = never-42 (left-by q after (told refusal 0 0 0)) x list (λ i h. absurd (omega arith)) (λ i h. absurd (omega arith))
 
 -- Whatever record is asked for, after whatever evaluation: not 42.
-pub evaluated-never-42 : {q : Asked} {before after : Lent} {r : Told} → Evaluated q before after r → (x : ℕ) (list : List ℕ) → path.path-refusal (left-by q after r) x list ≢ refusals.bad-record
+pub evaluated-never-42 : {q : Asked} {before after : Lent} {r : Told} → Evaluated q before after r → (x : ℕ) (list : List ℕ) → path.path-refusal (left-by q after r) x list ≢ path-refusals .bad-record
 evaluated-never-42 {q} {after = after} (not-accepted n z u) x list = subst (Never q after x list) (sym z) (empty q after x list (refused-with q))
-evaluated-never-42 {q} {after = after} (no-room e f z u) x list = subst (Never q after x list) (sym z) (empty q after x list refusals.tables-full)
+evaluated-never-42 {q} {after = after} (outgrown e f z u) x list = subst (Never q after x list) (sym z) (empty q after x list (run-refusals .tables-full))
 evaluated-never-42 {q} {after = after} {r = r} (short-list z t l u) x list = finished-never-42 (left-by q after r) (q .start) (t .accepted) (t .finished) x list
 evaluated-never-42 {q} {after = after} {r = r} (ends-listed z t l up u) x list = finished-never-42 (left-by q after r) (q .start) (t .accepted) (t .finished) x list

@@ -9,17 +9,17 @@ use lib.Dec.{eqb}
 use lib.ListN.{length, getD, take, drop}
 use lib.Seq.{take-at, getD-take, getD-drop, getD-append-add}
 use borrow.Author.Tests.{ltb-false}
-use Rattle.refusals.specs.Refusals as refusals
+use Rattle.refusals.specs.Class.{class-refusals}
 use Rattle.steps.specs.State.{State}
 use Rattle.steps.proofs.Lists.{at-member}
 use Rattle.evaluator.specs.Evaluated.{Asked, Lent, Told, asked, told}
 use Rattle.class.specs.Class.{four, result-words, places, written, Ran, refused, ran}
-use Rattle.class.specs.Shown.{InTurn, none, without, with-ends, Shown}
+use Rattle.class.specs.Shown.{InTurn, none, without, with-ends, ClassShown}
 use Rattle.class.proofs.Running.{words-long}
 use Rattle.class.proofs.Single.{words-of-start}
 use Rattle.class.proofs.Laws.{class-shown, class-below}
 use Rattle.report.specs.Figures.{sum-below, starts, unrefused, ends-of, all-ends}
-use Rattle.report.specs.Outcome.{bad-starts, refusal}
+use Rattle.report.specs.Report.{bad-starts, refusal}
 use Rattle.report.proofs.Sums.{sum-none, sum-same, sum-first}
 use Rattle.report.proofs.Results.{or-false, few, few-at, good-starts}
 use Rattle.report.proofs.Outcomes.{never-26, good-ends}
@@ -73,7 +73,7 @@ told-many (without ne t) = ap suc (told-many t)
 told-many (with-ends z rise each many t) = ap suc (told-many t)
 
 module _ {fluents actions : ℕ} {rules goal : List ℕ} {begun : List State} {results results′ : List ℕ} {before after : Lent} where
-  module _ (small : length begun ≤ 1024) (S : Shown (asked fluents actions rules goal) begun results before results′ after) where
+  module _ (small : length begun ≤ 1024) (S : ClassShown (asked fluents actions rules goal) begun results before results′ after) where
     abbrev words : List ℕ
     words = result-words (S .given)
 
@@ -104,14 +104,14 @@ module _ {fluents actions : ℕ} {rules goal : List ℕ} {begun : List State} {r
     results-good : bad-starts words (length (S .ends)) ≡ false
     results-good = good-starts words (length (S .ends)) (omega (arith, words-long (S .given))) (omega (arith, long, many)) few-ends sum-is
 
-    left-good : (room : ℕ) → refusal fluents (words-left begun results′) (ends-left (words-left begun results′) after) room ≢ refusals.bad-results
+    left-good : (room : ℕ) → refusal fluents (words-left begun results′) (ends-left (words-left begun results′) after) room ≢ (class-refusals .bad-results)
     left-good room =
         rw (ends-are, words-are)
         (never-26 fluents words (S .ends) room results-good
         (good-ends fluents (S .ends) (λ i l. class-below S (getD (S .ends) i 0) (at-member (S .ends) i 0 l))))
 
   -- The results of a class run that is not refused, words past the last start cut off, and the ends that it wrote are never refused with 26.
-  pub class-report : {r : ℕ} → Ran (asked fluents actions rules goal) begun results before results′ after r → r ≢ refusals.bad-class → (room : ℕ)
-      → refusal fluents (words-left begun results′) (ends-left (words-left begun results′) after) room ≢ refusals.bad-results
+  pub class-report : {r : ℕ} → Ran (asked fluents actions rules goal) begun results before results′ after r → r ≢ class-refusals .bad-class → (room : ℕ)
+      → refusal fluents (words-left begun results′) (ends-left (words-left begun results′) after) room ≢ (class-refusals .bad-results)
   class-report (refused b e w s) ne = absurd (ne e)
   class-report (ran b e T w) ne = left-good (ltb-false _ _ (or-false _ _ b .0)) (class-shown (asked fluents actions rules goal) (ran b e T w) e)

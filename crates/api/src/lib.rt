@@ -9,10 +9,10 @@ ghost use Rattle.merge.specs.Merge as merged;
 ghost use Rattle.merge.specs.MergedName.{merged-span};
 ghost use Rattle.evaluator.specs.Evaluated.{Evaluated, asked, lent, told};
 ghost use Rattle.class.specs.Class.{Ran};
-ghost use Rattle.path.specs.Outcome.{handed, Answered};
-ghost use Rattle.archive.specs.Outcome.{Stored, Restored};
-ghost use Rattle.report.specs.Outcome.{refusal, output-after};
-ghost use Rattle.marking.specs.Marking.{question, Outcome};
+ghost use Rattle.path.specs.Answered.{handed, Answered};
+ghost use Rattle.archive.specs.Archived.{StatesStored, StatesRestored};
+ghost use Rattle.report.specs.Report.{refusal, output-after};
+ghost use Rattle.marking.specs.Marking.{question, RecordMarked};
 
 // The version, as a host compares it with its header's: 10,000 times the first number, 100 times the second and the third.
 #[no_mangle]
@@ -162,7 +162,7 @@ pub extern "C" fn lawhemuri_store(
     states: &[u64],
     words: &mut [u64],
 ) -> archive::Archived
-    ensures { λ r. ⌜ Stored fluents (now (states .entry)) (now (words .entry)) (r .refusal) (r .count) (now (words .exit)) ⌝ }
+    ensures { λ r. ⌜ StatesStored fluents (now (states .entry)) (now (words .entry)) (r .refusal) (r .count) (now (words .exit)) ⌝ }
 {
     archive::store(fluents, states, words)
 }
@@ -175,7 +175,7 @@ pub extern "C" fn lawhemuri_restore(
     words: &[u64],
     states: &mut [u64],
 ) -> archive::Archived
-    ensures { λ r. ⌜ Restored fluents count (now (words .entry)) (now (states .entry)) (r .refusal) (r .count) (now (states .exit)) ⌝ }
+    ensures { λ r. ⌜ StatesRestored fluents count (now (words .entry)) (now (states .entry)) (r .refusal) (r .count) (now (states .exit)) ⌝ }
 {
     archive::restore(fluents, count, words, states)
 }
@@ -206,7 +206,7 @@ pub extern "C" fn lawhemuri_mark(
     recorded: &[u16],
     table: &mut [u64],
 ) -> marking::Marked
-    ensures { λ r. ⌜ Outcome (question fluents actions (now (rules .entry)) (now (goal .entry)) start (now (recorded .entry)))
+    ensures { λ r. ⌜ RecordMarked (question fluents actions (now (rules .entry)) (now (goal .entry)) start (now (recorded .entry)))
         (now (table .entry)) (r .refusal) (r .yes) (now (table .exit)) ⌝ }
 {
     marking::mark(fluents, actions, rules, goal, start, recorded, table)

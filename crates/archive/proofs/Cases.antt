@@ -4,7 +4,7 @@ use mathlib.Core.List.{[], _∷_}
 use lib.ListN.{replicate}
 use Rattle.steps.specs.Acceptance.{each-below, bad-state}
 use Rattle.archive.specs.Archive.{tabulate, column, columns, stored, restored}
-use Rattle.archive.specs.Outcome.{bad-states, bad-bits, store-refusal, restore-refusal, after}
+use Rattle.archive.specs.Archived.{bad-states, bad-bits, store-refusal, restore-refusal, after}
 
 store-two-fluents : after 0 (stored 2 (0 ∷ 1 ∷ 3 ∷ 2 ∷ [])) (9 ∷ 9 ∷ 9 ∷ []) ≡ 6 ∷ 12 ∷ 9 ∷ []
 unfolding columns tabulate column

@@ -12,7 +12,7 @@ use borrow.Author.Tests.{eq-eqb, ne-eqb, le-ltb}
 use Rattle.steps.specs.Acceptance.{bad-state}
 use Rattle.steps.proofs.EachBelow.{each-all}
 use Rattle.archive.specs.Archive.{part, blocks, stored, restored}
-use Rattle.archive.specs.Outcome.{bad-states, bad-bits, store-refusal, restore-refusal, Stored, Restored}
+use Rattle.archive.specs.Archived.{bad-states, bad-bits, store-refusal, restore-refusal, StatesStored, StatesRestored}
 use Rattle.archive.proofs.Bits.{column-below}
 use Rattle.archive.proofs.Tabulated.{column-at}
 use Rattle.archive.proofs.Counted.{last-block}
@@ -63,8 +63,8 @@ module _ (fluents : ℕ) where
 
 -- "The inverse needs the count of states and gives back the same states": after a `store` that tells 0 and n, a `restore` of these n
 -- words and of as many states, with room for them, tells 0 and leaves the states.
-pub store-restore : (fluents n told m : ℕ) (states words words' out out' : List ℕ) → Stored fluents states words 0 n words' → length states ≤ length out
-    → Restored fluents (length states) (take n words') out told m out'
+pub store-restore : (fluents n told m : ℕ) (states words words' out out' : List ℕ) → StatesStored fluents states words 0 n words' → length states ≤ length out
+    → StatesRestored fluents (length states) (take n words') out told m out'
     → (told ≡ 0) × (m ≡ length states) × (out' ≡ states ++ drop (length states) out)
 store-restore fluents n told m states words words' out out' s l r =
     let (few, good, _) = store-passed fluents states (length words) (sym (s .refused)) in
@@ -76,7 +76,7 @@ store-restore fluents n told m states words words' out out' s l r =
 -- "Storing what it gave yields the same words": after a `restore` of words of 64 bits that tells 0 and n, a `store` of these n states,
 -- with room for the words, tells 0 and leaves the words.
 pub restore-store : (fluents count n told m : ℕ) (words states states' out out' : List ℕ) → ((j : ℕ) → j < length words → getD words j 0 < 2 ^ 64)
-    → Restored fluents count words states 0 n states' → length words ≤ length out → Stored fluents (take n states') out told m out'
+    → StatesRestored fluents count words states 0 n states' → length words ≤ length out → StatesStored fluents (take n states') out told m out'
     → (told ≡ 0) × (m ≡ length words) × (out' ≡ words ++ drop (length words) out)
 restore-store fluents count n told m words states states' out out' small r l s =
     let (few, long, clear, _) = restore-passed fluents count words (length states) (sym (r .refused)) in

@@ -7,7 +7,7 @@ ghost use mathlib.Core.List.{_++_};
 ghost use Prim.Native.Nat.{_*_, _≤_, _<_, _^_};
 ghost use lib.ListN.{length, drop};
 ghost use Rattle.archive.specs.Archive.{column, part, columns, blocks};
-ghost use Rattle.archive.specs.Outcome.{bad-states, bad-words, bad-bits, store-refusal, restore-refusal, Stored, Restored};
+ghost use Rattle.archive.specs.Archived.{bad-states, bad-words, bad-bits, store-refusal, restore-refusal, StatesStored, StatesRestored};
 
 // What an operation gives: its refusal or 0, and how many words or states it has written, 0 where refused.
 #[repr(C)]
@@ -18,7 +18,7 @@ pub struct Archived {
 
 // Stores states by fluent. The words come first in `words`, which is unchanged past them and by a refusal.
 pub fn store(fluents: u64, states: &[u64], words: &mut [u64]) -> Archived
-    ensures { λ r. ⌜ Stored fluents (now (states .entry)) (now (words .entry)) (r .refusal) (r .count) (now (words .exit)) ⌝ }
+    ensures { λ r. ⌜ StatesStored fluents (now (states .entry)) (now (words .entry)) (r .refusal) (r .count) (now (words .exit)) ⌝ }
 {
     let refusal = store_refusal(fluents, states, words.len());
     if refusal != 0 {
@@ -37,7 +37,7 @@ pub fn store(fluents: u64, states: &[u64], words: &mut [u64]) -> Archived
 
 // Restores `count` states. They come first in `states`, which is unchanged past them and by a refusal.
 pub fn restore(fluents: u64, count: u64, words: &[u64], states: &mut [u64]) -> Archived
-    ensures { λ r. ⌜ Restored fluents count (now (words .entry)) (now (states .entry)) (r .refusal) (r .count) (now (states .exit)) ⌝ }
+    ensures { λ r. ⌜ StatesRestored fluents count (now (words .entry)) (now (states .entry)) (r .refusal) (r .count) (now (states .exit)) ⌝ }
 {
     let refusal = restore_refusal(fluents, count, words, states.len());
     if refusal != 0 {

@@ -13,7 +13,7 @@ use Rattle.steps.proofs.AcceptanceLaws.{accepted-below}
 use Rattle.steps.proofs.EachBelow.{true-not-false}
 use Rattle.evaluator.specs.Evaluated.{Asked, Lent, Told, asked}
 use Rattle.class.specs.Class.{four, result-words, Turns, Ran, refused, ran}
-use Rattle.class.specs.Shown.{Shown, ClassDetermined}
+use Rattle.class.specs.Shown.{ClassShown, ClassDetermined}
 use Rattle.class.proofs.Turns.{turns-many, room-kept}
 use Rattle.class.proofs.Single.{turns-unique, start-single, words-of-start}
 use Rattle.class.proofs.Ends.{ends-written, ends-most, ends-of-starts, same-list}
@@ -21,7 +21,7 @@ use Rattle.class.proofs.Tables.{tables-left}
 
 module _ (ask : State → Asked) {starts : List State} {results : List ℕ} where
   shown : {before after : Lent} {rs : List Told} {results′ : List ℕ} → Turns ask starts before after rs → results′ ≡ result-words rs ++ drop (4 * length starts) results
-      → Shown ask starts results before results′ after
+      → ClassShown ask starts results before results′ after
   shown {before} {rs = rs} T w =
       let W = ends-written ask T in
       record {
@@ -39,7 +39,7 @@ module _ (ask : State → Asked) {starts : List State} {results : List ℕ} wher
         room = room-kept T;
       }
 
-  pub class-shown : {before after : Lent} {results′ : List ℕ} {r : ℕ} → Ran ask starts results before results′ after r → r ≡ 0 → Shown ask starts results before results′ after
+  pub class-shown : {before after : Lent} {results′ : List ℕ} {r : ℕ} → Ran ask starts results before results′ after r → r ≡ 0 → ClassShown ask starts results before results′ after
   class-shown (refused b e w s) z = absurd (omega arith)
   class-shown (ran b e T w) z = shown T w
 
@@ -53,7 +53,7 @@ class-determined ask starts results results₁ results₂ b₁ b₂ a₁ a₂ r�
 
 -- No end written has a bit at or above the fluent count.
 pub class-below : {fluents actions : ℕ} {rules goal : List ℕ} {starts : List State} {results results′ : List ℕ} {before after : Lent}
-    (S : Shown (asked fluents actions rules goal) starts results before results′ after) (D : State) → List·Memᴰ D (S .ends) → bad-state fluents D ≡ false
+    (S : ClassShown (asked fluents actions rules goal) starts results before results′ after) (D : State) → List·Memᴰ D (S .ends) → bad-state fluents D ≡ false
 unfolding bad-state
 class-below {fluents} {actions} {rules} {goal} S D m =
     let (start, among, ok, d) = S .of-starts D m in

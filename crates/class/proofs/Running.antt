@@ -8,7 +8,7 @@ use lib.ListN.{length, getD, take, drop, length-append, length-drop, drop-of-len
 use lib.Seq.{take-suc, take-all, take-at, drop-at, drop-drop}
 use borrow.Author.Tests.{lt-ltb, le-ltb}
 use borrow.Rule.Slice.PartMut.{midOf, putMid}
-use Rattle.refusals.specs.Refusals as refusals
+use Rattle.refusals.specs.Class.{class-refusals}
 use Rattle.steps.specs.State.{State}
 use Rattle.evaluator.specs.Evaluated.{Asked, Lent, Told, Evaluated}
 use Rattle.class.specs.Class.{four, places, written, result-words, handed-on, together, Turns, over, Ran, refused, ran}
@@ -113,8 +113,8 @@ module _ (ask : State → Asked) (starts : List State) (results₀ : List ℕ) (
       (d .words ∙ ap (λ (n : ℕ). result-words (d .given) ++ drop n results₀) e)
 
   -- The checks before all.
-  pub too-many : 1024 < length starts → Ran ask starts results₀ before results₀ before refusals.bad-class
+  pub too-many : 1024 < length starts → Ran ask starts results₀ before results₀ before (class-refusals .bad-class)
   too-many l = refused (rw (lt-ltb _ _ l)) refl refl refl
 
-  pub too-short : length starts ≤ 1024 → length results₀ < 4 * length starts → Ran ask starts results₀ before results₀ before refusals.bad-class
+  pub too-short : length starts ≤ 1024 → length results₀ < 4 * length starts → Ran ask starts results₀ before results₀ before (class-refusals .bad-class)
   too-short l m = refused (rw (le-ltb _ _ l) (lt-ltb _ _ m)) refl refl refl

@@ -5,7 +5,7 @@ use mathlib.Core.Bool.{Bool, true, false, cond, _||_}
 use mathlib.Core.List.{List, [], _∷_, _++_}
 use lib.ListN.{length, take, drop}
 use lib.Dec.{eqb, ltb}
-use Rattle.refusals.specs.Refusals as refusals
+use Rattle.refusals.specs.Class.{class-refusals}
 use Rattle.steps.specs.State.{State}
 use Rattle.evaluator.specs.Evaluated.{Asked, Lent, Told, lent, Evaluated}
 
@@ -52,7 +52,7 @@ bad-class starts results = ltb 1024 (length starts) || ltb (length results) (4 *
 -- last start are unchanged".
 pub data Ran (ask : State → Asked) (starts : List State)
     (results : List ℕ) (before : Lent) (results′ : List ℕ) (after : Lent) (r : ℕ) : Type 0 where
-  refused : bad-class starts results ≡ true → r ≡ refusals.bad-class → results′ ≡ results → after ≡ before
+  refused : bad-class starts results ≡ true → r ≡ class-refusals .bad-class → results′ ≡ results → after ≡ before
       → Ran ask starts results before results′ after r
   ran : {rs : List Told} → bad-class starts results ≡ false → r ≡ 0 → Turns ask starts before after rs
       → results′ ≡ result-words rs ++ drop (4 * length starts) results → Ran ask starts results before results′ after r

@@ -40,7 +40,7 @@ module _ (ask : State → Asked) where
         → last .calls ≡ left .calls → last .answers ≡ left .answers → TablesLeft starts before last
 
   -- What an unrefused class run shows.
-  pub record Shown (starts : List State) (results : List ℕ) (before : Lent) (results′ : List ℕ) (after : Lent) : Type 0 where
+  pub record ClassShown (starts : List State) (results : List ℕ) (before : Lent) (results′ : List ℕ) (after : Lent) : Type 0 where
     -- What each start was told, and its four words.
     pub given : List Told
     pub words : results′ ≡ result-words given ++ drop (4 * length starts) results

@@ -6,7 +6,7 @@ use mathlib.Core.Path.{_≡_, refl, sym, ap, ap₂, subst, _∙_}
 use mathlib.Core.List.{List, map, _++_, List·Memᴰ, List·Memᴰ·head, List·Memᴰ·tail}
 use mathlib.Core.Logic.{_≢_, inl, inr}
 use lib.ListN.{length, drop, length-append, length-drop, length-map, length-replicate}
-use Rattle.refusals.specs.Refusals as refusals
+use Rattle.refusals.specs.Run.{run-refusals}
 use Rattle.steps.specs.State.{State}
 use Rattle.steps.specs.Run.{Goal, Answer, End}
 use Rattle.steps.specs.Counting.{Exactly, Outnumbers, Rising, rows}
@@ -14,7 +14,7 @@ use Rattle.steps.proofs.Counting.{pigeonhole, exactly-long, rising-unique}
 use Rattle.steps.proofs.Rows.{rows-length, rows-many, rows-outnumber}
 use Rattle.records.specs.Records.{room, call-width, answer-width}
 use Rattle.records.specs.Full.{Full}
-use Rattle.evaluator.specs.Evaluated.{Asked, Lent, Told, told, refused-with, run-asked, Tabled, Evaluated, not-accepted, no-room, short-list, ends-listed}
+use Rattle.evaluator.specs.Evaluated.{Asked, Lent, Told, told, refused-with, run-asked, Tabled, Evaluated, not-accepted, outgrown, short-list, ends-listed}
 
 -- ---- what is told
 
@@ -41,19 +41,19 @@ module _ (q : Asked) (b₁ b₂ : Lent) (calls : length (b₁ .calls) ≡ length
   -- Two evaluations of one request in tables and lists of equal lengths tell the same, whatever the buffers held.
   pub one-result : {a₁ a₂ : Lent} {r₁ r₂ : Told} → Evaluated q b₁ a₁ r₁ → Evaluated q b₂ a₂ r₂ → r₁ ≡ r₂
   one-result (not-accepted n z s) (not-accepted n′ z′ s′) = z ∙ sym z′
-  one-result (not-accepted n z s) (no-room a f z′ s′) = absurd (n a)
+  one-result (not-accepted n z s) (outgrown a f z′ s′) = absurd (n a)
   one-result (not-accepted n z s) (short-list z′ t l s′) = absurd (n (t .accepted))
   one-result (not-accepted n z s) (ends-listed z′ t l up s′) = absurd (n (t .accepted))
-  one-result (no-room a f z s) (not-accepted n z′ s′) = absurd (n a)
-  one-result (no-room a f z s) (no-room a′ f′ z′ s′) = z ∙ sym z′
-  one-result (no-room a f z s) (short-list z′ t l s′) = absurd (t .fits (full-too f))
-  one-result (no-room a f z s) (ends-listed z′ t l up s′) = absurd (t .fits (full-too f))
+  one-result (outgrown a f z s) (not-accepted n z′ s′) = absurd (n a)
+  one-result (outgrown a f z s) (outgrown a′ f′ z′ s′) = z ∙ sym z′
+  one-result (outgrown a f z s) (short-list z′ t l s′) = absurd (t .fits (full-too f))
+  one-result (outgrown a f z s) (ends-listed z′ t l up s′) = absurd (t .fits (full-too f))
   one-result (short-list z t l s) (not-accepted n z′ s′) = absurd (n (t .accepted))
-  one-result (short-list z t l s) (no-room a′ f z′ s′) = absurd (t .fits (full-back f))
+  one-result (short-list z t l s) (outgrown a′ f z′ s′) = absurd (t .fits (full-back f))
   one-result (short-list z t l s) (short-list z′ t′ l′ s′) = same-counts q t t′ (z ∙ sym z′)
   one-result (short-list z t l s) (ends-listed z′ t′ l′ up s′) = absurd (omega (arith, same-ends q t t′))
   one-result (ends-listed z t l up s) (not-accepted n z′ s′) = absurd (n (t .accepted))
-  one-result (ends-listed z t l up s) (no-room a′ f z′ s′) = absurd (t .fits (full-back f))
+  one-result (ends-listed z t l up s) (outgrown a′ f z′ s′) = absurd (t .fits (full-back f))
   one-result (ends-listed z t l up s) (short-list z′ t′ l′ s′) = absurd (omega (arith, same-ends q t t′))
   one-result (ends-listed z t l up s) (ends-listed z′ t′ l′ up′ s′) = same-counts q t t′ (z ∙ sym z′)
 
@@ -68,7 +68,7 @@ pub data Listing (q : Asked) (before after : Lent) (r : Told) : Type 0 where
 module _ {q : Asked} {before after : Lent} {r : Told} where
   pub listing : Evaluated q before after r → Listing q before after r
   listing (not-accepted n z s) = as-it-was (λ e. n (sym (ap (λ (r : Told). r .refusal) z) ∙ e)) (ap (λ (l : Lent). l .ends) s)
-  listing (no-room a f z s) = as-it-was (λ e. omega (arith, ap (λ (r : Told). r .refusal) z)) (ap (λ (l : Lent). l .ends) s)
+  listing (outgrown a f z s) = as-it-was (λ e. omega (arith, ap (λ (r : Told). r .refusal) z)) (ap (λ (l : Lent). l .ends) s)
   listing (short-list z t l s) = as-it-was (λ e. omega (arith, z)) s
   listing (ends-listed z t l up s) = with-ends z t l up s
 
@@ -91,7 +91,7 @@ module _ {q : Asked} {before after : Lent} {r : Told} where
 
   pub tables-kept : Evaluated q before after r → (length (after .calls) ≡ length (before .calls)) × (length (after .answers) ≡ length (before .answers))
   tables-kept (not-accepted n z s) = (ap (λ (l : Lent). length (l .calls)) s, ap (λ (l : Lent). length (l .answers)) s)
-  tables-kept (no-room a f z s) = (
+  tables-kept (outgrown a f z s) = (
     ap (λ (l : Lent). length (l .calls)) s ∙ length-replicate {A = ℕ} (length (before .calls)) 0,
     ap (λ (l : Lent). length (l .answers)) s ∙ length-replicate {A = ℕ} (length (before .answers)) 0,
   )
@@ -150,6 +150,6 @@ module _ (q : Asked) {before after : Lent} {r : Told} where
   -- The counts of every evaluation are within the rooms of the tables lent: so no count is over 65,536.
   pub in-rooms : Evaluated q before after r → InRooms before r
   in-rooms (not-accepted n z s) = subst (InRooms before) (sym z) (nothing before (refused-with q))
-  in-rooms (no-room a f z s) = subst (InRooms before) (sym z) (nothing before refusals.tables-full)
+  in-rooms (outgrown a f z s) = subst (InRooms before) (sym z) (nothing before (run-refusals .tables-full))
   in-rooms (short-list z t l s) = tabled-rooms t
   in-rooms (ends-listed z t l up s) = tabled-rooms t

@@ -7,7 +7,7 @@ use mathlib.Core.Path.{_≡_, refl, sym, ap, _∙_}
 use mathlib.Core.Bool.{Bool, true, false}
 use mathlib.Core.List.{List, [], _∷_, _++_, List·Memᴰ·head}
 use lib.ListN.{length, getD, drop, replicate, length-replicate}
-use Rattle.refusals.specs.Refusals as refusals
+use Rattle.refusals.specs.Run.{run-refusals}
 use Rattle.steps.specs.Run.{Goal, End}
 use Rattle.steps.specs.Counting.{Exactly}
 use Rattle.steps.proofs.Counting.{exactly-map, exactly-long, rising-distinct}
@@ -82,8 +82,8 @@ module _ (q : Asked) (before : Lent) (ok : refused-with q ≡ 0) {calls₀ answe
       exactly = ends-exactly (q .rules) (q .goal) (q .start) acc calls n answers m (F .kept) whole row (goal-row .0) (goal-row .1)
 
       -- 31
-      pub is-short : {k : ℕ} → k ≡ length finals → length (before .ends) < k → Evaluated q before (lent calls answers (before .ends)) (told refusals.list-short k n m)
-      is-short {k} z l = short-list refl (tabled (before .ends) finals refusals.list-short k exactly (sym z)) l refl
+      pub is-short : {k : ℕ} → k ≡ length finals → length (before .ends) < k → Evaluated q before (lent calls answers (before .ends)) (told (run-refusals .list-short) k n m)
+      is-short {k} z l = short-list refl (tabled (before .ends) finals (run-refusals .list-short) k exactly (sym z)) l refl
 
       -- no refusal
       pub is-listed : {k : ℕ} {ends : List ℕ} → k ≡ length finals → k ≤ length (before .ends) → FinalsListed (answer-table answers m) row (before .ends) ends

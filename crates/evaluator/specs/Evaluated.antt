@@ -4,7 +4,7 @@ use mathlib.Core.Path.{_≡_}
 use mathlib.Core.List.{List, _++_}
 use mathlib.Core.Logic.{_≢_}
 use lib.ListN.{length, drop, replicate}
-use Rattle.refusals.specs.Refusals as refusals
+use Rattle.refusals.specs.Run.{run-refusals}
 use Rattle.steps.specs.State.{State}
 use Rattle.steps.specs.Run.{Run, End}
 use Rattle.steps.specs.Words.{run-of}
@@ -56,10 +56,10 @@ pub data Evaluated (q : Asked) (before after : Lent) (r : Told) : Type 0 where
   -- 20 to 24: the first that is met, counts 0, all buffers unchanged.
   not-accepted : refused-with q ≢ 0 → r ≡ told (refused-with q) 0 0 0 → after ≡ before → Evaluated q before after r
   -- 30: no room; counts 0, both tables wholly 0, the list unchanged.
-  no-room : refused-with q ≡ 0 → Full (run-asked q) (length (before .calls)) (length (before .answers)) → r ≡ told refusals.tables-full 0 0 0
+  outgrown : refused-with q ≡ 0 → Full (run-asked q) (length (before .calls)) (length (before .answers)) → r ≡ told (run-refusals .tables-full) 0 0 0
       → after ≡ lent (replicate (length (before .calls)) 0) (replicate (length (before .answers)) 0) (before .ends) → Evaluated q before after r
   -- 31: the list has fewer places than there are ends; finished tables and the three counts, the list unchanged.
-  short-list : r .refusal ≡ refusals.list-short → Tabled q before after r → length (before .ends) < r .ends → after .ends ≡ before .ends
+  short-list : r .refusal ≡ run-refusals .list-short → Tabled q before after r → length (before .ends) < r .ends → after .ends ≡ before .ends
       → Evaluated q before after r
   -- No refusal: finished tables, the three counts, and the ends listed in rising order, followed by what the list held.
   ends-listed : r .refusal ≡ 0 → (t : Tabled q before after r) → r .ends ≤ length (before .ends) → Rising (t .ends)

@@ -10,13 +10,13 @@ use lib.ListN.{length, getD, take, drop, length-take, length-drop}
 use lib.Seq.{getD-take, getD-drop}
 use lib.Dec.{eqb}
 use borrow.Author.Tests.{eqb-true, eq-eqb, le-ltb}
-use Rattle.refusals.specs.Refusals as refusals
+use Rattle.refusals.specs.Run.{run-refusals}
 use Rattle.steps.specs.State.{State}
 use Rattle.steps.specs.Run.{End}
 use Rattle.steps.specs.Acceptance.{good-step, bad-counts, bad-length, bad-rules, bad-goal, bad-state, words-refusal, refusal-of}
 use Rattle.steps.proofs.EachBelow.{each-all}
 use Rattle.steps.proofs.AcceptanceLaws.{AcceptedWords, accepted, words-accepted, start-accepted, accepted-below}
-use Rattle.evaluator.specs.Evaluated.{Asked, Told, refused-with, run-asked, not-accepted, no-room, short-list, ends-listed}
+use Rattle.evaluator.specs.Evaluated.{Asked, Told, refused-with, run-asked, not-accepted, outgrown, short-list, ends-listed}
 use Rattle.halves.specs.Cut.{first-half, second-half, HalvesAccepted, OnlyRoom, HalvesRefused}
 
 module _ (fluents actions : ℕ) (rules : List ℕ) where
@@ -25,7 +25,7 @@ module _ (fluents actions : ℕ) (rules : List ℕ) where
   unfolding words-refusal
   other-goal goal part e good = rw good (by (bad-counts fluents actions) (bad-length rules) (bad-rules fluents actions rules) (bad-goal fluents actions goal) e)
     where
-      by : (c l r g : Bool) → _≡_ {A = ℕ} (cond c refusals.bad-counts (cond l refusals.bad-length (cond r refusals.bad-rule (cond g refusals.bad-goal 0)))) 0 → _≡_ {A = ℕ} (cond c refusals.bad-counts (cond l refusals.bad-length (cond r refusals.bad-rule 0))) 0
+      by : (c l r g : Bool) → _≡_ {A = ℕ} (cond c (run-refusals .bad-counts) (cond l (run-refusals .bad-length) (cond r (run-refusals .bad-rule) (cond g (run-refusals .bad-goal) 0)))) 0 → _≡_ {A = ℕ} (cond c (run-refusals .bad-counts) (cond l (run-refusals .bad-length) (cond r (run-refusals .bad-rule) 0))) 0
       by true l r g e = e
       by false true r g e = e
       by false false true g e = e
@@ -84,7 +84,7 @@ halves-accepted q k e = (first q k e, second q k e)
 -- Words, goal and start that are accepted are refused with nothing but 30 or 31.
 only-room : (q : Asked) → refused-with q ≡ 0 → OnlyRoom q
 only-room q ok before after r (not-accepted n z s) = absurd (n ok)
-only-room q ok before after r (no-room a f z s) = inr (inl (ap (λ (r : Told). r .refusal) z))
+only-room q ok before after r (outgrown a f z s) = inr (inl (ap (λ (r : Told). r .refusal) z))
 only-room q ok before after r (short-list z t l s) = inr (inr z)
 only-room q ok before after r (ends-listed z t l up s) = inl z
 

@@ -4,7 +4,7 @@ use mathlib.Core.Path.{_≡_}
 use mathlib.Core.List.{List, List·Memᴰ}
 use mathlib.Core.Logic.{_↔_, _⊎_}
 use lib.ListN.{take, drop}
-use Rattle.refusals.specs.Refusals as refusals
+use Rattle.refusals.specs.Run.{run-refusals}
 use Rattle.steps.specs.State.{State}
 use Rattle.steps.specs.Run.{End}
 use Rattle.evaluator.specs.Evaluated.{Asked, Lent, Told, asked, refused-with, run-asked, Evaluated}
@@ -51,8 +51,8 @@ HalvesAccepted =
 
 -- What is evaluated here is refused with nothing but 30 or 31: for want of room.
 abbrev pub OnlyRoom : Asked → Type 0
-OnlyRoom q = (before after : Lent) (r : Told) → Evaluated q before after r → (r .refusal ≡ 0) ⊎ (r .refusal ≡ refusals.tables-full)
-    ⊎ (r .refusal ≡ refusals.list-short)
+OnlyRoom q = (before after : Lent) (r : Told) → Evaluated q before after r → (r .refusal ≡ 0) ⊎ (r .refusal ≡ run-refusals .tables-full)
+    ⊎ (r .refusal ≡ run-refusals .list-short)
 
 -- So only room can be wanting in a half of an accepted whole.
 abbrev pub HalvesRefused : Type 0

@@ -9,7 +9,8 @@ use mathlib.Core.Bool.{Bool, true, false}
 use mathlib.Core.List.{List}
 use lib.ListN.{length, getD}
 use Rattle.steps.specs.State.{State}
-use Rattle.steps.specs.Words.{step-of, is-call}
+use Rattle.steps.specs.Words.{step-of}
+use Rattle.steps.specs.Inner.{is-call}
 use Rattle.steps.specs.Elementary.{Onward, on, stuck, elementary}
 use Rattle.records.specs.Records.{Bodies}
 use Rattle.records.proofs.Growth.{Tables, Held, row-once}

@@ -13,7 +13,7 @@ use Rattle.steps.proofs.AcceptanceLaws.{AcceptedWords}
 use Rattle.steps.proofs.Deductions.{Does}
 use Rattle.steps.proofs.Tables.{Reached}
 use Rattle.steps.proofs.Rows.{table-full}
-use Rattle.steps.specs.Words.{rule-width}
+use Rattle.steps.specs.Widths.{rule-width}
 use Rattle.records.specs.Records.{Calls, Answers, Bodies, room, bodies-of, answer-table, call-width, answer-width}
 use Rattle.records.specs.Storage.{CallAt, CallPut, call-stood, call-added, call-no-room}
 use Rattle.records.proofs.Growth.{tables}

@@ -7,7 +7,7 @@ use mathlib.Core.List.{List}
 use lib.ListN.{length, getD, set, take, drop, length-drop}
 use lib.Seq.{getD-drop, getD-set-same, getD-set-other, take-all, drop-drop}
 use Rattle.steps.specs.State.{State}
-use Rattle.steps.specs.Words.{is-call}
+use Rattle.steps.specs.Inner.{is-call}
 use Rattle.records.specs.Records.{Bodies, call-table, answer-table, call-width, answer-width}
 use Rattle.records.specs.Storage.{Stored, NextAnswer}
 use Rattle.records.proofs.Growth.{Tables, tables}

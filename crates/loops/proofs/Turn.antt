@@ -9,7 +9,8 @@ use mathlib.Core.Logic.{inl, inr, ⊎-elim}
 use lib.ListN.{length, getD, set, length-set}
 use lib.Seq.{getD-set-other}
 use Rattle.steps.specs.State.{State}
-use Rattle.steps.specs.Words.{step-of, body-of, is-call}
+use Rattle.steps.specs.Words.{step-of, body-of}
+use Rattle.steps.specs.Inner.{is-call}
 use Rattle.steps.specs.Elementary.{on, stuck, elementary}
 use Rattle.steps.proofs.EachBelow.{true-not-false}
 use Rattle.steps.proofs.Deductions.{Does}

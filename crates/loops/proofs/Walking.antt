@@ -10,7 +10,8 @@ use mathlib.Core.Logic.{_⊎_, inl, inr, ⊎-elim}
 use lib.ListN.{length, getD, set}
 use lib.Seq.{getD-set-same, getD-set-other}
 use Rattle.steps.specs.State.{State}
-use Rattle.steps.specs.Words.{step-of, is-call}
+use Rattle.steps.specs.Words.{step-of}
+use Rattle.steps.specs.Inner.{is-call}
 use Rattle.steps.specs.Elementary.{Onward, on, stuck, elementary}
 use Rattle.records.specs.Storage.{CallAt}
 use Rattle.records.proofs.Growth.{Tables}

@@ -12,14 +12,15 @@ use lib.Seq.{getD-set-same, getD-set-other, take-all}
 use borrow.Author.Tests.{eqb-true}
 use Rattle.steps.specs.State.{bit, holds}
 use Rattle.steps.specs.Step.{Body}
-use Rattle.steps.specs.Words.{body-of, words-of, book-of, rule-width}
+use Rattle.steps.specs.Words.{body-of, words-of, book-of}
+use Rattle.steps.specs.Widths.{rule-width}
 use Rattle.steps.proofs.Deductions.{RuleOf}
 use Rattle.steps.proofs.Execution.{Runs, ended, runs-join}
 use Rattle.steps.proofs.StateLaws.{no-bit}
 use Rattle.steps.proofs.Tables.{walk-runs}
-use Rattle.marking.specs.Masks.{Carried, WalkTo, Lent, Grown, SoundMarks, Added, Settled, Came, Noted, Ready}
+use Rattle.marking.specs.Masks.{Carried, WalkTo, Guide, Grown, SoundMarks, Added, Settled, Came, Noted, Ready}
 use Rattle.marking.proofs.Walking.{From, or-split, bit-one, one-more}
-use Rattle.marking.proofs.Widening.{lent-kept, grown-then, added-grown, added-sound}
+use Rattle.marking.proofs.Widening.{guide-kept, grown-then, added-grown, added-sound}
 
 bit-and : (a b j : ℕ) → bit (bitAnd a b) j ≡ min (bit a j) (bit b j)
 bit-and a b j = ap (λ (n : ℕ). n % 2) (and-shr a b j ∙ and-step (a / 2 ^ j) (b / 2 ^ j)) ∙ omega arith
@@ -53,7 +54,7 @@ module _ (rules steps : List ℕ) (runs i : ℕ) where
       → Came rules steps runs i (n / 17) (n % 17 + 1) out
   came-behind {notes = notes} n out ready l h right =
       let e : 17 * (n / 17) + n % 17 ≡ n = omega arith in
-      let low : i < 64 = omega (arith, ready .place, ready .lent .within, ready .lent .few) in
+      let low : i < 64 = omega (arith, ready .place, ready .guide .within, ready .guide .few) in
       came-step (ready .sound) (n / 17) (n % 17) (getD notes n 0) out l (subst (λ (k : ℕ). Came rules steps runs i (n / 17) (n % 17) (getD notes k 0)) e (ready .noted .each (n / 17) (n % 17) (omega arith)))
       (λ j lj b. (i, low, eqb-true _ _ h, right j lj b))
 
@@ -91,7 +92,7 @@ module _ (rules steps : List ℕ) (runs i : ℕ) where
           (subst (λ (w : ℕ). bit w j ≡ 1) (ap (λ (l : List ℕ). getD l (17 * s + q) 0) put ∙ getD-set-other notes (17 * r + p) (17 * s + q) _ 0 n) e)
 
   pub ready-noted : {table notes after : List ℕ} → Ready rules steps runs i table notes → Noted rules steps runs i after → Ready rules steps runs i table after
-  ready-noted ready noted = record { lent = ready .lent; place = ready .place; walkable = ready .walkable; sound = ready .sound; noted = noted }
+  ready-noted ready noted = record { guide = ready .guide; place = ready .place; walkable = ready .walkable; sound = ready .sound; noted = noted }
 
   -- ---- what is added
 
@@ -99,13 +100,13 @@ module _ (rules steps : List ℕ) (runs i : ℕ) where
       → Added rules i r mask table after b → ((j : ℕ) → j < 64 → bit mask j ≡ 1 → Runs (Carried (body-of steps) runs) (RuleOf (book-of rules)) i (body-of (words-of rules r)) j)
       → Grown i table after × Ready rules steps runs i after notes
   ready-added r ready count added right =
-      let grown = added-grown rules steps runs i (ready .walkable) (ready .place) r count (ready .lent) added in (
+      let grown = added-grown rules steps runs i (ready .walkable) (ready .place) r count (ready .guide) added in (
         grown,
         record {
-          lent = lent-kept (ready .lent) (grown .size);
+          guide = guide-kept (ready .guide) (grown .size);
           place = ready .place;
           walkable = ready .walkable;
-          sound = added-sound rules steps runs i (ready .walkable) (ready .place) r count (ready .lent) added right (ready .sound);
+          sound = added-sound rules steps runs i (ready .walkable) (ready .place) r count (ready .guide) added right (ready .sound);
           noted = ready .noted;
         },
       )

@@ -16,7 +16,7 @@ use Rattle.steps.specs.Elementary.{Onward, on, stuck, elementary}
 use Rattle.steps.proofs.AcceptanceLaws.{goal-indexed}
 use Rattle.steps.proofs.StateLaws.{no-bit, bits-same}
 use Rattle.steps.proofs.WordLaws.{not-on}
-use Rattle.marking.specs.Marking.{left-by, Question, refusal, Yes, Marked, TableMarked, Outcome, refused, marked}
+use Rattle.marking.specs.Marking.{left-by, Question, refusal, Yes, Marked, TableMarked, RecordMarked, refused, marked}
 use Rattle.marking.specs.Masks.{Ran, Wide}
 use Rattle.marking.proofs.Marks.{marked-unique, yes-goal, evaluated-yes}
 use Rattle.marking.proofs.Outcomes.{taken-of}
@@ -37,7 +37,7 @@ tables-same q before after after′ wide wide′ t t′ = ext-getD 0 after after
 
 -- Two outcomes of one question in one table, of words of 64 bits, tell and leave the same.
 pub outcomes-same : (q : Question) (before after after′ : List ℕ) (told told′ answer answer′ : ℕ) → Wide after → Wide after′
-    → Outcome q before told answer after → Outcome q before told′ answer′ after′ → (told ≡ told′) × (answer ≡ answer′) × (after ≡ after′)
+    → RecordMarked q before told answer after → RecordMarked q before told′ answer′ after′ → (told ≡ told′) × (answer ≡ answer′) × (after ≡ after′)
 outcomes-same q before after after′ told told′ answer answer′ wide wide′ (refused ne e f g) (refused ne′ e′ f′ g′) = (e ∙ sym e′, f ∙ sym f′, g ∙ sym g′)
 outcomes-same q before after after′ told told′ answer answer′ wide wide′ (refused ne e f g) (marked z e′ l′ y′ t′) = absurd (ne z)
 outcomes-same q before after after′ told told′ answer answer′ wide wide′ (marked z e l y t) (refused ne e′ f′ g′) = absurd (ne z)
@@ -81,7 +81,7 @@ ran-of (x ∷ rest) start = by (elementary x start) refl (ran-of rest)
     by stuck e more = (0, record { within = omega arith; state = start; left = refl; stops = λ h. e })
 
 -- Where the goal is one call, the answer is a bit of the table.
-pub yes-is-bit : (q : Question) (before after : List ℕ) (answer a : ℕ) → Outcome q before 0 answer after → body-of (q .goal) ≡ call a ∷ []
+pub yes-is-bit : (q : Question) (before after : List ℕ) (answer a : ℕ) → RecordMarked q before 0 answer after → body-of (q .goal) ≡ call a ∷ []
     → answer ≡ bit (getD after (64 * a) 0) (length (q .words))
 yes-is-bit q before after answer a (refused ne e f g) goal = absurd (ne (sym e))
 yes-is-bit q before after answer a (marked z e l y t) goal =
@@ -92,7 +92,7 @@ yes-is-bit q before after answer a (marked z e l y t) goal =
     two answer (bit (getD after (64 * a) 0) (length (q .words))) l (omega arith) (λ h. to (y .0 h)) (λ h. y .1 (from h))
 
 -- Where yes, the steps leave a state, and it is an end of the goal.
-pub yes-is-end : (q : Question) (before after : List ℕ) → Outcome q before 0 1 after
+pub yes-is-end : (q : Question) (before after : List ℕ) → RecordMarked q before 0 1 after
     → (D : State) × (left-by (body-of (q .words)) (q .start) ≡ on D) × End (run-of (q .rules) (q .goal) (q .start)) D
 yes-is-end q before after (refused ne e f g) = absurd (ne (sym e))
 yes-is-end q before after (marked z e l y t) =

@@ -10,7 +10,8 @@ use lib.ListN.{getD, length, take, drop, length-append, length-drop, length-map,
 use lib.Seq.{drop-drop, take-at, take-length, take-all}
 use Rattle.steps.specs.State.{State, bit}
 use Rattle.steps.specs.Step.{Step, query, insert, delete, call, deny, Body, Rule, Book}
-use Rattle.steps.specs.Words.{is-call, step-by, step-of, body-of, book-of, run-of}
+use Rattle.steps.specs.Words.{step-by, step-of, body-of, book-of, run-of}
+use Rattle.steps.specs.Inner.{is-call}
 use Rattle.steps.specs.Run.{End}
 use Rattle.steps.specs.Acceptance.{good-step}
 use Rattle.steps.specs.Elementary.{on, stuck, elementary}

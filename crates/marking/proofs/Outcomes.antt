@@ -8,10 +8,12 @@ use mathlib.Core.Logic.{_↔_, _≢_}
 use lib.Dec.{eqb, ltb}
 use lib.ListN.{getD, length}
 use borrow.Author.Tests.{eqb-true, ltb-true, ltb-false, not-true, not-false}
-use Rattle.refusals.specs.Refusals as refusals
+use Rattle.refusals.specs.Marking.{marking-refusals}
 use Rattle.steps.specs.State.{bit}
 use Rattle.steps.specs.Step.{Body, Rule}
-use Rattle.steps.specs.Words.{is-call, body-of, head-of, words-of, rule-of, book-of, rule-width}
+use Rattle.steps.specs.Words.{body-of, head-of, words-of, book-of}
+use Rattle.steps.specs.Widths.{rule-width}
+use Rattle.steps.specs.Inner.{is-call, rule-of}
 use Rattle.steps.specs.Acceptance.{each-below, good-step, refusal-of}
 use Rattle.steps.proofs.AcceptanceLaws.{AcceptedWords, start-accepted, rule-step}
 use Rattle.steps.proofs.Deductions.{RuleOf, rule}
@@ -19,8 +21,8 @@ use Rattle.steps.proofs.EachBelow.{both, each-at, true-not-false}
 use Rattle.steps.proofs.StateLaws.{no-bit}
 use Rattle.steps.proofs.Tables.{Walk}
 use Rattle.steps.proofs.WordLaws.{book-member}
-use Rattle.marking.specs.Marking.{Question, bad-record, refusal, Yes, TableMarked, Outcome, refused, marked}
-use Rattle.marking.specs.Masks.{Ran, Carried, Held, Mask, WalkTo, GoodWord, GoodWords, Lent, Cleared, Walkable, SoundMarks, AllSettled}
+use Rattle.marking.specs.Marking.{Question, bad-recorded-steps, refusal, Yes, TableMarked, RecordMarked, refused, marked}
+use Rattle.marking.specs.Masks.{Ran, Carried, Held, Mask, WalkTo, GoodWord, GoodWords, Guide, Cleared, Walkable, SoundMarks, AllSettled}
 use Rattle.marking.proofs.Marks.{Taken, size-recorded, Saturated, marks-table, yes-bit}
 
 -- ---- what passes the tests
@@ -42,25 +44,25 @@ good-word fluents actions w f a e =
 module _ (q : Question) (room : ℕ) (e : refusal q room ≡ 0) where
   -- the refusals met here alone
   abbrev later : ℕ
-  later = cond (ltb 63 (length (q .words))) refusals.long-record (cond (ltb room 4096) refusals.marks-short (cond (bad-record (q .fluents) (q .actions) (q .words)) refusals.bad-recorded-step 0))
+  later = cond (ltb 63 (length (q .words))) (marking-refusals .long-record) (cond (ltb room 4096) (marking-refusals .marks-short) (cond (bad-recorded-steps (q .fluents) (q .actions) (q .words)) (marking-refusals .bad-recorded-step) 0))
 
   tests : (refusal-of (q .fluents) (q .actions) (q .rules) (q .goal) (q .start) ≡ 0) × (length (q .words) ≤ 63) × (4096 ≤ room)
-      × (bad-record (q .fluents) (q .actions) (q .words) ≡ false)
+      × (bad-recorded-steps (q .fluents) (q .actions) (q .words) ≡ false)
   unfolding refusal
   tests = by (eqb (refusal-of (q .fluents) (q .actions) (q .rules) (q .goal) (q .start)) 0) refl e
     where
       rest : later ≡ 0
-          → (length (q .words) ≤ 63) × (4096 ≤ room) × (bad-record (q .fluents) (q .actions) (q .words) ≡ false)
+          → (length (q .words) ≤ 63) × (4096 ≤ room) × (bad-recorded-steps (q .fluents) (q .actions) (q .words) ≡ false)
       rest f =
-          let (a, g) = passed (ltb 63 (length (q .words))) refusals.long-record _ (λ z. omega arith) f in
-          let (b, h) = passed (ltb room 4096) refusals.marks-short _ (λ z. omega arith) g in
-          let (c, _) = passed (bad-record (q .fluents) (q .actions) (q .words)) refusals.bad-recorded-step 0 (λ z. omega arith) h in
+          let (a, g) = passed (ltb 63 (length (q .words))) (marking-refusals .long-record) _ (λ z. omega arith) f in
+          let (b, h) = passed (ltb room 4096) (marking-refusals .marks-short) _ (λ z. omega arith) g in
+          let (c, _) = passed (bad-recorded-steps (q .fluents) (q .actions) (q .words)) (marking-refusals .bad-recorded-step) 0 (λ z. omega arith) h in
           (ltb-false 63 _ a, ltb-false room 4096 b, c)
 
       by : (b : Bool) → eqb (refusal-of (q .fluents) (q .actions) (q .rules) (q .goal) (q .start)) 0 ≡ b
           → cond b later (refusal-of (q .fluents) (q .actions) (q .rules) (q .goal) (q .start)) ≡ 0
           → (refusal-of (q .fluents) (q .actions) (q .rules) (q .goal) (q .start) ≡ 0) × (length (q .words) ≤ 63) × (4096 ≤ room)
-          × (bad-record (q .fluents) (q .actions) (q .words) ≡ false)
+          × (bad-recorded-steps (q .fluents) (q .actions) (q .words) ≡ false)
       by true z f = let (few, room, good) = rest f in (eqb-true _ 0 z, few, room, good)
       by false z f = absurd (true-not-false (rw f at z))
 
@@ -71,7 +73,7 @@ module _ (q : Question) (room : ℕ) (e : refusal q room ≡ 0) where
   accepted = start-accepted (q .fluents) (q .actions) (q .rules) (q .goal) (q .start) (tests .0) .0
 
   each-good : (i : ℕ) → i < length (q .words) → (is-call (getD (q .words) i 0) ≡ false) × (good-step (q .fluents) (q .actions) (getD (q .words) i 0) ≡ true)
-  unfolding bad-record
+  unfolding bad-recorded-steps
   each-good i l =
       let (a, b) = both (not (is-call (getD (q .words) i 0))) (good-step (q .fluents) (q .actions) (getD (q .words) i 0))
       (each-at (λ i. not (is-call (getD (q .words) i 0)) && good-step (q .fluents) (q .actions) (getD (q .words) i 0)) (length (q .words)) (not-false _ (tests .3)) i l) in
@@ -92,8 +94,8 @@ module _ {q : Question} {runs : ℕ} (taken : Taken q runs) where
   pub goal-good : GoodWords (q .goal)
   goal-good i l = good-word (q .fluents) (q .actions) _ (taken .accepted .few-fluents) (taken .accepted .few-actions) (taken .accepted .goal-steps i l)
 
-  pub lent-of : (table : List ℕ) → 4096 ≤ length table → Lent (q .words) runs table
-  lent-of table room = record {
+  pub guide-of : (table : List ℕ) → 4096 ≤ length table → Guide (q .words) runs table
+  guide-of table room = record {
     within = omega (arith, taken .ran .within, size-recorded q);
     few = taken .few;
     plain = taken .plain;
@@ -121,12 +123,12 @@ cleared-sound rules steps runs {table = table} cleared = record {
 
 -- ---- the outcome
 
-pub refused-outcome : (q : Question) (before : List ℕ) (told : ℕ) → told ≡ refusal q (length before) → told ≢ 0 → Outcome q before told 0 before
+pub refused-outcome : (q : Question) (before : List ℕ) (told : ℕ) → told ≡ refusal q (length before) → told ≢ 0 → RecordMarked q before told 0 before
 refused-outcome q before told e ne = refused (λ z. ne (e ∙ z)) e refl refl
 
 module _ (q : Question) (before cleared after : List ℕ) (e : refusal q (length before) ≡ 0) (runs : ℕ) (ran : Ran (body-of (q .words)) (q .start) runs) where
   pub marked-outcome : Cleared before cleared → AllSettled (q .rules) (q .words) runs 0 cleared after → (ends : ℕ)
-      → Mask ends (WalkTo (q .words) runs after 0 (q .goal)) → Outcome q before 0 (bit ends (length (q .words))) after
+      → Mask ends (WalkTo (q .words) runs after 0 (q .goal)) → RecordMarked q before 0 (bit ends (length (q .words))) after
   marked-outcome clear all ends mask = marked e refl (omega arith) yes (marks-table q runs taken saturated before (all .size ∙ clear .size) (λ n l. all .past n l ∙ clear .past n l))
     where
       taken : Taken q runs

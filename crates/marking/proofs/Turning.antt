@@ -13,13 +13,14 @@ use borrow.Author.Count.{below-more}
 use borrow.Author.Tests.{eq-eqb, ne-eqb}
 use Rattle.steps.specs.State.{bit}
 use Rattle.steps.specs.Step.{Body}
-use Rattle.steps.specs.Words.{body-of, head-of, words-of, rule-width}
+use Rattle.steps.specs.Words.{body-of, head-of, words-of}
+use Rattle.steps.specs.Widths.{rule-width}
 use Rattle.steps.proofs.StateLaws.{no-bit}
 use Rattle.steps.proofs.Tables.{Walk, stands, walks, takes}
-use Rattle.marking.specs.Masks.{Carried, carries, Held, WalkTo, Lent, Wide, total, Grown, Walkable, NoCall, SoundMarks, ClosedRule, Fresh, Widened, Turned, Passed, Settled, AllSettled}
+use Rattle.marking.specs.Masks.{Carried, carries, Held, WalkTo, Guide, Wide, total, Grown, Walkable, NoCall, SoundMarks, ClosedRule, Fresh, Widened, Turned, Passed, Settled, AllSettled}
 use Rattle.marking.proofs.Places.{runs-up}
 use Rattle.marking.proofs.Walking.{bit-or, or-right, one-bit}
-use Rattle.marking.proofs.Widening.{total-most, grown-none, grown-then, lent-kept, no-call-left, added-back, added-kept, added-grown, added-same, added-more, widened-found, widened-sound}
+use Rattle.marking.proofs.Widening.{total-most, grown-none, grown-then, guide-kept, no-call-left, added-back, added-kept, added-grown, added-same, added-more, widened-found, widened-sound}
 
 module _ (rules steps : List ℕ) (runs i : ℕ) (walkable : Walkable rules) (place : i ≤ runs) where
   -- ---- the turns of a pass
@@ -44,12 +45,12 @@ module _ (rules steps : List ℕ) (runs i : ℕ) (walkable : Walkable rules) (pl
       gains = t .gains;
     }
 
-    module _ {after : List ℕ} {b : Bool} (lent : Lent steps runs table) (w : Widened rules steps runs i r table after b) where
+    module _ {after : List ℕ} {b : Bool} (guide : Guide steps runs table) (w : Widened rules steps runs i r table after b) where
       -- a rule walked to no gain
       pub turned-same : b ≡ false → Turned rules steps runs i gained (r + 1) before after more
       turned-same e =
-          let z : after ≡ table = added-same rules steps runs i walkable place r count lent (w .added) e in
-          let found : (j : ℕ) → WalkTo steps runs table i (words-of rules r) j → Held after (head-of rules r) i j = widened-found rules steps runs i walkable place r count lent w in
+          let z : after ≡ table = added-same rules steps runs i walkable place r count guide (w .added) e in
+          let found : (j : ℕ) → WalkTo steps runs table i (words-of rules r) j → Held after (head-of rules r) i j = widened-found rules steps runs i walkable place r count guide w in
           subst (λ (l : List ℕ). Turned rules steps runs i gained (r + 1) before l more) (sym z) (record {
             grown = t .grown;
             sound = t .sound;
@@ -62,17 +63,17 @@ module _ (rules steps : List ℕ) (runs i : ℕ) (walkable : Walkable rules) (pl
       pub turned-more : b ≡ true → Turned rules steps runs i gained (r + 1) before after (bitOr more (2 ^ head-of rules r))
       turned-more e = record {
         grown = grown-then (t .grown) grown;
-        sound = λ s. widened-sound rules steps runs i walkable place r count lent w (t .sound s);
+        sound = λ s. widened-sound rules steps runs i walkable place r count guide w (t .sound s);
         early = below-more _ r (λ k l none. kept (bitOr more (2 ^ head-of rules r)) k one none (t .early k l (no-call-left more (2 ^ head-of rules r) (words-of rules k) none))) this;
         late = λ ne k l h none. kept (bitOr gained (bitOr more (2 ^ head-of rules r))) k (or-right gained (bitOr more (2 ^ head-of rules r)) (head-of rules r) one) none (t .late ne k (omega arith) h (fewer k none));
-        gains = λ ne. omega (arith, t .grown .up, added-more rules steps runs i walkable place r count lent (w .added) e);
+        gains = λ ne. omega (arith, t .grown .up, added-more rules steps runs i walkable place r count guide (w .added) e);
       }
         where
           grown : Grown i table after
-          grown = added-grown rules steps runs i walkable place r count lent (w .added)
+          grown = added-grown rules steps runs i walkable place r count guide (w .added)
 
           kept : (m k : ℕ) → bit m (head-of rules r) ≡ 1 → NoCall m (words-of rules k) → ClosedRule rules steps runs i table k → ClosedRule rules steps runs i after k
-          kept = added-kept rules steps runs i walkable place r count lent (w .added)
+          kept = added-kept rules steps runs i walkable place r count guide (w .added)
 
           one : bit (bitOr more (2 ^ head-of rules r)) (head-of rules r) ≡ 1
           one = or-right more (2 ^ head-of rules r) (head-of rules r) (one-bit (head-of rules r))
@@ -82,7 +83,7 @@ module _ (rules steps : List ℕ) (runs i : ℕ) (walkable : Walkable rules) (pl
 
           this : NoCall (bitOr more (2 ^ head-of rules r)) (words-of rules r) → ClosedRule rules steps runs i after r
           this none j walk =
-              widened-found rules steps runs i walkable place r count lent w j (added-back rules steps runs i walkable place r count lent (w .added) (bitOr more (2 ^ head-of rules r)) r one none j walk)
+              widened-found rules steps runs i walkable place r count guide w j (added-back rules steps runs i walkable place r count guide (w .added) (bitOr more (2 ^ head-of rules r)) r one none j walk)
 
   pub turned-all : {gained r more : ℕ} {before table : List ℕ} → length rules / rule-width ≤ r → Turned rules steps runs i gained r before table more → Passed rules steps runs i before table more
   turned-all {r = r} l t = record { grown = t .grown; sound = t .sound; fresh = λ k h. t .early k (omega arith); gains = t .gains }

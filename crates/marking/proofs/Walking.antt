@@ -13,12 +13,13 @@ use lib.Count.{trailingZeros, under}
 use lib.Seq.{take-suc, take-all}
 use Rattle.steps.specs.State.{bit}
 use Rattle.steps.specs.Step.{Step, query, insert, delete, call, deny, Body}
-use Rattle.steps.specs.Words.{is-call, step-by, step-of, body-of}
+use Rattle.steps.specs.Words.{step-by, step-of, body-of}
+use Rattle.steps.specs.Inner.{is-call}
 use Rattle.steps.proofs.EachBelow.{true-not-false}
 use Rattle.steps.proofs.StateLaws.{no-bit, bit-zero, bit-suc, set-same, set-other, clear-same, clear-other}
 use Rattle.steps.proofs.Tables.{Walk, stands, walks, takes}
 use Rattle.steps.proofs.WordLaws.{call-word, word-call}
-use Rattle.marking.specs.Masks.{Carried, carries, Held, Mask, WalkTo, GoodWord, Lent}
+use Rattle.marking.specs.Masks.{Carried, carries, Held, Mask, WalkTo, GoodWord, Guide}
 use Rattle.marking.proofs.Places.{step-at-word}
 
 -- ---- bits
@@ -90,14 +91,14 @@ one-walk : {Does : Step → ℕ → ℕ → Type 0} {A : ℕ → ℕ → ℕ →
 one-walk (walks h stands) = inl h
 one-walk (takes {b = b} h stands) = inr (b, refl, h)
 
-module _ (steps : List ℕ) (runs : ℕ) (table : List ℕ) (lent : Lent steps runs table) (w p : ℕ) (good : GoodWord w) where
+module _ (steps : List ℕ) (runs : ℕ) (table : List ℕ) (guide : Guide steps runs table) (w p : ℕ) (good : GoodWord w) where
   carried-word : {j : ℕ} → Carried (body-of steps) runs (step-of w) p j → (p < runs) × (w ≡ getD steps p 0) × (j ≡ suc p)
   carried-word h = by refl refl refl h
     where
       by : {x : Step} {i j k : ℕ} → x ≡ step-of w → i ≡ p → k ≡ j → Carried (body-of steps) runs x i k → (p < runs) × (w ≡ getD steps p 0) × (j ≡ suc p)
       by {j = j} z y v (carries {x = x} {p = i} l e) =
           let f : getD (body-of steps) p (query 0) ≡ x = subst (λ (i : ℕ). getD (body-of steps) i (query 0) ≡ x) y e in
-          (omega arith, step-same w (getD steps p 0) good (lent .good p (omega (arith, lent .within))) (sym z ∙ sym f ∙ step-at-word steps p), omega arith)
+          (omega arith, step-same w (getD steps p 0) good (guide .good p (omega (arith, guide .within))) (sym z ∙ sym f ∙ step-at-word steps p), omega arith)
 
   pub reach-call : is-call w ≡ true → p < 64 → Mask (getD table (64 * (w % 256) + p) 0) (WalkTo steps runs table p (w ∷ []))
   reach-call c lp = record { only = to; every = from }
@@ -109,7 +110,7 @@ module _ (steps : List ℕ) (runs : ℕ) (table : List ℕ) (lent : Lent steps r
       no : (j : ℕ) → Carried (body-of steps) runs (step-of w) p j → ⊥
       no j h =
           let (l, e, z) = carried-word h in
-          true-not-false (sym c ∙ ap is-call e ∙ lent .plain p (omega (arith, lent .within)))
+          true-not-false (sym c ∙ ap is-call e ∙ guide .plain p (omega (arith, guide .within)))
 
       held : (j b : ℕ) → call b ≡ step-of w → Held table b p j → bit (getD table (64 * (w % 256) + p) 0) j ≡ 1
       held j b e h = subst (λ (a : ℕ). bit (getD table (64 * a + p) 0) j ≡ 1) (word-call w b e .1) (h .3)
@@ -201,11 +202,11 @@ module _ {Does : Step → ℕ → ℕ → Type 0} {A : ℕ → ℕ → ℕ → T
   walk-split (x ∷ xs) (walks h w) = let (p, a, b) = walk-split xs w in (p, walks h a, b)
   walk-split (x ∷ xs) (takes h w) = let (p, a, b) = walk-split xs w in (p, takes h a, b)
 
-module _ (steps : List ℕ) (runs : ℕ) (table : List ℕ) (lent : Lent steps runs table) where
+module _ (steps : List ℕ) (runs : ℕ) (table : List ℕ) (guide : Guide steps runs table) where
   -- every place that is come to is below 64
   pub walk-below : {i j : ℕ} {xs left : Body} → Walk (Carried (body-of steps) runs) (Held table) i xs j left → i < 64 → j < 64
   walk-below stands l = l
-  walk-below (walks (carries h e) w) l = walk-below w (omega (arith, lent .within, lent .few))
+  walk-below (walks (carries h e) w) l = walk-below w (omega (arith, guide .within, guide .few))
   walk-below (takes h w) l = walk-below w (h .2)
 
   pub walk-none : (i : ℕ) → Mask (2 ^ i) (WalkTo steps runs table i [])

@@ -14,13 +14,15 @@ use lib.Seq.{getD-set-same, getD-set-other, set-getD}
 use borrow.Author.Tests.{eqb-true, eqb-false, not-true, not-false}
 use Rattle.steps.specs.State.{bit}
 use Rattle.steps.specs.Step.{Step, call, Body}
-use Rattle.steps.specs.Words.{is-call, step-of, body-of, head-of, words-of, rule-of, book-of, rule-width}
+use Rattle.steps.specs.Words.{step-of, body-of, head-of, words-of, book-of}
+use Rattle.steps.specs.Widths.{rule-width}
+use Rattle.steps.specs.Inner.{is-call, rule-of}
 use Rattle.steps.proofs.Deductions.{RuleOf, rule}
 use Rattle.steps.proofs.Execution.{Runs, Ends}
 use Rattle.steps.proofs.Tables.{Walk, stands, walks, takes, walk-runs}
 use Rattle.steps.proofs.Lists.{member-at}
 use Rattle.steps.proofs.WordLaws.{word-call, rule-member}
-use Rattle.marking.specs.Masks.{Carried, carries, Held, Mask, WalkTo, Lent, Wide, total, Cleared, Grown, Walkable, NoCall, word-at, SoundMarks, ClosedRule, Fresh, Added, Widened, Turned, Passed, Settled, AllSettled}
+use Rattle.marking.specs.Masks.{Carried, carries, Held, Mask, WalkTo, Guide, Wide, total, Cleared, Grown, Walkable, NoCall, word-at, SoundMarks, ClosedRule, Fresh, Added, Widened, Turned, Passed, Settled, AllSettled}
 use Rattle.marking.proofs.Places.{runs-up}
 use Rattle.marking.proofs.Walking.{bit-or, or-split, or-left, or-right, one-bit, walk-below}
 
@@ -54,9 +56,9 @@ grown-then g h = record {
   up = omega (arith, g .up, h .up);
 }
 
-pub lent-kept : {steps : List ℕ} {runs : ℕ} {before after : List ℕ} → Lent steps runs before → length after ≡ length before → Lent steps runs after
-lent-kept lent e =
-    record { within = lent .within; few = lent .few; plain = lent .plain; good = lent .good; room = omega (arith, lent .room, e) }
+pub guide-kept : {steps : List ℕ} {runs : ℕ} {before after : List ℕ} → Guide steps runs before → length after ≡ length before → Guide steps runs after
+guide-kept guide e =
+    record { within = guide .within; few = guide .few; plain = guide .plain; good = guide .good; room = omega (arith, guide .room, e) }
 
 -- a walk over another table that holds as much for the calls of the body
 walk-calls : {X : Type 0} {Does : Step → X → X → Type 0} {A B : ℕ → X → X → Type 0} {D D′ : X} {xs left : Body}
@@ -79,10 +81,10 @@ no-call-words m words none b h =
 
 module _ (rules steps : List ℕ) (runs i : ℕ) (walkable : Walkable rules) (place : i ≤ runs) where
   -- ---- places added to the word of a rule's head
-  module _ (r : ℕ) (count : r < length rules / rule-width) {mask : ℕ} {before after : List ℕ} {gained : Bool} (lent : Lent steps runs before)
+  module _ (r : ℕ) (count : r < length rules / rule-width) {mask : ℕ} {before after : List ℕ} {gained : Bool} (guide : Guide steps runs before)
       (added : Added rules i r mask before after gained) where
     low : (head-of rules r < 64) × (i < 64) × (word-at rules i r < length before)
-    low = let h = walkable .heads r count in (h, omega (arith, lent .within, lent .few), omega (arith, lent .within, lent .few, lent .room))
+    low = let h = walkable .heads r count in (h, omega (arith, guide .within, guide .few), omega (arith, guide .within, guide .few, guide .room))
 
     here : getD after (word-at rules i r) 0 ≡ bitOr (getD before (word-at rules i r) 0) mask
     here = ap (λ (l : List ℕ). getD l (word-at rules i r) 0) (added .put) ∙ getD-set-same before (word-at rules i r) _ 0 (low .2)
@@ -161,16 +163,16 @@ module _ (rules steps : List ℕ) (runs i : ℕ) (walkable : Walkable rules) (pl
         omega (arith, ap total (added .put), total-set before (word-at rules i r) (bitOr (getD before (word-at rules i r) 0) mask) (low .2) (omega (arith, or-up (getD before (word-at rules i r) 0) mask, ne)))
 
   -- ---- the walk of one rule
-  module _ (r : ℕ) (count : r < length rules / rule-width) {before after : List ℕ} {gained : Bool} (lent : Lent steps runs before)
+  module _ (r : ℕ) (count : r < length rules / rule-width) {before after : List ℕ} {gained : Bool} (guide : Guide steps runs before)
       (wide : Widened rules steps runs i r before after gained) where
     -- where the rule comes to is held then
     pub widened-found : (j : ℕ) → WalkTo steps runs before i (words-of rules r) j → Held after (head-of rules r) i j
     widened-found j w =
-        let (lh, li, la) = low r count lent (wide .added) in
-        let lj : j < 64 = walk-below steps runs before lent w li in
-        (lh, li, lj, subst (λ (w : ℕ). bit w j ≡ 1) (sym (here r count lent (wide .added))) (or-right (getD before (word-at rules i r) 0) (wide .mask) j (wide .walked .every j lj w)))
+        let (lh, li, la) = low r count guide (wide .added) in
+        let lj : j < 64 = walk-below steps runs before guide w li in
+        (lh, li, lj, subst (λ (w : ℕ). bit w j ≡ 1) (sym (here r count guide (wide .added))) (or-right (getD before (word-at rules i r) 0) (wide .mask) j (wide .walked .every j lj w)))
 
     pub widened-sound : SoundMarks rules steps runs before → SoundMarks rules steps runs after
     widened-sound sound =
-        added-sound r count lent (wide .added)
+        added-sound r count guide (wide .added)
         (λ j lj b. walk-runs (Carried (body-of steps) runs) (RuleOf (book-of rules)) (λ a p. p ≤ runs) (λ b p q h. sound .each b p q h .1) (wide .walked .only j lj b)) sound

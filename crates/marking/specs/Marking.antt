@@ -6,11 +6,12 @@ use mathlib.Core.List.{List, [], _∷_, _++_}
 use mathlib.Core.Logic.{_↔_, _≢_}
 use lib.ListN.{getD, length, take, drop}
 use lib.Dec.{eqb, ltb}
-use Rattle.refusals.specs.Refusals as refusals
+use Rattle.refusals.specs.Marking.{marking-refusals}
 use Rattle.steps.specs.State.{State, bit}
 use Rattle.steps.specs.Step.{Step, query, insert, delete, call, deny, Body, Book}
 use Rattle.steps.specs.Deduction.{Sequent, Move, queries, inserts, deletes, calls, denies, Deduction, done, move, Final}
-use Rattle.steps.specs.Words.{is-call, body-of, book-of}
+use Rattle.steps.specs.Words.{body-of, book-of}
+use Rattle.steps.specs.Inner.{is-call}
 use Rattle.steps.specs.Acceptance.{each-below, good-step, refusal-of}
 use Rattle.steps.specs.Elementary.{Onward, on, stuck, elementary}
 
@@ -57,17 +58,17 @@ question fluents actions rules goal start words =
     record { fluents = fluents; actions = actions; rules = rules; goal = goal; start = start; words = words }
 
 -- 62: a step that is a call or bad
-unfoldable pub bad-record : ℕ → ℕ → List ℕ → Bool
-bad-record fluents actions words =
+unfoldable pub bad-recorded-steps : ℕ → ℕ → List ℕ → Bool
+bad-recorded-steps fluents actions words =
     not (each-below (length words) (λ i. not (is-call (getD words i 0)) && good-step fluents actions (getD words i 0)))
 
 -- The first that is met of 20 to 24, then of 60 (over 63 steps), 61 (table under 4,096 words) and 62; 0 if none is.
 unfoldable pub refusal : Question → (room : ℕ) → ℕ
 refusal q room =
     cond (eqb (refusal-of (q .fluents) (q .actions) (q .rules) (q .goal) (q .start)) 0)
-    (cond (ltb 63 (length (q .words))) refusals.long-record
-    (cond (ltb room 4096) refusals.marks-short
-    (cond (bad-record (q .fluents) (q .actions) (q .words)) refusals.bad-recorded-step
+    (cond (ltb 63 (length (q .words))) (marking-refusals .long-record)
+    (cond (ltb room 4096) (marking-refusals .marks-short)
+    (cond (bad-recorded-steps (q .fluents) (q .actions) (q .words)) (marking-refusals .bad-recorded-step)
     0)))
     (refusal-of (q .fluents) (q .actions) (q .rules) (q .goal) (q .start))
 
@@ -94,6 +95,6 @@ pub record TableMarked (q : Question) (before after : List ℕ) : Type 0 where
   pub past : (n : ℕ) → 4096 ≤ n → getD after n 0 ≡ getD before n 0
 
 -- What `mark` tells (its refusal, and 1 for a yes, else 0) and leaves in the table.
-pub data Outcome (q : Question) (before : List ℕ) (told yes : ℕ) (after : List ℕ) : Type 0 where
-  refused : refusal q (length before) ≢ 0 → told ≡ refusal q (length before) → yes ≡ 0 → after ≡ before → Outcome q before told yes after
-  marked : refusal q (length before) ≡ 0 → told ≡ 0 → yes ≤ 1 → (yes ≡ 1) ↔ Yes q → TableMarked q before after → Outcome q before told yes after
+pub data RecordMarked (q : Question) (before : List ℕ) (told yes : ℕ) (after : List ℕ) : Type 0 where
+  refused : refusal q (length before) ≢ 0 → told ≡ refusal q (length before) → yes ≡ 0 → after ≡ before → RecordMarked q before told yes after
+  marked : refusal q (length before) ≡ 0 → told ≡ 0 → yes ≤ 1 → (yes ≡ 1) ↔ Yes q → TableMarked q before after → RecordMarked q before told yes after

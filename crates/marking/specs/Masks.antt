@@ -10,7 +10,9 @@ use lib.Dec.{eqb}
 use lib.ListN.{getD, length, take, set}
 use Rattle.steps.specs.State.{State, bit}
 use Rattle.steps.specs.Step.{Step, query, call}
-use Rattle.steps.specs.Words.{is-call, body-of, head-of, count-of, words-of, book-of, rule-width}
+use Rattle.steps.specs.Words.{body-of, head-of, count-of, words-of, book-of}
+use Rattle.steps.specs.Widths.{rule-width}
+use Rattle.steps.specs.Inner.{is-call}
 use Rattle.steps.specs.Elementary.{on, stuck, elementary}
 use Rattle.steps.proofs.Deductions.{RuleOf}
 use Rattle.steps.proofs.Execution.{Runs, Ends}
@@ -49,7 +51,7 @@ abbrev pub GoodWords : List ℕ → Type 0
 GoodWords words = (i : ℕ) → i < length words → GoodWord (getD words i 0)
 
 -- What the walks go by: a short record of elementary steps of which `runs` can run, and a table of 64 words for each of 64 actions.
-pub record Lent (steps : List ℕ) (runs : ℕ) (table : List ℕ) : Type 0 where
+pub record Guide (steps : List ℕ) (runs : ℕ) (table : List ℕ) : Type 0 where
   pub within : runs ≤ length steps
   pub few : length steps ≤ 63
   pub plain : (i : ℕ) → i < length steps → is-call (getD steps i 0) ≡ false
@@ -155,7 +157,7 @@ module _ (rules steps : List ℕ) (runs : ℕ) where
 
     -- What gains are followed by at the place: nothing wrong is in the table or the notes.
     pub record Ready (table notes : List ℕ) : Type 0 where
-      pub lent : Lent steps runs table
+      pub guide : Guide steps runs table
       pub place : i ≤ runs
       pub walkable : Walkable rules
       pub sound : SoundMarks table

@@ -9,8 +9,9 @@ ghost use mathlib.Core.Path.{_≡_};
 ghost use lib.Bits.{bitOr};
 ghost use lib.ListN.{getD, length, set};
 ghost use Rattle.steps.specs.State.{bit};
-ghost use Rattle.steps.specs.Words.{head-of, rule-width};
-ghost use Rattle.marking.specs.Masks.{GoodWord, Walkable, SoundMarks, Added, Grown, Lent, Came, Ready};
+ghost use Rattle.steps.specs.Words.{head-of};
+ghost use Rattle.steps.specs.Widths.{rule-width};
+ghost use Rattle.marking.specs.Masks.{GoodWord, Walkable, SoundMarks, Added, Grown, Guide, Came, Ready};
 
 // ---- the calls of each action: word 65 + n of `calls` has the number of the n-th, those of an action together, from word `action` up to the next
 // word. Step p of rule r has the number 17 r + p.
@@ -273,7 +274,7 @@ pub(crate) fn gain(
     recorded: &[u16],
     table: &mut [u64],
 )
-    requires { ⌜ Lent (now recorded) runs (now table) × (place ≤ runs) × Walkable (now rules) × (length (now calls) ≡ 4161)
+    requires { ⌜ Guide (now recorded) runs (now table) × (place ≤ runs) × Walkable (now rules) × (length (now calls) ≡ 4161)
         × SoundMarks (now rules) (now recorded) runs (now table) ⌝ }
     ensures { λ _. ⌜ Grown place (now (table .entry)) (now (table .exit))
         × SoundMarks (now (rules .entry)) (now (recorded .entry)) runs (now (table .exit)) ⌝ }

@@ -8,7 +8,7 @@ ghost use Prim.Native.Nat.{_≤_};
 ghost use mathlib.Core.Path.{_≡_};
 ghost use lib.ListN.{length};
 ghost use Rattle.steps.specs.Words.{body-of};
-ghost use Rattle.marking.specs.Marking.{question, bad-record, refusal, Outcome};
+ghost use Rattle.marking.specs.Marking.{question, bad-recorded-steps, refusal, RecordMarked};
 ghost use Rattle.marking.specs.Masks.{Ran, Cleared};
 
 mod gains;
@@ -33,7 +33,7 @@ pub fn mark(
     recorded: &[u16],
     table: &mut [u64],
 ) -> Marked
-    ensures { λ r. ⌜ Outcome (question fluents actions (now (rules .entry)) (now (goal .entry)) start (now (recorded .entry)))
+    ensures { λ r. ⌜ RecordMarked (question fluents actions (now (rules .entry)) (now (goal .entry)) start (now (recorded .entry)))
         (now (table .entry)) (r .refusal) (r .yes) (now (table .exit)) ⌝ }
 {
     let refusal = record_refusal(fluents, actions, rules, goal, start, recorded, table.len());
@@ -83,7 +83,7 @@ fn record_refusal(
 
 // Whether a recorded step is a call or bad: 62.
 fn bad_record(fluents: u64, actions: u64, recorded: &[u16]) -> bool
-    ensures { λ b. ⌜ b ≡ bad-record fluents actions (now (recorded .entry)) ⌝ }
+    ensures { λ b. ⌜ b ≡ bad-recorded-steps fluents actions (now (recorded .entry)) ⌝ }
 {
     let mut i = 0;
     while i < recorded.len() {

@@ -6,7 +6,7 @@ ghost use mathlib.Core.Path.{_≡_};
 ghost use mathlib.Core.List.{[], _∷_};
 ghost use lib.ListN.{length};
 ghost use Rattle.steps.specs.State.{bit, holds};
-ghost use Rattle.marking.specs.Masks.{Mask, WalkTo, Lent, GoodWord, GoodWords};
+ghost use Rattle.marking.specs.Masks.{Mask, WalkTo, Guide, GoodWord, GoodWords};
 
 // Whether place p is in a mask.
 pub(crate) fn has(mask: u64, p: usize) -> bool
@@ -26,7 +26,7 @@ pub(crate) fn lowest(mask: u64) -> usize
 
 // The places to which one step comes from place p.
 pub(crate) fn reach(step: u16, p: usize, runs: usize, recorded: &[u16], table: &[u64]) -> u64
-    requires { ⌜ Lent (now recorded) runs (now table) × (p < 64) × GoodWord step ⌝ }
+    requires { ⌜ Guide (now recorded) runs (now table) × (p < 64) × GoodWord step ⌝ }
     ensures { λ r. ⌜ Mask r (WalkTo (now (recorded .entry)) runs (now (table .entry)) p (step ∷ [])) ⌝ }
 {
     if word::is_call(step) {
@@ -44,7 +44,7 @@ pub(crate) fn reach(step: u16, p: usize, runs: usize, recorded: &[u16], table: &
 
 // The places to which one step comes from the places of a mask.
 pub(crate) fn spread(mask: u64, step: u16, runs: usize, recorded: &[u16], table: &[u64]) -> u64
-    requires { ⌜ Lent (now recorded) runs (now table) × GoodWord step ⌝ }
+    requires { ⌜ Guide (now recorded) runs (now table) × GoodWord step ⌝ }
     ensures { λ r. ⌜ Mask r (λ j. (p : ℕ) × (p < 64) × (bit mask p ≡ 1)
         × WalkTo (now (recorded .entry)) runs (now (table .entry)) p (step ∷ []) j) ⌝ }
 {
@@ -66,7 +66,7 @@ pub(crate) fn walk_mask(
     recorded: &[u16],
     table: &[u64],
 ) -> u64
-    requires { ⌜ Lent (now recorded) runs (now table) × (place < 64) × GoodWords (now body) ⌝ }
+    requires { ⌜ Guide (now recorded) runs (now table) × (place < 64) × GoodWords (now body) ⌝ }
     ensures { λ r. ⌜ Mask r (WalkTo (now (recorded .entry)) runs (now (table .entry)) place (now (body .entry))) ⌝ }
 {
     let mut mask: u64 = 1 << place;

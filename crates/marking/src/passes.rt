@@ -12,8 +12,10 @@ ghost use mathlib.Core.Logic.{_≢_};
 ghost use lib.Bits.{bitOr};
 ghost use lib.ListN.{length};
 ghost use Rattle.steps.specs.State.{bit};
-ghost use Rattle.steps.specs.Words.{is-call, rule-width};
-ghost use Rattle.marking.specs.Masks.{Lent, GoodWord, GoodWords, Walkable, NoCall, SoundMarks, Widened, Turned, Fresh, Passed, Settled, AllSettled};
+ghost use Rattle.steps.specs.Widths.{rule-width};
+ghost use Rattle.steps.specs.Inner.{is-call};
+ghost use Rattle.marking.specs.Masks.{Guide, GoodWord, GoodWords, Walkable, NoCall};
+ghost use Rattle.marking.specs.Masks.{SoundMarks, Widened, Turned, Fresh, Passed, Settled, AllSettled};
 
 // Whether a step calls one of these actions.
 fn calls(step: u16, actions: u64) -> bool
@@ -53,7 +55,7 @@ fn widen(
     recorded: &[u16],
     table: &mut [u64],
 ) -> bool
-    requires { ⌜ Lent (now recorded) runs (now table) × (place ≤ runs) × (r < length (now rules) / rule-width) × Walkable (now rules) ⌝ }
+    requires { ⌜ Guide (now recorded) runs (now table) × (place ≤ runs) × (r < length (now rules) / rule-width) × Walkable (now rules) ⌝ }
     ensures { λ b. ⌜ Widened (now (rules .entry)) (now (recorded .entry)) runs place r (now (table .entry)) (now (table .exit)) b ⌝ }
 {
     let mask = masks::walk_mask(bodies::rule_steps(rules, r), place, runs, recorded, table);
@@ -72,7 +74,7 @@ fn turn(
     gained: u64,
     more: u64,
 ) -> u64
-    requires { ⌜ Lent (now recorded) runs (now table) × (place ≤ runs) × (r < length (now rules) / rule-width) × Walkable (now rules) ⌝ }
+    requires { ⌜ Guide (now recorded) runs (now table) × (place ≤ runs) × (r < length (now rules) / rule-width) × Walkable (now rules) ⌝ }
     ensures { λ m. ⌜ ((before : List ℕ) → Turned (now (rules .entry)) (now (recorded .entry)) runs place gained r before (now (table .entry)) more
         → Turned (now (rules .entry)) (now (recorded .entry)) runs place gained (r + 1) before (now (table .exit)) m) ⌝ }
 {
@@ -93,7 +95,7 @@ fn pass(
     table: &mut [u64],
     gained: u64,
 ) -> u64
-    requires { ⌜ Lent (now recorded) runs (now table) × (place ≤ runs) × Walkable (now rules)
+    requires { ⌜ Guide (now recorded) runs (now table) × (place ≤ runs) × Walkable (now rules)
         × (gained ≢ 0 → Fresh (now rules) (now recorded) runs place gained (now table)) ⌝ }
     ensures { λ m. ⌜ Passed (now (rules .entry)) (now (recorded .entry)) runs place (now (table .entry)) (now (table .exit)) m ⌝ }
 {
@@ -109,7 +111,7 @@ fn pass(
 
 // Passes at a place until one adds nothing.
 fn settle(rules: &[u16], place: usize, runs: usize, recorded: &[u16], table: &mut [u64])
-    requires { ⌜ Lent (now recorded) runs (now table) × (place ≤ runs) × Walkable (now rules) ⌝ }
+    requires { ⌜ Guide (now recorded) runs (now table) × (place ≤ runs) × Walkable (now rules) ⌝ }
     ensures { λ _. ⌜ Settled (now (rules .entry)) (now (recorded .entry)) runs place (now (table .entry)) (now (table .exit)) ⌝ }
 {
     let mut gained = pass(rules, place, runs, recorded, table, 0);
@@ -120,7 +122,7 @@ fn settle(rules: &[u16], place: usize, runs: usize, recorded: &[u16], table: &mu
 
 // Settles every place up to `runs`, the last first. Gains are followed before the passes, which then have nothing to add.
 fn settle_places(rules: &[u16], calls: &[u16], runs: usize, recorded: &[u16], table: &mut [u64])
-    requires { ⌜ Lent (now recorded) runs (now table) × Walkable (now rules) × SoundMarks (now rules) (now recorded) runs (now table)
+    requires { ⌜ Guide (now recorded) runs (now table) × Walkable (now rules) × SoundMarks (now rules) (now recorded) runs (now table)
         × (length (now calls) ≡ 4161) ⌝ }
     ensures { λ _. ⌜ AllSettled (now (rules .entry)) (now (recorded .entry)) runs 0 (now (table .entry)) (now (table .exit)) ⌝ }
 {
@@ -134,7 +136,7 @@ fn settle_places(rules: &[u16], calls: &[u16], runs: usize, recorded: &[u16], ta
 
 // Settles every place.
 pub(crate) fn settle_all(rules: &[u16], runs: usize, recorded: &[u16], table: &mut [u64])
-    requires { ⌜ Lent (now recorded) runs (now table) × Walkable (now rules) × SoundMarks (now rules) (now recorded) runs (now table) ⌝ }
+    requires { ⌜ Guide (now recorded) runs (now table) × Walkable (now rules) × SoundMarks (now rules) (now recorded) runs (now table) ⌝ }
     ensures { λ _. ⌜ AllSettled (now (rules .entry)) (now (recorded .entry)) runs 0 (now (table .entry)) (now (table .exit)) ⌝ }
 {
     let mut calls = [0u16; 4161];

@@ -7,7 +7,8 @@ use mathlib.Core.List.{List, [], _∷_, _++_, map}
 use lib.ListN.{length, getD, length-map}
 use lib.Dec.{ltb}
 use borrow.Author.Tests.{lt-ltb, le-ltb, ltb-false}
-use Rattle.refusals.specs.Refusals as refusals
+use Rattle.refusals.specs.Sheet.{sheet-refusals, line-refusals}
+use Rattle.refusals.specs.Text.{text-refusals}
 use Rattle.steps.specs.State.{State}
 use Rattle.chars.specs.Bytes.{text}
 use Rattle.chars.specs.Pieces.{lines}
@@ -22,7 +23,7 @@ use Rattle.writer.proofs.Proper.{Proper}
 use Rattle.writer.proofs.ProperSheets.{sheet-proper}
 use Rattle.merge.specs.declared.Layout.{Layout}
 use Rattle.merge.specs.Joined.{together, both-names, meets, crossed, start-in, book-over, both-books}
-use Rattle.merge.specs.Merge.{faulty, joins, overfull, judge, merge-of}
+use Rattle.merge.specs.Merge.{faulty, joins, oversized, judge, merge-of}
 use Rattle.merge.specs.Inner.{Grows, Ordered, parts-from, section, inserted-in, fault-of, text-parts, text-in, Few, Laid}
 use Rattle.merge.proofs.Together.{or-first, together-right}
 use Rattle.merge.proofs.Joins.{NamesFit}
@@ -107,13 +108,13 @@ module _ (s t : List ℕ) (a b : Book) (e : read-sheet s ≡ written a) (f : rea
   -- what the judge says: before the text's length
   pub record Judged (n : ℕ) : Type 0 where
     pub no : (n ≡ 0 → ⊥) → judge a b ≡ faulty n 0 0
-    pub yes : n ≡ 0 → NamesFit a b × (length (both-books a b .rules) ≤ 256) × (judge a b ≡ cond (ltb 65536 (length (text-of (both-books a b)))) (faulty refusals.too-long 0 0) (joins a b))
+    pub yes : n ≡ 0 → NamesFit a b × (length (both-books a b .rules) ≤ 256) × (judge a b ≡ cond (ltb 65536 (length (text-of (both-books a b)))) (faulty (sheet-refusals .too-long) 0 0) (joins a b))
 
   pub judged : Judged number
   unfolding judge book-over
   judged = by (crossed (a .names) (b .names)) refl (ltb 64 (length (m .fluents))) refl (ltb 64 (length (m .actions))) refl
     where
-      rest : (x : Bool) → crossed (a .names) (b .names) ≡ false → length (m .fluents) ≤ 64 → length (m .actions) ≤ 64 → ltb 256 (length (both-books a b .rules)) ≡ x → Judged (cond x refusals.too-many 0)
+      rest : (x : Bool) → crossed (a .names) (b .names) ≡ false → length (m .fluents) ≤ 64 → length (m .actions) ≤ 64 → ltb 256 (length (both-books a b .rules)) ≡ x → Judged (cond x (line-refusals .too-many) 0)
       rest true h i j k = record {
         no = λ z. rw (h, le-ltb 64 (length (m .fluents)) i, le-ltb 64 (length (m .actions)) j, k) refl;
         yes = λ z. absurd (omega arith);
@@ -125,22 +126,22 @@ module _ (s t : List ℕ) (a b : Book) (e : read-sheet s ≡ written a) (f : rea
 
       by : (x : Bool) → crossed (a .names) (b .names) ≡ x → (v : Bool) → ltb 64 (length (m .fluents)) ≡ v → (w : Bool) → ltb 64 (length (m .actions)) ≡ w → Judged number
       by true h v i w j =
-          let e : number ≡ refusals.both-kinds = rw (crossed-is, h) refl in
-          let g : Judged refusals.both-kinds = record { no = λ z. rw h refl; yes = λ z. absurd (omega arith) } in
+          let e : number ≡ (text-refusals .both-kinds) = rw (crossed-is, h) refl in
+          let g : Judged (text-refusals .both-kinds) = record { no = λ z. rw h refl; yes = λ z. absurd (omega arith) } in
           subst Judged (sym e) g
       by false h true i w j =
-          let e : number ≡ refusals.too-many = rw (crossed-is, h, count-fluents, i) refl in
-          let g : Judged refusals.too-many = record { no = λ z. rw (h, i) refl; yes = λ z. absurd (omega arith) } in
+          let e : number ≡ (line-refusals .too-many) = rw (crossed-is, h, count-fluents, i) refl in
+          let g : Judged (line-refusals .too-many) = record { no = λ z. rw (h, i) refl; yes = λ z. absurd (omega arith) } in
           subst Judged (sym e) g
       by false h false i true j =
-          let e : number ≡ refusals.too-many = rw (crossed-is, h, count-fluents, i, count-actions, j) refl in
-          let g : Judged refusals.too-many = record { no = λ z. rw (h, i, j) refl; yes = λ z. absurd (omega arith) } in
+          let e : number ≡ (line-refusals .too-many) = rw (crossed-is, h, count-fluents, i, count-actions, j) refl in
+          let g : Judged (line-refusals .too-many) = record { no = λ z. rw (h, i, j) refl; yes = λ z. absurd (omega arith) } in
           subst Judged (sym e) g
       by false h false i false j =
           let i′ = ltb-false 64 (length (m .fluents)) i in
           let j′ = ltb-false 64 (length (m .actions)) j in
           let n : NamesFit a b = record { apart = h; few-fluents = i′; few-actions = j′ } in
-          let e : number ≡ cond (ltb 256 (length (both-books a b .rules))) refusals.too-many 0 = rw (crossed-is, h, count-fluents, i, count-actions, j, count-rules n) refl in
+          let e : number ≡ cond (ltb 256 (length (both-books a b .rules))) (line-refusals .too-many) 0 = rw (crossed-is, h, count-fluents, i, count-actions, j, count-rules n) refl in
           subst Judged (sym e) (rest (ltb 256 (length (both-books a b .rules))) h i′ j′ refl)
 
   -- ---- the text

@@ -7,13 +7,14 @@ use lib.ListN.{length}
 use lib.Dec.{ltb}
 use native.Mathlib.Omega.{arith}
 use borrow.Author.Tests.{ltb-false}
-use Rattle.refusals.specs.Refusals as refusals
+use Rattle.refusals.specs.Sheet.{sheet-refusals, line-refusals}
+use Rattle.refusals.specs.Text.{text-refusals}
 use Rattle.sheet.specs.Book.{Book}
 use Rattle.sheet.specs.Reader.{Outcome, read-sheet, refused, written}
 use Rattle.writer.specs.Text.{text-of}
 use Rattle.merge.specs.Joined.{both-names, book-over, both-books, crossed, meets}
 use Rattle.merge.specs.Merge as merge
-use Rattle.merge.specs.Merge.{faulty, joins, merge-of, judge, overfull}
+use Rattle.merge.specs.Merge.{faulty, joins, merge-of, judge, oversized}
 use Rattle.merge.proofs.Together.{or-first}
 
 pub not-joins : (k n l : ℕ) (a b : Book) → faulty k n l ≡ joins a b → ⊥
@@ -28,28 +29,28 @@ joins-second e = cc
 -- two books that the judge lets through
 pub record Fits (a b : Book) : Type 0 where
   pub apart : crossed (a .names) (b .names) ≡ false
-  pub room : overfull (both-books a b) ≡ false
+  pub room : oversized (both-books a b) ≡ false
   pub short : length (text-of (both-books a b)) ≤ 65536
 
 fits : (a b c d : Book) → judge a b ≡ joins c d → Fits a b
 unfolding judge
-fits a b c d = by (crossed (a .names) (b .names)) refl (overfull (both-books a b)) refl (ltb 65536 (length (text-of (both-books a b)))) refl
+fits a b c d = by (crossed (a .names) (b .names)) refl (oversized (both-books a b)) refl (ltb 65536 (length (text-of (both-books a b)))) refl
   where
-    by : (t : Bool) → crossed (a .names) (b .names) ≡ t → (u : Bool) → overfull (both-books a b) ≡ u → (v : Bool) → ltb 65536 (length (text-of (both-books a b))) ≡ v
-        → cond t (faulty refusals.both-kinds 0 0) (cond u (faulty refusals.too-many 0 0) (cond v (faulty refusals.too-long 0 0) (joins a b))) ≡ joins c d → Fits a b
-    by true e u f v g h = absurd (not-joins refusals.both-kinds 0 0 c d h)
-    by false e true f v g h = absurd (not-joins refusals.too-many 0 0 c d h)
-    by false e false f true g h = absurd (not-joins refusals.too-long 0 0 c d h)
+    by : (t : Bool) → crossed (a .names) (b .names) ≡ t → (u : Bool) → oversized (both-books a b) ≡ u → (v : Bool) → ltb 65536 (length (text-of (both-books a b))) ≡ v
+        → cond t (faulty (text-refusals .both-kinds) 0 0) (cond u (faulty (line-refusals .too-many) 0 0) (cond v (faulty (sheet-refusals .too-long) 0 0) (joins a b))) ≡ joins c d → Fits a b
+    by true e u f v g h = absurd (not-joins (text-refusals .both-kinds) 0 0 c d h)
+    by false e true f v g h = absurd (not-joins (line-refusals .too-many) 0 0 c d h)
+    by false e false f true g h = absurd (not-joins (sheet-refusals .too-long) 0 0 c d h)
     by false e false f false g h = record { apart = e; room = f; short = ltb-false 65536 (length (text-of (both-books a b))) g }
 
 judged-same : (a b c d : Book) → judge a b ≡ joins c d → (a ≡ c) × (b ≡ d)
 unfolding judge
-judged-same a b c d = by (crossed (a .names) (b .names)) (overfull (both-books a b)) (ltb 65536 (length (text-of (both-books a b))))
+judged-same a b c d = by (crossed (a .names) (b .names)) (oversized (both-books a b)) (ltb 65536 (length (text-of (both-books a b))))
   where
-    by : (t u v : Bool) → cond t (faulty refusals.both-kinds 0 0) (cond u (faulty refusals.too-many 0 0) (cond v (faulty refusals.too-long 0 0) (joins a b))) ≡ joins c d → (a ≡ c) × (b ≡ d)
-    by true u v h = absurd (not-joins refusals.both-kinds 0 0 c d h)
-    by false true v h = absurd (not-joins refusals.too-many 0 0 c d h)
-    by false false true h = absurd (not-joins refusals.too-long 0 0 c d h)
+    by : (t u v : Bool) → cond t (faulty (text-refusals .both-kinds) 0 0) (cond u (faulty (line-refusals .too-many) 0 0) (cond v (faulty (sheet-refusals .too-long) 0 0) (joins a b))) ≡ joins c d → (a ≡ c) × (b ≡ d)
+    by true u v h = absurd (not-joins (text-refusals .both-kinds) 0 0 c d h)
+    by false true v h = absurd (not-joins (line-refusals .too-many) 0 0 c d h)
+    by false false true h = absurd (not-joins (sheet-refusals .too-long) 0 0 c d h)
     by false false false h = (joins-first h, joins-second h)
 
 pub record Joins (s t : List ℕ) (a b : Book) : Type 0 where
@@ -82,7 +83,7 @@ pub record Within (m : Book) : Type 0 where
   pub few-actions : length (m .names .actions) ≤ 64
   pub few-rules : length (m .rules) ≤ 256
 
-pub within : (m : Book) → overfull m ≡ false → Within m
+pub within : (m : Book) → oversized m ≡ false → Within m
 within m h =
     let (f, r) = or-first (ltb 64 (length (m .names .fluents))) _ h in
     let (a, n) = or-first (ltb 64 (length (m .names .actions))) _ r in

@@ -25,7 +25,7 @@ use Rattle.writer.proofs.ProperSheets.{sheet-proper}
 use Rattle.writer.proofs.Forward.{reads-proper}
 use Rattle.merge.specs.declared.Part.{Part}
 use Rattle.merge.specs.Joined.{together, both-names, rule-in, book-over, both-books}
-use Rattle.merge.specs.Merge.{Outcome, faulty, joins, merge-of}
+use Rattle.merge.specs.Merge.{Judgement, faulty, joins, merge-of}
 use Rattle.merge.specs.MergedName.{part-in, none-part, brought-by, merged-span, part-of-two}
 use Rattle.merge.proofs.Together.{member-below, together-more, together-out, together-place}
 use Rattle.merge.proofs.Joins.{Joins, joins-told, within, names-fit}
@@ -79,7 +79,7 @@ module _ (s t : List ℕ) (a b : sheet.Book) (k : ℕ) (e : merge-of s t ≡ joi
   span-is : merged-span s t k ≡ brought-by s t k a b
   unfolding merged-span
   span-is =
-      ap (λ (o : Outcome). elim o [ faulty number sheet line ↦ none-part | joins a b ↦ cond (ltb k (length (both-books a b .names .fluents))) (brought-by s t k a b) none-part ]) e
+      ap (λ (o : Judgement). elim o [ faulty number sheet line ↦ none-part | joins a b ↦ cond (ltb k (length (both-books a b .names .fluents))) (brought-by s t k a b) none-part ]) e
       ∙ ap (λ (v : Bool). cond v (brought-by s t k a b) none-part) (lt-ltb k (length (both-books a b .names .fluents)) l)
 
   abbrev j : Joins s t a b

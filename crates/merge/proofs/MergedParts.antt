@@ -9,7 +9,8 @@ use lib.ListN.{length, getD, take, drop, List·getD-append}
 use lib.Seq.{take-append-seam}
 use lib.Dec.{ltb, eqb}
 use borrow.Author.Tests.{ltb-true, lt-ltb}
-use Rattle.steps.specs.State.{State, holds, added, inserted}
+use Rattle.steps.specs.State.{State, holds, added}
+use Rattle.steps.specs.Inner.{inserted}
 use Rattle.steps.specs.Acceptance.{good-step}
 use Rattle.steps.proofs.EachBelow.{both}
 use Rattle.steps.proofs.Lists.{at-member, member-at}

@@ -11,7 +11,7 @@ use Rattle.sheet.specs.Book.{Book}
 use Rattle.sheet.proofs.FluentNames.{span-within}
 use Rattle.merge.specs.declared.Part.{Part}
 use Rattle.merge.specs.Joined.{both-books}
-use Rattle.merge.specs.Merge.{Outcome, faulty, joins, merge-of}
+use Rattle.merge.specs.Merge.{Judgement, faulty, joins, merge-of}
 use Rattle.sheet.specs.FluentName.{name-span}
 use Rattle.merge.specs.MergedName.{part-in, none-part, brought-by, merged-span}
 
@@ -34,6 +34,6 @@ module _ (s t : List ℕ) (k : ℕ) where
       there a b true = brought-in a b
       there a b false = omega arith
 
-      by : (o : Outcome) → In (elim o [ faulty number sheet line ↦ none-part | joins a b ↦ cond (ltb k (length (both-books a b .names .fluents))) (brought-by s t k a b) none-part ])
+      by : (o : Judgement) → In (elim o [ faulty number sheet line ↦ none-part | joins a b ↦ cond (ltb k (length (both-books a b .names .fluents))) (brought-by s t k a b) none-part ])
       by (faulty n h l) = omega arith
       by (joins a b) = there a b (ltb k (length (both-books a b .names .fluents)))

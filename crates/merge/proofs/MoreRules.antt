@@ -6,7 +6,9 @@ use mathlib.Core.List.{List, [], _∷_, _++_, append-assoc, append-nil, List·Me
 use lib.ListN.{length, getD, drop, length-append}
 use lib.Seq.{drop-append-add, drop-append-le}
 use Rattle.steps.specs.Step.{Rule, Book}
-use Rattle.steps.specs.Words.{rule-of, rules-from, book-of, body-of, rule-width}
+use Rattle.steps.specs.Words.{rules-from, book-of, body-of}
+use Rattle.steps.specs.Widths.{rule-width}
+use Rattle.steps.specs.Inner.{rule-of}
 use Rattle.steps.specs.Deduction.{Sequent, Move, queries, inserts, deletes, calls, denies, Deduction, done, move}
 use Rattle.steps.proofs.Lists.{at-member}
 use Rattle.steps.proofs.WordLaws.{book-length, book-at, book-member}

@@ -10,7 +10,7 @@ use lib.ListN.{length, take, drop}
 use lib.Seq.{take-append-seam}
 use lib.Dec.{ltb}
 use borrow.Author.Tests.{le-ltb}
-use Rattle.refusals.specs.Refusals as refusals
+use Rattle.refusals.specs.Text.{text-refusals}
 use Rattle.sheet.specs.Book.{Book, Symbols}
 use Rattle.sheet.specs.Reader.{read-sheet, refused, written}
 use Rattle.sheet.proofs.RefusalNumbers.{refused-number}
@@ -24,7 +24,7 @@ use Rattle.writer.proofs.ProperSheets.{sheet-proper}
 use Rattle.writer.proofs.Shorter.{sheet-whole, whole-told, text-shorter}
 use Rattle.merge.specs.declared.Merged.{Merged}
 use Rattle.merge.specs.Joined.{meets, crossed, both-books}
-use Rattle.merge.specs.Merge.{Outcome, faulty, joins, said, overfull, judge, merge-of, merged-in, out-after}
+use Rattle.merge.specs.Merge.{Judgement, faulty, joins, said, oversized, judge, merge-of, merged-in, out-after}
 use Rattle.merge.proofs.Together.{not-member, no-member}
 use Rattle.merge.proofs.Joins.{Joins, joins-told}
 use Rattle.merge.proofs.ProperBoth.{not-both-kinds}
@@ -80,7 +80,7 @@ module _ (s : List ℕ) (a : Book) (e : read-sheet s ≡ written a) where
   uncrossed =
       rw (never (a .names .fluents) (a .names .actions) (λ x m k. not-both-kinds (a .names) (proper .named) x k m), never (a .names .actions) (a .names .fluents) (λ x m k. not-both-kinds (a .names) (proper .named) x m k)) refl
 
-  roomy : overfull a ≡ false
+  roomy : oversized a ≡ false
   roomy =
       let v = proper .valid in
       rw (le-ltb 64 (length (a .names .fluents)) (v .few-fluents), le-ltb 64 (length (a .names .actions)) (v .few-actions), le-ltb 256 (length (a .rules)) (v .few-rules)) refl
@@ -106,13 +106,13 @@ as-written s a e out =
     let n = length (text-of a) in
     let i = with-itself a (sheet-proper s a e) in
     let j = joins-itself s a e in
-    let x : result s s out ≡ cond (ltb (length out) n) (said refusals.text-short 0 0 0) (said 0 0 0 n) = ap (merged-in (length out)) j ∙ rw i refl in
-    let y : laws.result s out ≡ cond (ltb (length out) n) (writer.said refusals.text-short 0 0) (writer.said 0 0 n) = ap (writer.written-in (length out)) e in
+    let x : result s s out ≡ cond (ltb (length out) n) (said (text-refusals .text-short) 0 0 0) (said 0 0 0 n) = ap (merged-in (length out)) j ∙ rw i refl in
+    let y : laws.result s out ≡ cond (ltb (length out) n) (writer.said (text-refusals .text-short) 0 0) (writer.said 0 0 n) = ap (writer.written-in (length out)) e in
     record {
       says = x ∙ by (ltb (length out) n) ∙ ap (λ (w : Written). said (w .refusal) 0 0 (w .length)) (sym y);
       leaves = ap (out-after out) j ∙ rw i refl ∙ sym (ap (writer.out-after out) e);
     }
   where
-    by : (v : Bool) → cond v (said refusals.text-short 0 0 0) (said 0 0 0 (length (text-of a))) ≡ said (cond v (writer.said refusals.text-short 0 0) (writer.said 0 0 (length (text-of a))) .refusal) 0 0 (cond v (writer.said refusals.text-short 0 0) (writer.said 0 0 (length (text-of a))) .length)
+    by : (v : Bool) → cond v (said (text-refusals .text-short) 0 0 0) (said 0 0 0 (length (text-of a))) ≡ said (cond v (writer.said (text-refusals .text-short) 0 0) (writer.said 0 0 (length (text-of a))) .refusal) 0 0 (cond v (writer.said (text-refusals .text-short) 0 0) (writer.said 0 0 (length (text-of a))) .length)
     by true = refl
     by false = refl

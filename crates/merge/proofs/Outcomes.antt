@@ -6,16 +6,16 @@ use mathlib.Core.Bool.{Bool, true, false, cond}
 use lib.ListN.{length, getD}
 use lib.Dec.{ltb}
 use borrow.Author.Tests.{lt-ltb, le-ltb}
-use Rattle.refusals.specs.Refusals as refusals
+use Rattle.refusals.specs.Text.{text-refusals}
 use Rattle.sheet.specs.Book.{Book}
 use Rattle.writer.specs.Text.{text-of}
 use Rattle.writer.specs.Writer.{over}
 use Rattle.merge.specs.declared.Part.{Part}
 use Rattle.merge.specs.Joined.{both-books}
-use Rattle.merge.specs.Merge.{Outcome, faulty, joins, said, merge-of, merged-in, out-after}
+use Rattle.merge.specs.Merge.{Judgement, faulty, joins, said, merge-of, merged-in, out-after}
 use Rattle.merge.specs.MergedName.{none-part, brought-by, merged-span}
 
-module _ (out : List ℕ) (o : Outcome) where
+module _ (out : List ℕ) (o : Judgement) where
   module _ (k n i : ℕ) (e : o ≡ faulty k n i) where
     pub faulty-result : merged-in (length out) o ≡ said k n i 0
     unfolding merged-in
@@ -27,7 +27,7 @@ module _ (out : List ℕ) (o : Outcome) where
 
   module _ (a b : Book) (e : o ≡ joins a b) where
     module _ (l : length out < length (text-of (both-books a b))) where
-      pub short-result : merged-in (length out) o ≡ said refusals.text-short 0 0 0
+      pub short-result : merged-in (length out) o ≡ said (text-refusals .text-short) 0 0 0
       unfolding merged-in
       short-result = ap (merged-in (length out)) e ∙ rw (lt-ltb (length out) (length (text-of (both-books a b))) l) refl
 
@@ -46,7 +46,7 @@ module _ (out : List ℕ) (o : Outcome) where
 
 -- the span, by the outcome
 module _ (s t : List ℕ) (k : ℕ) where
-  abbrev span-by : Outcome → Part
+  abbrev span-by : Judgement → Part
   span-by o = elim o [ faulty number sheet line ↦ none-part | joins a b ↦ cond (ltb k (length (both-books a b .names .fluents))) (brought-by s t k a b) none-part ]
 
   pub span-faulty : (n h l : ℕ) → merge-of s t ≡ faulty n h l → merged-span s t k ≡ none-part

@@ -6,7 +6,8 @@ use mathlib.Core.Bool.{Bool, true, false, cond}
 use mathlib.Core.List.{List, [], _∷_, _++_}
 use lib.ListN.{length, getD, length-append}
 use lib.Seq.{slice, length-slice, take-length}
-use Rattle.steps.specs.State.{State, holds, inserted}
+use Rattle.steps.specs.State.{State, holds}
+use Rattle.steps.specs.Inner.{inserted}
 use Rattle.chars.specs.Places.{place, among}
 use Rattle.writer.specs.Text.{holding}
 use Rattle.merge.specs.Inner.{Lies, At, Grows, part-at, parts-from, fresh, news, inserted-in, wrapped}

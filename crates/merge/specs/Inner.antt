@@ -6,8 +6,10 @@ use mathlib.Core.Bool.{cond, _||_}
 use mathlib.Core.List.{List, [], _∷_, _++_}
 use lib.ListN.{length, getD, drop}
 use lib.Seq.{slice}
-use Rattle.refusals.specs.Refusals as refusals
-use Rattle.steps.specs.State.{State, holds, inserted}
+use Rattle.refusals.specs.Sheet.{line-refusals}
+use Rattle.refusals.specs.Text.{text-refusals}
+use Rattle.steps.specs.State.{State, holds}
+use Rattle.steps.specs.Inner.{inserted}
 use Rattle.chars.specs.Bytes.{text, LF}
 use Rattle.chars.specs.Pieces.{lines, fields, bare}
 use Rattle.chars.specs.Places.{same, place, among}
@@ -118,9 +120,9 @@ pub record Laid (s t list : List ℕ) (l : Layout) : Type 0 where
 -- 70 or 17 of the parts of the words, or 0.
 abbrev pub fault-of : List (List ℕ) → List (List ℕ) → List (List ℕ) → List (List ℕ) → List (List ℕ) → List (List ℕ) → ℕ
 fault-of fluents fluents′ actions actions′ rules rules′ =
-    cond (meets fluents actions′ || meets actions fluents′) refusals.both-kinds
+    cond (meets fluents actions′ || meets actions fluents′) (text-refusals .both-kinds)
     (cond (ltb 64 (length (together fluents fluents′))
-    || (ltb 64 (length (together actions actions′)) || ltb 256 (length (together rules rules′)))) refusals.too-many 0)
+    || (ltb 64 (length (together actions actions′)) || ltb 256 (length (together rules rules′)))) (line-refusals .too-many) 0)
 
 -- The `start` line with these parts.
 abbrev pub start-parts : List (List ℕ) → List ℕ

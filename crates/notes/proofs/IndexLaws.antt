@@ -11,8 +11,8 @@ use mathlib.Core.Logic.{_≢_}
 use lib.ListN.{length, getD, set, length-set}
 use lib.Seq.{getD-set-same, getD-set-other}
 use Rattle.steps.specs.State.{State}
-use Rattle.records.specs.Records.{Calls, Answers, calls-in, answer-table, answer-width}
-use Rattle.records.specs.Storage.{CallAt, FindCall, CallAdded, FindAnswer, AnswerAdded, NextAnswer}
+use Rattle.records.specs.Records.{Calls, Answers, answer-table, answer-width}
+use Rattle.records.specs.Storage.{CallAt, FindCall, CallAdded, FindAnswer, AnswerAdded, NextAnswer, calls-in}
 use Rattle.notes.specs.Index.{bucket, Latest, Covers, Queued, Reaches, Sought, Keyed, CallIndex, AnswerIndex, noted, Tail, joined, behind, alone}
 
 pub bucket-small : (a s : ℕ) → bucket a s < 57344

@@ -11,8 +11,8 @@ ghost use mathlib.Core.Path.{_≡_};
 ghost use mathlib.Core.List.{List};
 ghost use Prim.Native.Nat.{ℕ, _+_, _*_, _<_, _≤_};
 ghost use lib.ListN.{length, getD};
-ghost use Rattle.records.specs.Records.{Answers, calls-in, call-table, answer-table, call-width, answer-width};
-ghost use Rattle.records.specs.Storage.{Stored, FindCall, FindAnswer, NextAnswer, CallStored, AnswerStored, AnswerAdded};
+ghost use Rattle.records.specs.Records.{Answers, call-table, answer-table, call-width, answer-width};
+ghost use Rattle.records.specs.Storage.{Stored, FindCall, FindAnswer, NextAnswer, CallStored, AnswerStored, AnswerAdded, calls-in};
 ghost use Rattle.notes.specs.Index.{bucket, Keyed, OfRow, Tail, noted, joined, CallIndex, AnswerIndex};
 
 // Where the parts of an index begin, after the heads.

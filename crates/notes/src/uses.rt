@@ -11,7 +11,8 @@ ghost use mathlib.Core.List.{List};
 ghost use Prim.Native.Nat.{ℕ, _+_, _-_, _*_, _<_, _≤_, min, max};
 ghost use lib.ListN.{length, getD};
 ghost use Rattle.records.specs.Records.{answer-table, answer-width};
-ghost use Rattle.notes.specs.Uses.{with-use, with-via, after-both, least, greatest, via, start, heat, Used, Came, Noted, Spans, FirstHot, FirstNew, with-start, Lighted, Looked, Begun};
+ghost use Rattle.notes.specs.Uses.{with-use, with-via, after-both, least, greatest, via, start, heat};
+ghost use Rattle.notes.specs.Uses.{Used, Came, Noted, Spans, FirstHot, FirstNew, with-start, Lighted, Looked, Begun};
 ghost use Rattle.notes.specs.Index.{AnswerIndex};
 
 // How many numbers there are. Those of a record that are read together stand together: 65,535 less the least caller, the greatest caller, and

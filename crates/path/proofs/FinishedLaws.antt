@@ -4,7 +4,7 @@ use mathlib.Core.Path.{_≡_, sym}
 use mathlib.Core.Bool.{false}
 use mathlib.Core.List.{List}
 use mathlib.Core.Logic.{_≢_, inl, inr}
-use Rattle.refusals.specs.Refusals as refusals
+use Rattle.refusals.specs.Path.{path-refusals}
 use Rattle.steps.specs.State.{State}
 use Rattle.steps.specs.Run.{Call}
 use Rattle.steps.specs.Words.{run-of}
@@ -14,7 +14,7 @@ use Rattle.steps.proofs.Rows.{row-is}
 use Rattle.records.specs.Finished.{Finished}
 use Rattle.checks.specs.Checks.{over-room}
 use Rattle.checks.proofs.RecordLaws.{Proper, never-bad}
-use Rattle.path.specs.Outcome.{Handed, call-records, answer-records, bodies, fault, path-refusal}
+use Rattle.path.specs.Answered.{Handed, call-records, answer-records, bodies, fault, path-refusal}
 use Rattle.path.proofs.OutcomeLaws.{not-right, never-42}
 
 module _ (l : Handed) (start : State) (ok : accepting.refusal-of (l .fluents) (l .actions) (l .rules) (l .goal) start ≡ 0)
@@ -28,7 +28,7 @@ module _ (l : Handed) (start : State) (ok : accepting.refusal-of (l .fluents) (l
   proper : (i : ℕ) → i < l .call-count → Proper (l .fluents) (l .actions) (call-records l) i
   proper i h = of-call i (row-is _ _ (F .calls-held) i h)
 
-  pub finished-never-42 : (x : ℕ) (list : List ℕ) → path-refusal l x list ≢ refusals.bad-record
+  pub finished-never-42 : (x : ℕ) (list : List ℕ) → path-refusal l x list ≢ (path-refusals .bad-record)
   finished-never-42 x list = never-42 l x list proper (F .justified)
 
   pub finished-sound : over-room (l .calls) (l .call-count) (l .answers) (l .answer-count) ≡ false → (x : ℕ) → x < l .answer-count → fault l x ≡ 0

@@ -8,7 +8,8 @@ use mathlib.Core.Logic.{_≢_}
 use lib.ListN.{length}
 use lib.Dec.{eqb, ltb}
 use borrow.Author.Tests.{eq-eqb, ne-eqb, eqb-true, eqb-false, lt-ltb, le-ltb, ltb-true}
-use Rattle.refusals.specs.Refusals as refusals
+use Rattle.refusals.specs.Run.{run-refusals}
+use Rattle.refusals.specs.Path.{path-refusals}
 use Rattle.steps.specs.Acceptance.{bad-counts, bad-length, bad-rules, bad-goal, words-refusal}
 use Rattle.steps.proofs.EachBelow.{each-at}
 use Rattle.steps.proofs.AcceptanceLaws.{accepted}
@@ -19,13 +20,13 @@ use Rattle.unfolding.proofs.Walk.{Checked, start-at, added-by}
 use Rattle.unfolding.proofs.Writing.{PathListed}
 use Rattle.unfolding.proofs.Checking.{checked, records-justified, path-added}
 use Rattle.unfolding.proofs.Soundness.{Executed, executed}
-use Rattle.path.specs.Outcome.{Handed, call-records, answer-records, bodies, states-of, fault, too-short, path-refusal, state-count, list-after, Answered}
+use Rattle.path.specs.Answered.{Handed, call-records, answer-records, bodies, states-of, fault, too-short, path-refusal, state-count, list-after, Answered}
 
-words-not-42 : (fluents actions : ℕ) (rules goal : List ℕ) → words-refusal fluents actions rules goal ≢ refusals.bad-record
+words-not-42 : (fluents actions : ℕ) (rules goal : List ℕ) → words-refusal fluents actions rules goal ≢ path-refusals .bad-record
 unfolding words-refusal
 words-not-42 fluents actions rules goal = by (bad-counts fluents actions) (bad-length rules) (bad-rules fluents actions rules) (bad-goal fluents actions goal)
   where
-    by : (a b c d : Bool) → _≡_ {A = ℕ} (cond a refusals.bad-counts (cond b refusals.bad-length (cond c refusals.bad-rule (cond d refusals.bad-goal 0)))) refusals.bad-record → ⊥
+    by : (a b c d : Bool) → _≡_ {A = ℕ} (cond a (run-refusals .bad-counts) (cond b (run-refusals .bad-length) (cond c (run-refusals .bad-rule) (cond d (run-refusals .bad-goal) 0)))) (path-refusals .bad-record) → ⊥
     by true b c d e = omega arith
     by false true c d e = omega arith
     by false false true d e = omega arith
@@ -49,16 +50,16 @@ module _ (l : Handed) (x : ℕ) where
   bad-words n = rw (ne-eqb words 0 n) refl
 
   module _ (none : words ≡ 0) where
-    pub no-room : over ≡ true → refusals.bad-record-count ≡ fault l x
+    pub over-rooms : over ≡ true → (path-refusals .bad-record-count) ≡ fault l x
     unfolding fault
-    no-room e = rw (eq-eqb words 0 none, e) refl
+    over-rooms e = rw (eq-eqb words 0 none, e) refl
 
     module _ (fits : over ≡ false) where
-      pub not-below : l .answer-count ≤ x → refusals.no-record ≡ fault l x
+      pub not-below : l .answer-count ≤ x → (path-refusals .no-record) ≡ fault l x
       unfolding fault
       not-below h = rw (eq-eqb words 0 none, fits, le-ltb x (l .answer-count) h) refl
 
-      pub not-right : (b : Bool) → x < l .answer-count → bad ≡ b → cond b refusals.bad-record 0 ≡ fault l x
+      pub not-right : (b : Bool) → x < l .answer-count → bad ≡ b → cond b (path-refusals .bad-record) 0 ≡ fault l x
       unfolding fault
       not-right b h e = rw (eq-eqb words 0 none, fits, lt-ltb x (l .answer-count) h, e) refl
 
@@ -74,7 +75,7 @@ module _ (l : Handed) (x : ℕ) where
   sane e = by (eqb words 0) over (ltb x (l .answer-count)) bad refl refl refl refl e
     where
       by : (a b c d : Bool) → eqb words 0 ≡ a → over ≡ b → ltb x (l .answer-count) ≡ c → bad ≡ d
-          → _≡_ {A = ℕ} (cond a (cond b refusals.bad-record-count (cond (not c) refusals.no-record (cond d refusals.bad-record 0))) words) 0 → Sane
+          → _≡_ {A = ℕ} (cond a (cond b (path-refusals .bad-record-count) (cond (not c) (path-refusals .no-record) (cond d (path-refusals .bad-record) 0))) words) 0 → Sane
       by false b c d p q r s z = absurd (eqb-false words 0 p z)
       by true true c d p q r s z = absurd (omega arith)
       by true false false d p q r s z = absurd (omega arith)
@@ -118,15 +119,15 @@ module _ (l : Handed) (x : ℕ) where
       unfolding too-short
       short-is = rw same refl
 
-      refusal-is : (b : Bool) → short ≡ b → path-refusal l x list ≡ cond b refusals.states-short 0
+      refusal-is : (b : Bool) → short ≡ b → path-refusal l x list ≡ cond b (path-refusals .states-short) 0
       unfolding path-refusal
       refusal-is b e = rw (eq-eqb (fault l x) 0 none, short-is, e) refl
 
-      pub too-few : count ≡ 0 → Answered l x list refusals.states-short 0 list′
+      pub too-few : count ≡ 0 → Answered l x list (path-refusals .states-short) 0 list′
       unfolding state-count list-after
       too-few z = by short refl
         where
-          by : (b : Bool) → short ≡ b → Answered l x list refusals.states-short 0 list′
+          by : (b : Bool) → short ≡ b → Answered l x list (path-refusals .states-short) 0 list′
           by true e = record { the-refusal = sym (refusal-is true e); the-count = rw (refusal-is true e) refl; the-list = rw (refusal-is true e) (rw e at (listed .the-list)) }
           by false e = let n : count ≡ length path = rw e at (listed .the-count) in absurd (omega arith)
 
@@ -144,23 +145,23 @@ module _ (l : Handed) (x : ℕ) where
 
     -- what an evaluation leaves is never refused with 42
     pub never-42 : ((i : ℕ) → i < l .call-count → Proper (l .fluents) (l .actions) (call-records l) i)
-        → ((n : ℕ) → n < l .answer-count → justified (call-records l) (answer-records l) n (bodies l) ≡ true) → path-refusal l x list ≢ refusals.bad-record
+        → ((n : ℕ) → n < l .answer-count → justified (call-records l) (answer-records l) n (bodies l) ≡ true) → path-refusal l x list ≢ (path-refusals .bad-record)
     unfolding path-refusal fault
     never-42 proper just e =
         by (eqb words 0) over (ltb x (l .answer-count)) (too-short l x list)
         (rw (never-bad (l .fluents) (l .actions) (bodies l) (call-records l) (answer-records l) proper just) at e)
       where
-        by : (w b c d : Bool) → cond (eqb (cond w (cond b refusals.bad-record-count (cond (not c) refusals.no-record 0)) words) 0) (cond d refusals.states-short 0) (cond w (cond b refusals.bad-record-count (cond (not c) refusals.no-record 0)) words) ≡ refusals.bad-record → ⊥
+        by : (w b c d : Bool) → cond (eqb (cond w (cond b (path-refusals .bad-record-count) (cond (not c) (path-refusals .no-record) 0)) words) 0) (cond d (path-refusals .states-short) 0) (cond w (cond b (path-refusals .bad-record-count) (cond (not c) (path-refusals .no-record) 0)) words) ≡ path-refusals .bad-record → ⊥
         by true true c d z = absurd (omega arith)
         by true false true true z = absurd (omega arith)
         by true false true false z = absurd (omega arith)
         by true false false d z = absurd (omega arith)
         by false b c d z = either (eqb words 0) z
           where
-            either : (w : Bool) → cond w (cond d refusals.states-short 0) words ≡ refusals.bad-record → ⊥
+            either : (w : Bool) → cond w (cond d (path-refusals .states-short) 0) words ≡ path-refusals .bad-record → ⊥
             either true k = or d k
               where
-                or : (d : Bool) → _≡_ {A = ℕ} (cond d refusals.states-short 0) refusals.bad-record → ⊥
+                or : (d : Bool) → _≡_ {A = ℕ} (cond d (path-refusals .states-short) 0) (path-refusals .bad-record) → ⊥
                 or true k = omega arith
                 or false k = omega arith
             either false k = words-not-42 (l .fluents) (l .actions) (l .rules) (l .goal) k

@@ -1,2 +1,2 @@
 -- What the path answers.
-pub mod Outcome
+pub mod Answered

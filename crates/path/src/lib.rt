@@ -13,7 +13,7 @@ use checks::tables::bad_records;
 use checks::tables::over_room;
 use steps::accept::words_refusal;
 ghost use mathlib.Core.Path.{_≡_};
-ghost use Rattle.path.specs.Outcome.{handed, fault, Answered};
+ghost use Rattle.path.specs.Answered.{handed, fault, Answered};
 
 // The first of 20 to 23 and 40 to 42 that is met, or 0.
 fn fault<'a>(

@@ -9,7 +9,7 @@ ghost use mathlib.Core.Bool.{true, cond};
 ghost use mathlib.Core.List.{_∷_};
 ghost use Prim.Native.Nat.{_<_};
 ghost use lib.ListN.{length, set};
-ghost use Rattle.steps.specs.Words.{is-call};
+ghost use Rattle.steps.specs.Inner.{is-call};
 ghost use Rattle.unfolding.proofs.Walk.{added-by, start-at, words-at};
 ghost use Rattle.unfolding.proofs.Places.{Placing, Laying, Placeable, Laid};
 

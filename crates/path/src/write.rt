@@ -8,7 +8,7 @@ ghost use mathlib.Core.Path.{_≡_};
 ghost use mathlib.Core.Bool.{true};
 ghost use Prim.Native.Nat.{_+_, _≤_, _<_};
 ghost use lib.ListN.{length, getD};
-ghost use Rattle.steps.specs.Words.{is-call};
+ghost use Rattle.steps.specs.Inner.{is-call};
 ghost use Rattle.unfolding.proofs.Walk.{added-by};
 ghost use Rattle.unfolding.proofs.Lies.{Copied};
 ghost use Rattle.unfolding.proofs.Writing.{Stepped, Ready, Wrote, Written, Writable};

@@ -5,7 +5,8 @@ use mathlib.Core.Bool.{true}
 use mathlib.Core.List.{List}
 use lib.ListN.{length}
 use Rattle.steps.specs.Run.{Goal}
-use Rattle.steps.specs.Words.{head-of, rule-width}
+use Rattle.steps.specs.Words.{head-of}
+use Rattle.steps.specs.Widths.{rule-width}
 use Rattle.steps.proofs.AcceptanceLaws.{AcceptedWords}
 use Rattle.records.specs.Records.{bodies-of, goal-rule}
 use Rattle.records.proofs.Numbers.{fits-cases}

@@ -9,7 +9,8 @@ use lib.Dec.{eqb, ltb}
 use borrow.Author.Tests.{ltb-true, lt-ltb, le-ltb, eqb-true, eqb-false, eq-eqb, ne-eqb}
 use Rattle.steps.specs.Step.{Step, query, insert, delete, call, deny}
 use Rattle.steps.specs.Run.{Goal}
-use Rattle.steps.specs.Words.{body-of, head-of, words-of, rule-width}
+use Rattle.steps.specs.Words.{body-of, head-of, words-of}
+use Rattle.steps.specs.Widths.{rule-width}
 use Rattle.steps.proofs.EachBelow.{both}
 use Rattle.steps.proofs.WordLaws.{Low, words-short}
 use Rattle.steps.proofs.AcceptanceLaws.{AcceptedWords, Indexed, goal-indexed, words-indexed-of}

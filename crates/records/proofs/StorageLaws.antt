@@ -10,8 +10,8 @@ use lib.ListN.{length, getD, set, length-set}
 use lib.Seq.{getD-set-same, getD-set-other}
 use borrow.Author.Count.{below-none, below-more}
 use Rattle.steps.specs.State.{State}
-use Rattle.records.specs.Records.{Calls, calls-in, room, call-table, answer-table, call-width, answer-width}
-use Rattle.records.specs.Storage.{Stored, CallAdded, AnswerAdded, PutCall, PutAnswer, CallPut, call-stood, call-added, call-no-room, CallStored}
+use Rattle.records.specs.Records.{Calls, room, call-table, answer-table, call-width, answer-width}
+use Rattle.records.specs.Storage.{Stored, CallAdded, AnswerAdded, PutCall, PutAnswer, CallPut, call-stood, call-added, call-no-room, CallStored, calls-in}
 
 -- ---- one record more
 

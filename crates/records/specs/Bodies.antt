@@ -4,7 +4,8 @@ use mathlib.Core.List.{List}
 use mathlib.Core.Bool.{cond}
 use lib.ListN.{length}
 use lib.Dec.{ltb}
-use Rattle.steps.specs.Words.{count-of, rule-width}
+use Rattle.steps.specs.Words.{count-of}
+use Rattle.steps.specs.Widths.{rule-width}
 use Rattle.records.specs.Records.{goal-rule}
 
 -- No body has over 16 steps.

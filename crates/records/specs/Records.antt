@@ -7,7 +7,8 @@ use lib.Dec.{eqb, ltb}
 use Rattle.steps.specs.State.{State}
 use Rattle.steps.specs.Step.{Step, query, insert, delete, call, deny, Body}
 use Rattle.steps.specs.Run.{Goal}
-use Rattle.steps.specs.Words.{body-of, head-of, words-of, rule-width}
+use Rattle.steps.specs.Words.{body-of, head-of, words-of}
+use Rattle.steps.specs.Widths.{rule-width}
 use Rattle.steps.specs.Acceptance.{each-below}
 use Rattle.steps.specs.Elementary.{Onward, on, stuck, elementary}
 
@@ -19,20 +20,6 @@ Calls = record { count : ℕ; action : ℕ → ℕ; state : ℕ → State }
 abbrev pub Answers : Type 0
 Answers = record { count : ℕ; call : ℕ → ℕ; final : ℕ → State; rule : ℕ → ℕ; evidence : ℕ → ℕ → ℕ }
 
--- Call record: action, state. The first n records of a table whose records have `width` words.
-abbrev pub calls-in : ℕ → List ℕ → ℕ → Calls
-calls-in width words n = record { count = n; action = λ i. getD words (width * i) 0; state = λ i. getD words (width * i + 1) 0 }
-
--- Answer record: call record number; final state; rule number; then 16 evidence words.
-abbrev pub answers-in : ℕ → List ℕ → ℕ → Answers
-answers-in width words n = record {
-  count = n;
-  call = λ x. getD words (width * x) 0;
-  final = λ x. getD words (width * x + 1) 0;
-  rule = λ x. getD words (width * x + 2) 0;
-  evidence = λ x q. getD words (width * x + 3 + q) 0;
-}
-
 -- A call record has 2 words, an answer record 19.
 abbrev pub call-width : ℕ
 call-width = 2
@@ -40,12 +27,14 @@ call-width = 2
 abbrev pub answer-width : ℕ
 answer-width = 19
 
--- The first n records in the words of a table.
+-- Call record: action, state. The first n records in the words of a table.
 abbrev pub call-table : List ℕ → ℕ → Calls
-call-table words n = calls-in call-width words n
+call-table words n = record { count = n; action = λ i. getD words (call-width * i) 0; state = λ i. getD words (call-width * i + 1) 0 }
 
+-- Answer record: call record number; final state; rule number; then 16 evidence words. The first n records in the words of a table.
 abbrev pub answer-table : List ℕ → ℕ → Answers
-answer-table words n = answers-in answer-width words n
+answer-table words n = let w = answer-width in let at : ℕ → ℕ = λ i. getD words i 0 in
+    record { count = n; call = λ x. at (w * x); final = λ x. at (w * x + 1); rule = λ x. at (w * x + 2); evidence = λ x q. at (w * x + 3 + q) }
 
 -- Room of a table: its length divided by the record's width, rounded down, at most 65,536.
 abbrev pub room : ℕ → ℕ → ℕ
@@ -61,10 +50,8 @@ goal-rule = 256
 
 -- A rule goes with its head; the goal goes with action 64 (no accepted head is 64).
 abbrev pub bodies-of : List ℕ → List ℕ → Bodies
-bodies-of rules goal = record {
-  fits = λ i a. cond (eqb i goal-rule) (eqb a Goal) (ltb i (length rules / rule-width) && eqb (head-of rules i) a);
-  words = λ i. cond (eqb i goal-rule) goal (words-of rules i);
-}
+bodies-of rules goal = let words : ℕ → List ℕ = λ i. cond (eqb i goal-rule) goal (words-of rules i) in
+    record { fits = λ i a. cond (eqb i goal-rule) (eqb a Goal) (ltb i (length rules / rule-width) && eqb (head-of rules i) a); words = words }
 
 module _ (calls : Calls) (answers : Answers) (n : ℕ) where
   -- Where step x of record n leads from state s with evidence e. A call takes the named answer: its number is smaller than n, and
@@ -86,6 +73,5 @@ module _ (calls : Calls) (answers : Answers) (n : ℕ) where
   -- Record n is justified: its call record exists, its rule goes with that call's action, and walking the body from the call's state
   -- with its evidence ends in its final state.
   unfoldable pub justified : Bodies → Bool
-  justified bodies =
-      ltb (answers .call n) (calls .count) && (bodies .fits (answers .rule n) (calls .action (answers .call n))
+  justified bodies = ltb (answers .call n) (calls .count) && (bodies .fits (answers .rule n) (calls .action (answers .call n))
       && follows (body-of (bodies .words (answers .rule n))) 0 (calls .state (answers .call n)))

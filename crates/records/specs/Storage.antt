@@ -6,9 +6,23 @@ use mathlib.Core.List.{List}
 use mathlib.Core.Logic.{_⊎_}
 use lib.ListN.{length, getD}
 use Rattle.steps.specs.State.{State}
-use Rattle.records.specs.Records.{Calls, Answers, calls-in, answers-in, room, call-table, answer-table, call-width, answer-width}
+use Rattle.records.specs.Records.{Calls, Answers, room, call-table, answer-table, call-width, answer-width}
 
 -- ---- the words
+
+-- The records of a table by the width of one: those of the two tables are `call-table` and `answer-table`, and the first two words of either
+-- are looked up alike.
+abbrev pub calls-in : ℕ → List ℕ → ℕ → Calls
+calls-in width words n = record { count = n; action = λ i. getD words (width * i) 0; state = λ i. getD words (width * i + 1) 0 }
+
+abbrev pub answers-in : ℕ → List ℕ → ℕ → Answers
+answers-in width words n = record {
+  count = n;
+  call = λ x. getD words (width * x) 0;
+  final = λ x. getD words (width * x + 1) 0;
+  rule = λ x. getD words (width * x + 2) 0;
+  evidence = λ x q. getD words (width * x + 3 + q) 0;
+}
 
 -- The first n records of `width` words are in use, and all words past them are 0.
 pub record Stored (width : ℕ) (words : List ℕ) (n : ℕ) : Type 0 where

@@ -5,7 +5,8 @@ ghost use Prim.Native.Nat.{ℕ, _/_, _≤_, _<_};
 ghost use mathlib.Core.List.{[]};
 ghost use mathlib.Core.Bool.{true};
 ghost use lib.ListN.{length};
-ghost use Rattle.steps.specs.Words.{count-of, words-of, rule-width};
+ghost use Rattle.steps.specs.Words.{count-of, words-of};
+ghost use Rattle.steps.specs.Widths.{rule-width};
 ghost use Rattle.records.specs.Records.{bodies-of};
 ghost use Rattle.records.specs.Bodies.{number-at, Short};
 

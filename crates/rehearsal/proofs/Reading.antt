@@ -16,7 +16,7 @@ use Rattle.sheet.proofs.ValidSheets.{sheet-valid}
 use Rattle.sheet.proofs.Acceptance.{words-count}
 use Rattle.sheet.proofs.RefusalNumbers.{unrefused}
 use Rattle.evaluator.specs.Evaluated.{asked}
-use Rattle.steps.specs.Words.{rule-width}
+use Rattle.steps.specs.Widths.{rule-width}
 use Rattle.rehearsal.specs.Rehearsed.{asked-by}
 
 -- an accepted sheet: the result is its book's, and the list lent begins with its rule words

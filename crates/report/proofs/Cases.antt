@@ -4,7 +4,7 @@ use mathlib.Core.List.{[], _∷_}
 use Rattle.steps.specs.Acceptance.{each-below, bad-state}
 use Rattle.report.specs.Fraction.{euclid, fraction}
 use Rattle.report.specs.Figures.{sum-below, fractions, report-of}
-use Rattle.report.specs.Outcome.{bad-starts, bad-ends, refusal, output-after}
+use Rattle.report.specs.Report.{bad-starts, bad-ends, refusal, output-after}
 
 eight-over-twelve : fraction 8 12 ≡ 2 ∷ 3 ∷ []
 unfolding fraction euclid

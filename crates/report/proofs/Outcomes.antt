@@ -8,13 +8,14 @@ use mathlib.Core.List.{List, _++_}
 use lib.Dec.{eqb, ltb}
 use lib.ListN.{length, getD, drop}
 use borrow.Author.Tests.{lt-ltb, le-ltb, ne-eqb}
-use Rattle.refusals.specs.Refusals as refusals
+use Rattle.refusals.specs.Run.{run-refusals}
+use Rattle.refusals.specs.Class.{class-refusals}
 use Rattle.steps.specs.State.{State}
 use Rattle.steps.specs.Acceptance.{bad-state}
 use Rattle.steps.proofs.EachBelow.{each-all}
 use Rattle.report.specs.Fraction.{fraction}
 use Rattle.report.specs.Figures.{holding, all-held, runs, fractions, report-of}
-use Rattle.report.specs.Outcome.{bad-starts, bad-ends, refusal, output-after}
+use Rattle.report.specs.Report.{bad-starts, bad-ends, refusal, output-after}
 use Rattle.report.proofs.Written.{fractions-same}
 
 -- what is written is the report
@@ -39,19 +40,19 @@ module _ (fluents : ℕ) (results : List ℕ) (ends : List State) (out : List �
       let n : eqb (refusal fluents results ends (length out)) 0 ≡ false = ne-eqb _ 0 (λ z. ne (e ∙ z)) in
       (e, sym (ap (λ (t : Bool). cond t (report-of fluents results ends ++ drop (2 * fluents + 4) out) out) n))
 
-  pub refused-20 : 64 < fluents → Refused refusals.bad-counts
+  pub refused-20 : 64 < fluents → Refused (run-refusals .bad-counts)
   unfolding refusal
-  refused-20 l = refused refusals.bad-counts (λ z. omega arith) (rw (lt-ltb 64 fluents l) refl)
+  refused-20 l = refused (run-refusals .bad-counts) (λ z. omega arith) (rw (lt-ltb 64 fluents l) refl)
 
   module _ (few : fluents ≤ 64) where
-    pub refused-26 : (bad-starts results (length ends) || bad-ends fluents ends) ≡ true → Refused refusals.bad-results
+    pub refused-26 : (bad-starts results (length ends) || bad-ends fluents ends) ≡ true → Refused (class-refusals .bad-results)
     unfolding refusal
-    refused-26 e = refused refusals.bad-results (λ z. omega arith) (rw (le-ltb 64 fluents few, e) refl)
+    refused-26 e = refused (class-refusals .bad-results) (λ z. omega arith) (rw (le-ltb 64 fluents few, e) refl)
 
     module _ (good : (bad-starts results (length ends) || bad-ends fluents ends) ≡ false) where
-      pub refused-27 : length out < 2 * fluents + 4 → Refused refusals.report-short
+      pub refused-27 : length out < 2 * fluents + 4 → Refused (class-refusals .report-short)
       unfolding refusal
-      refused-27 l = refused refusals.report-short (λ z. omega arith) (rw (le-ltb 64 fluents few, good, lt-ltb (length out) (2 * fluents + 4) l) refl)
+      refused-27 l = refused (class-refusals .report-short) (λ z. omega arith) (rw (le-ltb 64 fluents few, good, lt-ltb (length out) (2 * fluents + 4) l) refl)
 
       none : 2 * fluents + 4 ≤ length out → refusal fluents results ends (length out) ≡ 0
       unfolding refusal
@@ -66,11 +67,11 @@ module _ (fluents : ℕ) (results : List ℕ) (ends : List State) (out : List �
 
 -- 26 is not met where neither the results nor the ends are bad
 pub never-26 : (fluents : ℕ) (results : List ℕ) (ends : List State) (room : ℕ) → bad-starts results (length ends) ≡ false → bad-ends fluents ends ≡ false
-    → refusal fluents results ends room ≢ refusals.bad-results
+    → refusal fluents results ends room ≢ class-refusals .bad-results
 unfolding refusal
 never-26 fluents results ends room s e z = by (ltb 64 fluents) (ltb room (2 * fluents + 4)) (rw (s, e) at z)
   where
-    by : (a b : Bool) → _≡_ {A = ℕ} (cond a refusals.bad-counts (cond b refusals.report-short 0)) refusals.bad-results → ⊥
+    by : (a b : Bool) → _≡_ {A = ℕ} (cond a (run-refusals .bad-counts) (cond b (class-refusals .report-short) 0)) (class-refusals .bad-results) → ⊥
     by true b z = omega arith
     by false true z = omega arith
     by false false z = omega arith

@@ -11,7 +11,7 @@ use borrow.Author.Tests.{lt-ltb, le-ltb, ltb-false, eq-eqb, ne-eqb, eqb-true, no
 use Rattle.steps.specs.Acceptance.{each-below}
 use Rattle.steps.proofs.EachBelow.{true-not-false, each-none, each-more, each-at, each-not, each-all}
 use Rattle.report.specs.Figures.{sum-below, starts, unrefused, ends-of, runs, all-ends}
-use Rattle.report.specs.Outcome.{bad-starts}
+use Rattle.report.specs.Report.{bad-starts}
 use Rattle.report.proofs.Sums.{sum-none, sum-more, sum-le}
 
 or-true : (t : Bool) → (t || true) ≡ true

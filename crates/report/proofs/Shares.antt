@@ -11,13 +11,14 @@ use lib.ListN.{length, getD, take, drop, length-append}
 use lib.Pow.{split, pow-pos, pow-mono}
 use lib.Seq.{take-at, drop-at}
 use borrow.Author.Tests.{eqb-true, ltb-false, not-true, not-false}
-use Rattle.refusals.specs.Refusals as refusals
+use Rattle.refusals.specs.Run.{run-refusals}
+use Rattle.refusals.specs.Class.{class-refusals}
 use Rattle.steps.specs.State.{State, bit}
 use Rattle.steps.specs.Acceptance.{bad-state}
 use Rattle.steps.proofs.EachBelow.{each-at}
 use Rattle.report.specs.Fraction.{fraction}
 use Rattle.report.specs.Figures.{sum-below, holding, held, all-held, runs, fractions, report-of}
-use Rattle.report.specs.Outcome.{bad-starts, bad-ends, refusal}
+use Rattle.report.specs.Report.{bad-starts, bad-ends, refusal}
 use Rattle.report.proofs.Sums.{sum-same, sum-swap}
 use Rattle.report.proofs.Ones.{ones-sum}
 use Rattle.report.proofs.Results.{or-false}
@@ -44,9 +45,9 @@ module _ (fluents : ℕ) (results : List ℕ) (ends : List State) (room : ℕ) w
       → (fluents ≤ 64) × (bad-starts results (length ends) ≡ false) × (bad-ends fluents ends ≡ false) × (2 * fluents + 4 ≤ room)
   unfolding refusal
   unrefused-then e =
-      let p20 = pass (ltb 64 fluents) refusals.bad-counts _ (omega arith) e in
-      let p26 = pass (bad-starts results (length ends) || bad-ends fluents ends) refusals.bad-results _ (omega arith) (p20 .1) in
-      let p27 = pass (ltb room (2 * fluents + 4)) refusals.report-short 0 (omega arith) (p26 .1) in
+      let p20 = pass (ltb 64 fluents) (run-refusals .bad-counts) _ (omega arith) e in
+      let p26 = pass (bad-starts results (length ends) || bad-ends fluents ends) (class-refusals .bad-results) _ (omega arith) (p20 .1) in
+      let p27 = pass (ltb room (2 * fluents + 4)) (class-refusals .report-short) 0 (omega arith) (p26 .1) in
       let (starts, good) = or-false _ _ (p26 .0) in
       (ltb-false _ _ (p20 .0), starts, good, ltb-false _ _ (p27 .0))
 

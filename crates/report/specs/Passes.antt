@@ -6,7 +6,7 @@ use mathlib.Core.List.{List}
 use lib.ListN.{getD}
 use Rattle.steps.specs.State.{State}
 use Rattle.report.specs.Figures.{runs, holding, all-held}
-use Rattle.report.specs.Outcome.{bad-starts, bad-ends}
+use Rattle.report.specs.Report.{bad-starts, bad-ends}
 
 -- The pass over the results: whether they are bad, and if not, how many starts are unrefused.
 pub record Started (results : List ℕ) (lent : ℕ) (bad : Bool) (n : ℕ) : Type 0 where

@@ -9,7 +9,7 @@ ghost use lib.ListN.{length, getD, take, drop};
 ghost use Rattle.steps.specs.State.{bit};
 ghost use Rattle.report.specs.Fraction.{common, fraction};
 ghost use Rattle.report.specs.Figures.{fractions};
-ghost use Rattle.report.specs.Outcome.{refusal, output-after};
+ghost use Rattle.report.specs.Report.{refusal, output-after};
 ghost use Rattle.report.specs.Passes.{Started, Tallied};
 
 // What the results say: whether they are refused, and if not, how many starts are unrefused.

@@ -9,7 +9,8 @@ use native.Mathlib.Decide.{decLt}
 use lib.ListN.{length, getD, replicate, length-append, length-replicate, getD-replicate, List·getD-append}
 use lib.Seq.{getD-append-add}
 use borrow.Author.Tests.{lt-ltb, le-ltb, eq-eqb}
-use Rattle.steps.specs.Words.{head-of, count-of, rule-width}
+use Rattle.steps.specs.Words.{head-of, count-of}
+use Rattle.steps.specs.Widths.{rule-width}
 use Rattle.steps.specs.Acceptance.{good-word, good-rule, bad-counts, bad-length, bad-rules, bad-goal, bad-state, words-refusal, refusal-of}
 use Rattle.sheet.specs.Book.{Book, padded, rule-words, joined}
 use Rattle.sheet.specs.Reader.{read-sheet, written}

@@ -7,7 +7,7 @@ use native.Mathlib.Omega.{arith}
 use lib.Dec.{leb, ltb, eqb}
 use lib.ListN.{length, getD, drop}
 use borrow.Author.Tests.{leb-true, ltb-true, eqb-true}
-use Rattle.refusals.specs.Refusals as refusals
+use Rattle.refusals.specs.Sheet.{sheet-refusals, line-refusals}
 use Rattle.steps.proofs.EachBelow.{both}
 use Rattle.chars.specs.Bytes.{HASH, begins, is-name}
 use Rattle.chars.specs.Pieces.{lines, fields, bare}
@@ -43,14 +43,14 @@ pub at-written : (r : Reading) (b : Book) → at-end r ≡ written b → r ≡ w
 unfolding at-end
 at-written r b = by (r .started && eqb (r .stage) 5) refl
   where
-    by : (t : Bool) → (r .started && eqb (r .stage) 5) ≡ t → cond t (written (r .book)) (refused refusals.incomplete 0) ≡ written b → r ≡ whole b
+    by : (t : Bool) → (r .started && eqb (r .stage) 5) ≡ t → cond t (written (r .book)) (refused (sheet-refusals .incomplete) 0) ≡ written b → r ≡ whole b
     by true e q =
         let (i, j) = both (r .started) (eqb (r .stage) 5) e in
         let k : r .book ≡ b = cc in
         ap (λ (n : ℕ). record { book = r .book; stage = n; started = r .started }) (eqb-true (r .stage) 5 j)
         ∙ ap (λ (t : Bool). record { book = r .book; stage = 5; started = t }) i
         ∙ ap whole k
-    by false e q = absurd (not-written refusals.incomplete 0 b q)
+    by false e q = absurd (not-written (sheet-refusals .incomplete) 0 b q)
 
 pub at-whole : (b : Book) → at-end (whole b) ≡ written b
 unfolding at-end
@@ -64,9 +64,9 @@ pub record Judged {A : Type 0} (formed fresh defined : Bool) (a v : A) : Type 0 
   pub value : a ≡ v
 
 pub judged-accepted : {A : Type 0} (t u d : Bool) (a v : A) → judged t u d a ≡ accept v → Judged t u d a v
-judged-accepted false u d a v e = absurd (not-both refusals.bad-field v e)
-judged-accepted true false d a v e = absurd (not-both refusals.repeated v e)
-judged-accepted true true false a v e = absurd (not-both refusals.undefined v e)
+judged-accepted false u d a v e = absurd (not-both (line-refusals .bad-field) v e)
+judged-accepted true false d a v e = absurd (not-both (line-refusals .repeated) v e)
+judged-accepted true true false a v e = absurd (not-both (line-refusals .undefined) v e)
 judged-accepted true true true a v e = record { is-formed = refl; is-fresh = refl; is-defined = refl; value = same-value e }
 
 -- an accepted new name is the field itself

@@ -6,7 +6,7 @@ use native.Mathlib.Numerals.{add-one}
 use native.Mathlib.Omega.{arith}
 use lib.ListN.{length, take, drop, set, replicate, length-set, length-drop, take-append-drop}
 use lib.Seq.{drop-set-lt, drop-drop, take-suc-set, take-all, take-at, drop-at, take-add, length-take-le, paste}
-use Rattle.steps.specs.Words.{rule-width}
+use Rattle.steps.specs.Widths.{rule-width}
 use Rattle.sheet.specs.Verdict.{Verdict, refuse, accept}
 use Rattle.sheet.specs.Book.{Symbols, padded, joined, rule-words}
 use Rattle.sheet.specs.Field.{step-word, step-words}

@@ -8,7 +8,8 @@ use lib.Dec.{eqb}
 use lib.ListN.{length, getD, drop, length-drop}
 use lib.Seq.{drop-drop, drop-at}
 use Rattle.steps.specs.Step as logic
-use Rattle.steps.specs.Words.{body-of, rules-from, book-of, rule-width}
+use Rattle.steps.specs.Words.{body-of, rules-from, book-of}
+use Rattle.steps.specs.Widths.{rule-width}
 use Rattle.chars.specs.Pieces.{lines, fields}
 use Rattle.chars.specs.Places.{place}
 use Rattle.sheet.specs.declared.lines.Word.{Word}

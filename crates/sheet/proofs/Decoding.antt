@@ -8,9 +8,11 @@ use lib.Dec.{ltb, eqb}
 use lib.ListN.{length, getD, take, drop, replicate}
 use lib.Seq.{take-append-seam, drop-drop, getD-drop}
 use borrow.Author.Tests.{ltb-true, eqb-true}
-use Rattle.refusals.specs.Refusals as refusals
+use Rattle.refusals.specs.Sheet.{line-refusals}
 use Rattle.steps.specs.Step.{Step, query, insert, delete, call, deny}
-use Rattle.steps.specs.Words.{step-by, step-of, body-of, rule-of, rule-width}
+use Rattle.steps.specs.Words.{step-by, step-of, body-of}
+use Rattle.steps.specs.Widths.{rule-width}
+use Rattle.steps.specs.Inner.{rule-of}
 use Rattle.chars.specs.Bytes.{text, is-name}
 use Rattle.chars.specs.Places.{place, place-after, among, byte-at}
 use Rattle.sheet.specs.Verdict.{accept, _>>=_}
@@ -72,10 +74,10 @@ module _ (y : Symbols) (few-fluents : length (y .fluents) ≤ 64) (few-actions :
   -- an accepted step word decodes to the step that its field writes
   pub step-decoded : (f : List ℕ) (w : ℕ) → step-word y f ≡ accept w → Writes y f (step-of w)
   unfolding step-word
-  step-decoded [] w e = absurd (not-both refusals.bad-field w e)
+  step-decoded [] w e = absurd (not-both (line-refusals .bad-field) w e)
   step-decoded (mark ∷ name) w e =
       let kind = byte-at mark marks in
-      let (k, r) = required (ltb kind 5) refusals.bad-field (λ _. step-from kind (used-name (names-of y kind) name)) w e in
+      let (k, r) = required (ltb kind 5) (line-refusals .bad-field) (λ _. step-from kind (used-name (names-of y kind) name)) w e in
       let (index, u, v) = followed (used-name (names-of y kind) name) (λ index. accept (256 * kind + index)) w r in
       let few = few-names kind in
       let low = used-below (names-of y kind) name index u in

@@ -5,6 +5,7 @@ use Prim.Native.Nat.{ℕ, zero, suc, _<_}
 use native.Mathlib.Omega.{arith}
 use lib.ListN.{length, replicate, length-replicate}
 use borrow.Author.Tests.{lt-leb}
+use Rattle.refusals.specs.Sheet.{sheet-refusals}
 use Rattle.chars.specs.Bytes.{text, LF}
 use Rattle.sheet.specs.declared.Sheet.{Sheet}
 use Rattle.sheet.specs.Book.{padded, rule-words}
@@ -108,9 +109,9 @@ unfolding name-span
 dressed-names = refl
 
 -- 10: any sheet of more than 65,536 bytes, as one of 65,537 line ends
-pub whole-too-long : (s : List ℕ) → 65536 < length s → read-sheet s ≡ refused 10 0
+pub whole-too-long : (s : List ℕ) → 65536 < length s → read-sheet s ≡ refused (sheet-refusals .too-long) 0
 unfolding whole-sheet
-whole-too-long s h = sheet-fault s 10 (rw (lt-leb (length s) 65536 h))
+whole-too-long s h = sheet-fault s (sheet-refusals .too-long) (rw (lt-leb (length s) 65536 h))
 
-pub too-long : read-sheet (replicate 65537 LF) ≡ refused 10 0
+pub too-long : read-sheet (replicate 65537 LF) ≡ refused (sheet-refusals .too-long) 0
 too-long = whole-too-long (replicate 65537 LF) (rw (length-replicate {A = ℕ} 65537 LF) (omega arith))

@@ -9,7 +9,7 @@ use lib.Dec.{eqb}
 use lib.ListN.{length, getD}
 use lib.Seq.{slice, slice-cons, slice-empty}
 use borrow.Author.Tests.{lt-ltb, le-ltb}
-use Rattle.refusals.specs.Refusals as refusals
+use Rattle.refusals.specs.Sheet.{line-refusals}
 use Rattle.steps.specs.State.{holds, added}
 use Rattle.chars.specs.Bytes.{is-name}
 use Rattle.chars.specs.Places.{place, place-after, among, byte-at}
@@ -21,11 +21,11 @@ use Rattle.sheet.proofs.Verdicts.{not-both, same-value}
 
 -- a used name
 module _ (names : List (List ℕ)) (f : List ℕ) where
-  pub used-no-name : is-name f ≡ false → used-name names f ≡ refuse refusals.bad-field
+  pub used-no-name : is-name f ≡ false → used-name names f ≡ refuse (line-refusals .bad-field)
   unfolding used-name
   used-no-name e = rw e
 
-  pub used-unknown : is-name f ≡ true → length names ≤ place f names → used-name names f ≡ refuse refusals.undefined
+  pub used-unknown : is-name f ≡ true → length names ≤ place f names → used-name names f ≡ refuse (line-refusals .undefined)
   unfolding used-name
   used-unknown e h = rw (e, le-ltb (place f names) (length names) h)
 
@@ -35,11 +35,11 @@ module _ (names : List (List ℕ)) (f : List ℕ) where
 
 -- a new name
 module _ (y : Symbols) (f : List ℕ) where
-  pub new-no-name : is-name f ≡ false → new-name y f ≡ refuse refusals.bad-field
+  pub new-no-name : is-name f ≡ false → new-name y f ≡ refuse (line-refusals .bad-field)
   unfolding new-name
   new-no-name e = rw e
 
-  pub new-known : is-name f ≡ true → place f (y .fluents ++ y .actions) < length (y .fluents ++ y .actions) → new-name y f ≡ refuse refusals.repeated
+  pub new-known : is-name f ≡ true → place f (y .fluents ++ y .actions) < length (y .fluents ++ y .actions) → new-name y f ≡ refuse (line-refusals .repeated)
   unfolding new-name
   new-known e h = rw (e, lt-ltb (place f (y .fluents ++ y .actions)) (length (y .fluents ++ y .actions)) h)
 
@@ -61,8 +61,8 @@ module _ (t u r : Bool) (n m k : ℕ) where
   judged-known = go t u
     where
       go : (t u : Bool) → judged t true u n ≡ accept k → (judged t (not (u && r)) u m ≡ judged true (not r) true m) × (n ≡ k)
-      go false u e = absurd (not-both refusals.bad-field k e)
-      go true false e = absurd (not-both refusals.undefined k e)
+      go false u e = absurd (not-both (line-refusals .bad-field) k e)
+      go true false e = absurd (not-both (line-refusals .undefined) k e)
       go true true e = (refl, same-value e)
 
 module _ (y : Symbols) (state : ℕ) (f : List ℕ) (k : ℕ) where
@@ -78,7 +78,7 @@ module _ (y : Symbols) (state : ℕ) (f : List ℕ) (k : ℕ) where
     named : start-name y state f ≡ judged true (not (holds state k)) true (added state k)
     named = known .0 ∙ ap (λ (i : ℕ). judged true (not (holds state i)) true (added state i)) (known .1)
 
-    pub start-twice : holds state k ≡ true → start-name y state f ≡ refuse refusals.repeated
+    pub start-twice : holds state k ≡ true → start-name y state f ≡ refuse (line-refusals .repeated)
     start-twice h = named ∙ ap (λ (b : Bool). judged true (not b) true (added state k)) h
 
     pub start-once : holds state k ≡ false → start-name y state f ≡ accept (added state k)
@@ -108,12 +108,12 @@ mark-le b (x ∷ xs) = go (eqb x b) (mark-le b xs)
     go false h = omega arith
 
 module _ (s : List ℕ) (a e : ℕ) (y : Symbols) where
-  pub step-empty : a ≡ e → step-word y (slice a e s) ≡ refuse refusals.bad-field
+  pub step-empty : a ≡ e → step-word y (slice a e s) ≡ refuse (line-refusals .bad-field)
   unfolding step-word
   step-empty h = ap (λ (k : ℕ). step-word y (slice k e s)) h ∙ ap (step-word y) (slice-empty e s)
 
   module _ (h : a < e) (k : e ≤ length s) where
-    pub step-unmarked : byte-at (getD s a 0) marks ≡ 5 → step-word y (slice a e s) ≡ refuse refusals.bad-field
+    pub step-unmarked : byte-at (getD s a 0) marks ≡ 5 → step-word y (slice a e s) ≡ refuse (line-refusals .bad-field)
     unfolding step-word
     step-unmarked q = ap (step-word y) (slice-cons a e s 0 h k) ∙ rw q
 

@@ -6,7 +6,7 @@ use native.Mathlib.Omega.{arith}
 use lib.Dec.{leb, ltb, eqb}
 use lib.ListN.{length}
 use borrow.Author.Tests.{lt-ltb, lt-leb, le-leb, leb-true, leb-false, ltb-false, eqb-true, eqb-false, not-true, not-false}
-use Rattle.refusals.specs.Refusals as refusals
+use Rattle.refusals.specs.Sheet.{line-refusals}
 use Rattle.sheet.specs.declared.lines.Word.{Word}
 use Rattle.sheet.specs.declared.lines.Word.the-variants.{Fluent, Action, Rule, Start, Goal, Other}
 use Rattle.sheet.specs.Verdict.{refuse, accept, _>>=_, require}
@@ -24,11 +24,11 @@ row-le Other = omega arith
 
 -- the head of a line
 module _ (b : Reading) (w : Word) (n : ℕ) where
-  pub head-no-word : row w ≡ 5 → line-head b w n ≡ refuse refusals.bad-word
+  pub head-no-word : row w ≡ 5 → line-head b w n ≡ refuse (line-refusals .bad-word)
   unfolding line-head
   head-no-word e = rw e
 
-  pub head-late : row w < b .stage → line-head b w n ≡ refuse refusals.bad-word
+  pub head-late : row w < b .stage → line-head b w n ≡ refuse (line-refusals .bad-word)
   unfolding line-head
   head-late h = rw (lt-leb (b .stage) (row w) h, and-false)
 
@@ -38,11 +38,11 @@ module _ (b : Reading) (w : Word) (n : ℕ) where
         let l = row-le w in
         rw (lt-ltb (row w) 5 (omega arith), le-leb (b .stage) (row w) k)
 
-    pub head-overfull : overfull (b .book) w n ≡ true → line-head b w n ≡ refuse refusals.too-many
+    pub head-overfull : overfull (b .book) w n ≡ true → line-head b w n ≡ refuse (line-refusals .too-many)
     unfolding line-head
     head-overfull e = rw (timely, e)
 
-    pub head-miscounted : overfull (b .book) w n ≡ false → miscounted w n ≡ true → line-head b w n ≡ refuse refusals.bad-field
+    pub head-miscounted : overfull (b .book) w n ≡ false → miscounted w n ≡ true → line-head b w n ≡ refuse (line-refusals .bad-field)
     unfolding line-head
     head-miscounted e f = rw (timely, e, f)
 
@@ -59,9 +59,9 @@ pub record Passed (b : Reading) (w : Word) (n : ℕ) : Type 0 where
 pub passed : (b : Reading) (w : Word) (n : ℕ) → line-head b w n ≡ accept tt → Passed b w n
 unfolding line-head
 passed b w n e =
-    let (i, f) = required (in-order (b .stage) w) refusals.bad-word (λ _. require (not (overfull (b .book) w n)) refusals.too-many >>= (λ _. require (not (miscounted w n)) refusals.bad-field)) tt e in
-    let (o, g) = required (not (overfull (b .book) w n)) refusals.too-many (λ _. require (not (miscounted w n)) refusals.bad-field) tt f in
-    record { ordered = i; room = not-true (overfull (b .book) w n) o; counted = not-true (miscounted w n) (held (not (miscounted w n)) refusals.bad-field g) }
+    let (i, f) = required (in-order (b .stage) w) (line-refusals .bad-word) (λ _. require (not (overfull (b .book) w n)) (line-refusals .too-many) >>= (λ _. require (not (miscounted w n)) (line-refusals .bad-field))) tt e in
+    let (o, g) = required (not (overfull (b .book) w n)) (line-refusals .too-many) (λ _. require (not (miscounted w n)) (line-refusals .bad-field)) tt f in
+    record { ordered = i; room = not-true (overfull (b .book) w n) o; counted = not-true (miscounted w n) (held (not (miscounted w n)) (line-refusals .bad-field) g) }
 
 module _ (b : Reading) (n : ℕ) where
   pub fluent-room : line-head b Fluent n ≡ accept tt → (b .stage ≡ 0) × (length (b .book .names .fluents) < 64) × (n ≡ 1)

@@ -6,7 +6,7 @@ use Prim.Native.Nat.{ℕ, _+_, _≤_}
 use native.Mathlib.Numerals.{add-one}
 use lib.ListN.{length}
 use lib.Seq.{slice}
-use Rattle.refusals.specs.Refusals as refusals
+use Rattle.refusals.specs.Sheet.{line-refusals}
 use Rattle.chars.specs.Bytes.{HASH, begins}
 use Rattle.chars.specs.Pieces.{bare}
 use Rattle.chars.specs.Inner.{fields-from, FieldEnd}
@@ -31,7 +31,7 @@ three true true true k j n v = refl
 module _ (b : Reading) (w : Word) (fs : List (List ℕ)) where
   pub line-by-head : line-of b w fs ≡ (line-head b w (length fs) >>= (λ _. recorded b w fs))
   unfolding line-head
-  line-by-head = three (in-order (b .stage) w) (not (overfull (b .book) w (length fs))) (not (miscounted w (length fs))) refusals.bad-word refusals.too-many refusals.bad-field (recorded b w fs)
+  line-by-head = three (in-order (b .stage) w) (not (overfull (b .book) w (length fs))) (not (miscounted w (length fs))) (line-refusals .bad-word) (line-refusals .too-many) (line-refusals .bad-field) (recorded b w fs)
 
   pub line-stopped : (k : ℕ) → line-head b w (length fs) ≡ refuse k → line-of b w fs ≡ refuse k
   line-stopped k e = line-by-head ∙ ap (λ (v : Verdict (Unit {0})). v >>= (λ _. recorded b w fs)) e

@@ -8,7 +8,7 @@ use native.Mathlib.Omega.{arith}
 use native.Mathlib.Decide.{decLt}
 use lib.ListN.{length, getD, set, length-set}
 use lib.Seq.{slice, getD-set-same, getD-set-other}
-use Rattle.refusals.specs.Refusals as refusals
+use Rattle.refusals.specs.Sheet.{line-refusals}
 use Rattle.chars.specs.Places.{place}
 use Rattle.chars.specs.Bytes.{is-name}
 use Rattle.sheet.specs.declared.names.Names.{Names}
@@ -62,7 +62,7 @@ all-names s n =
 
 -- a new name that is found, or not, among all names
 module _ (s : List ℕ) (n : Names) (f : List ℕ) (t : is-name f ≡ true) where
-  pub name-known : place f (names-in s (n .from) (n .to) 0 (n .fluents + n .actions)) < n .fluents + n .actions → new-name (symbols-of s n) f ≡ refuse refusals.repeated
+  pub name-known : place f (names-in s (n .from) (n .to) 0 (n .fluents + n .actions)) < n .fluents + n .actions → new-name (symbols-of s n) f ≡ refuse (line-refusals .repeated)
   name-known h =
       let l = names-length s (n .from) (n .to) 0 (n .fluents + n .actions) in
       new-known (symbols-of s n) f t (rw (all-names s n, l) h)

@@ -7,9 +7,9 @@ use native.Mathlib.Omega.{arith}
 use lib.Dec.{ltb, leb, eqb}
 use lib.ListN.{length, getD, drop}
 use borrow.Author.Tests.{ltb-false}
-use Rattle.refusals.specs.Refusals as refusals
+use Rattle.refusals.specs.Sheet.{sheet-refusals, line-refusals}
 use Rattle.steps.specs.State.{holds, added}
-use Rattle.steps.specs.Words.{rule-width}
+use Rattle.steps.specs.Widths.{rule-width}
 use Rattle.chars.specs.Bytes.{HASH, begins, is-name, clean}
 use Rattle.chars.specs.Pieces.{lines, fields, bare}
 use Rattle.chars.specs.Places.{place, among, byte-at}
@@ -49,9 +49,9 @@ then (accept a) f h g = g a
 
 -- a field
 judges : {A : Type 0} (t u d : Bool) (a : A) → Numbered (judged t u d a)
-judges false u d a = refuses refusals.bad-field (λ z. omega arith)
-judges true false d a = refuses refusals.repeated (λ z. omega arith)
-judges true true false a = refuses refusals.undefined (λ z. omega arith)
+judges false u d a = refuses (line-refusals .bad-field) (λ z. omega arith)
+judges true false d a = refuses (line-refusals .repeated) (λ z. omega arith)
+judges true true false a = refuses (line-refusals .undefined) (λ z. omega arith)
 judges true true true a = accepts a
 
 new-name-numbered : (y : Symbols) (f : List ℕ) → Numbered (new-name y f)
@@ -73,10 +73,10 @@ start-names-numbered y state (f ∷ fs) = then (start-name y state f) (λ next. 
 
 step-word-numbered : (y : Symbols) (f : List ℕ) → Numbered (step-word y f)
 unfolding step-word
-step-word-numbered y [] = refuses refusals.bad-field (λ z. omega arith)
+step-word-numbered y [] = refuses (line-refusals .bad-field) (λ z. omega arith)
 step-word-numbered y (mark ∷ name) =
     let kind = byte-at mark marks in
-    then (require (ltb kind 5) refusals.bad-field) (λ _. step-from kind (used-name (names-of y kind) name)) (requires (ltb kind 5) refusals.bad-field (λ z. omega arith))
+    then (require (ltb kind 5) (line-refusals .bad-field)) (λ _. step-from kind (used-name (names-of y kind) name)) (requires (ltb kind 5) (line-refusals .bad-field) (λ z. omega arith))
     (λ _. then (used-name (names-of y kind) name) (λ index. accept (256 * kind + index)) (used-name-numbered (names-of y kind) name) (λ index. accepts (256 * kind + index)))
 
 step-words-numbered : (y : Symbols) (fs : List (List ℕ)) → Numbered (step-words y fs)
@@ -96,13 +96,13 @@ record-line-numbered b Rule fs =
     (λ head. then (step-words (b .names) (drop 1 fs)) (λ steps. accept (with-rule b head steps)) (step-words-numbered (b .names) (drop 1 fs)) (λ steps. accepts (with-rule b head steps)))
 record-line-numbered b Start fs = then (start-names (b .names) 0 fs) (λ state. accept (with-start b state)) (start-names-numbered (b .names) 0 fs) (λ state. accepts (with-start b state))
 record-line-numbered b Goal fs = then (step-words (b .names) fs) (λ steps. accept (with-goal b steps)) (step-words-numbered (b .names) fs) (λ steps. accepts (with-goal b steps))
-record-line-numbered b Other fs = refuses refusals.bad-word (λ z. omega arith)
+record-line-numbered b Other fs = refuses (line-refusals .bad-word) (λ z. omega arith)
 
 line-head-numbered : (b : Reading) (w : Word) (n : ℕ) → Numbered (line-head b w n)
 unfolding line-head
 line-head-numbered b w n =
-    then (require (in-order (b .stage) w) refusals.bad-word) (λ _. require (not (overfull (b .book) w n)) refusals.too-many >>= (λ _. require (not (miscounted w n)) refusals.bad-field)) (requires (in-order (b .stage) w) refusals.bad-word (λ z. omega arith))
-    (λ _. then (require (not (overfull (b .book) w n)) refusals.too-many) (λ _. require (not (miscounted w n)) refusals.bad-field) (requires (not (overfull (b .book) w n)) refusals.too-many (λ z. omega arith)) (λ _. requires (not (miscounted w n)) refusals.bad-field (λ z. omega arith)))
+    then (require (in-order (b .stage) w) (line-refusals .bad-word)) (λ _. require (not (overfull (b .book) w n)) (line-refusals .too-many) >>= (λ _. require (not (miscounted w n)) (line-refusals .bad-field))) (requires (in-order (b .stage) w) (line-refusals .bad-word) (λ z. omega arith))
+    (λ _. then (require (not (overfull (b .book) w n)) (line-refusals .too-many)) (λ _. require (not (miscounted w n)) (line-refusals .bad-field)) (requires (not (overfull (b .book) w n)) (line-refusals .too-many) (λ z. omega arith)) (λ _. requires (not (miscounted w n)) (line-refusals .bad-field) (λ z. omega arith)))
 
 a-plain : (b : Reading) (l : List ℕ) → Numbered (plain-line b l)
 unfolding plain-line
@@ -132,9 +132,9 @@ at-end-numbered : (r : Reading) (k i : ℕ) → at-end r ≡ refused k i → k �
 unfolding at-end
 at-end-numbered r k i e z = by (r .started && eqb (r .stage) 5) e
   where
-    by : (t : Bool) → cond t (written (r .book)) (refused refusals.incomplete 0) ≡ refused k i → ⊥
+    by : (t : Bool) → cond t (written (r .book)) (refused (sheet-refusals .incomplete) 0) ≡ refused k i → ⊥
     by true e = not-refused k i (r .book) e
-    by false e = let q = same-refusal refusals.incomplete k 0 i e in omega arith
+    by false e = let q = same-refusal (sheet-refusals .incomplete) k 0 i e in omega arith
 
 all-lines : (n : ℕ) (b : Reading) (ls : List (List ℕ)) (k i : ℕ) → read-lines n b ls ≡ refused k i → k ≡ 0 → ⊥
 all-lines n b [] k i e z = at-end-numbered b k i (sym (lines-read n b) ∙ e) z
@@ -147,8 +147,8 @@ all-lines n b (l ∷ ls) k i e z = by (line b l) refl (λ next m. all-lines (n +
 whole-sheet-numbered : (s : List ℕ) → Numbered (whole-sheet s)
 unfolding whole-sheet
 whole-sheet-numbered s =
-    then (require (leb (length s) 65536) refusals.too-long) (λ _. require (clean s) refusals.bad-byte >>= (λ _. require (ended s) refusals.not-ended)) (requires (leb (length s) 65536) refusals.too-long (λ z. omega arith))
-    (λ _. then (require (clean s) refusals.bad-byte) (λ _. require (ended s) refusals.not-ended) (requires (clean s) refusals.bad-byte (λ z. omega arith)) (λ _. requires (ended s) refusals.not-ended (λ z. omega arith)))
+    then (require (leb (length s) 65536) (sheet-refusals .too-long)) (λ _. require (clean s) (sheet-refusals .bad-byte) >>= (λ _. require (ended s) (sheet-refusals .not-ended))) (requires (leb (length s) 65536) (sheet-refusals .too-long) (λ z. omega arith))
+    (λ _. then (require (clean s) (sheet-refusals .bad-byte)) (λ _. require (ended s) (sheet-refusals .not-ended)) (requires (clean s) (sheet-refusals .bad-byte) (λ z. omega arith)) (λ _. requires (ended s) (sheet-refusals .not-ended) (λ z. omega arith)))
 
 pub refused-number : (s : List ℕ) (k i : ℕ) → read-sheet s ≡ refused k i → k ≡ 0 → ⊥
 refused-number s k i e z = by (whole-sheet s) refl
@@ -158,7 +158,7 @@ refused-number s k i e z = by (whole-sheet s) refl
     by (accept u) q = all-lines 1 empty (lines s) k i (sym (sheet-lines s q) ∙ e) z
 
 -- a result without a refusal is that of an accepted sheet whose rule words have room
-fits : (t : Bool) (b : Book) → cond t (refusal refusals.no-room 0) (accepted b) .refusal ≡ 0 → t ≡ false
+fits : (t : Bool) (b : Book) → cond t (refusal (sheet-refusals .no-room) 0) (accepted b) .refusal ≡ 0 → t ≡ false
 fits true b z = absurd (omega arith)
 fits false b z = refl
 

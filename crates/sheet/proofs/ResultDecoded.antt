@@ -4,7 +4,8 @@ use mathlib.Core.List.{List}
 use Prim.Native.Nat.{ℕ, _*_}
 use lib.ListN.{length, take}
 use Rattle.steps.specs.Run.{Run}
-use Rattle.steps.specs.Words.{run-of, rule-width}
+use Rattle.steps.specs.Words.{run-of}
+use Rattle.steps.specs.Widths.{rule-width}
 use Rattle.sheet.specs.declared.Sheet.{Sheet}
 use Rattle.sheet.specs.Book.{Book, joined}
 use Rattle.sheet.specs.Reader.{read-sheet, written}

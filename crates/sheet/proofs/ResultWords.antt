@@ -5,7 +5,7 @@ use Prim.Native.Nat.{ℕ, _-_, _*_, _≤_}
 use lib.ListN.{length, take, drop, replicate}
 use lib.Seq.{take-at, take-append-seam}
 use borrow.Author.Tests.{le-ltb}
-use Rattle.steps.specs.Words.{rule-width}
+use Rattle.steps.specs.Widths.{rule-width}
 use Rattle.sheet.specs.declared.Sheet.{Sheet}
 use Rattle.sheet.specs.Book.{Book, joined}
 use Rattle.sheet.specs.Reader.{Outcome, read-sheet, written}

@@ -8,9 +8,9 @@ use lib.ListN.{length, take, drop}
 use lib.Seq.{length-take-le}
 use borrow.Author.Needs.{needs}
 use borrow.Author.Tests.{lt-ltb, le-ltb, eq-eqb, ne-eqb}
-use Rattle.refusals.specs.Refusals as refusals
+use Rattle.refusals.specs.Sheet.{sheet-refusals}
 use Rattle.chars.specs.Pieces.{lines}
-use Rattle.steps.specs.Words.{rule-width}
+use Rattle.steps.specs.Widths.{rule-width}
 use Rattle.sheet.specs.declared.lines.Parse.{Parse}
 use Rattle.sheet.specs.Verdict.{refuse, accept}
 use Rattle.sheet.specs.Line.{Reading, empty}
@@ -38,7 +38,7 @@ module _ (lent s w : List ℕ) (b : Parse) (o : Outcome) (e : o ≡ written (boo
   count = rules-length w (b .rules)
 
   module _ (h : length lent < rule-width * b .rules) where
-    pub result-short : result-of (length lent) o ≡ refusal refusals.no-room 0
+    pub result-short : result-of (length lent) o ≡ refusal (sheet-refusals .no-room) 0
     unfolding result-of
     result-short = ap (result-of (length lent)) e ∙ rw (count, lt-ltb (length lent) (rule-width * b .rules) h)
 
@@ -77,10 +77,10 @@ module _ (s : List ℕ) where
       unfolding at-end
       sheet-read x y = sheet-lines ∙ e ∙ rw (x, eq-eqb (r .stage) 5 y)
 
-      pub sheet-no-start : r .started ≡ false → read-sheet s ≡ refused refusals.incomplete 0
+      pub sheet-no-start : r .started ≡ false → read-sheet s ≡ refused (sheet-refusals .incomplete) 0
       unfolding at-end
       sheet-no-start x = sheet-lines ∙ e ∙ rw x
 
-      pub sheet-no-goal : (r .stage ≡ 5 → ⊥) → read-sheet s ≡ refused refusals.incomplete 0
+      pub sheet-no-goal : (r .stage ≡ 5 → ⊥) → read-sheet s ≡ refused (sheet-refusals .incomplete) 0
       unfolding at-end
       sheet-no-goal y = sheet-lines ∙ e ∙ rw (ne-eqb (r .stage) 5 y, and-false)

@@ -7,7 +7,7 @@ use native.Mathlib.Omega.{arith}
 use lib.Dec.{ltb, eqb}
 use lib.ListN.{length, getD}
 use borrow.Author.Tests.{lt-ltb, ltb-true, not-true}
-use Rattle.refusals.specs.Refusals as refusals
+use Rattle.refusals.specs.Sheet.{line-refusals}
 use Rattle.steps.specs.State.{holds, added}
 use Rattle.steps.specs.Acceptance.{good-step}
 use Rattle.steps.proofs.EachBelow.{both}
@@ -94,10 +94,10 @@ module _ (y : Symbols) (few-fluents : length (y .fluents) ≤ 64) (few-actions :
   -- the word of an accepted step is a good step
   step-good : (f : List ℕ) (w : ℕ) → step-word y f ≡ accept w → good-step (length (y .fluents)) (length (y .actions)) w ≡ true
   unfolding step-word
-  step-good [] w e = absurd (not-both refusals.bad-field w e)
+  step-good [] w e = absurd (not-both (line-refusals .bad-field) w e)
   step-good (mark ∷ name) w e =
       let kind = byte-at mark marks in
-      let (k, r) = required (ltb kind 5) refusals.bad-field (λ _. step-from kind (used-name (names-of y kind) name)) w e in
+      let (k, r) = required (ltb kind 5) (line-refusals .bad-field) (λ _. step-from kind (used-name (names-of y kind) name)) w e in
       let (index, u, v) = followed (used-name (names-of y kind) name) (λ index. accept (256 * kind + index)) w r in
       let g = word-good kind index (ltb-true kind 5 k) (used-below (names-of y kind) name index u) in
       subst (λ (x : ℕ). good-step (length (y .fluents)) (length (y .actions)) x ≡ true) (same-value v) g

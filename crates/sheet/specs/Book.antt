@@ -5,16 +5,12 @@ use lib.ListN.{length, replicate}
 use Rattle.steps.specs.State.{State}
 
 -- Fluents and actions share one space of names and are numbered from 0 in order: a name's number is its place.
-pub record Symbols : Type 0 where
-  pub fluents : List (List ℕ)
-  pub actions : List (List ℕ)
+abbrev pub Symbols : Type 0
+Symbols = record { fluents : List (List ℕ); actions : List (List ℕ) }
 
 -- What a sheet says: the names, each rule as its 18 words, the start and the goal's step words.
-pub record Book : Type 0 where
-  pub names : Symbols
-  pub rules : List (List ℕ)
-  pub start : State
-  pub goal : List ℕ
+abbrev pub Book : Type 0
+Book = record { names : Symbols; rules : List (List ℕ); start : State; goal : List ℕ }
 
 -- The 16 step words of a body, unused ones zero.
 abbrev pub padded : List ℕ → List ℕ

@@ -3,7 +3,7 @@ use Prim.Native.Nat.{ℕ, _+_, _*_}
 use mathlib.Core.Bool.{Bool, true, cond, not, _&&_}
 use mathlib.Core.List.{List, [], _∷_, _++_}
 use lib.Dec.{ltb, eqb}
-use Rattle.refusals.specs.Refusals as refusals
+use Rattle.refusals.specs.Sheet.{line-refusals}
 use Rattle.steps.specs.State.{State, holds, added}
 use Rattle.chars.specs.Bytes.{text, is-name}
 use Rattle.chars.specs.Places.{place, among, byte-at}
@@ -13,9 +13,9 @@ use Rattle.sheet.specs.Book.{Symbols}
 -- A field of a line, by 14, 15, 16: whether it is a name or step, whether it is no repetition, whether what it uses is defined.
 abbrev pub judged : {A : Type 0} → Bool → Bool → Bool → A → Verdict A
 judged formed fresh defined a = do
-  _ ← require formed refusals.bad-field
-  _ ← require fresh refusals.repeated
-  _ ← require defined refusals.undefined
+  _ ← require formed (line-refusals .bad-field)
+  _ ← require fresh (line-refusals .repeated)
+  _ ← require defined (line-refusals .undefined)
   accept a
 
 -- A name that a line defines.
@@ -32,8 +32,7 @@ used-name names f = judged (is-name f) true (among f names) (place f names)
 unfoldable pub start-name : Symbols → State → List ℕ → Verdict State
 unfolding is-name place
 start-name b state f =
-    judged (is-name f) (not (among f (b .fluents) && holds state (place f (b .fluents)))) (among f (b .fluents))
-    (added state (place f (b .fluents)))
+    judged (is-name f) (not (among f (b .fluents) && holds state (place f (b .fluents)))) (among f (b .fluents)) (added state (place f (b .fluents)))
 
 -- The state in which all names of `start` hold, fields from the left.
 unfoldable pub start-names : Symbols → State → List (List ℕ) → Verdict State
@@ -55,9 +54,9 @@ names-of b kind = cond (eqb kind 3) (b .actions) (b .fluents)
 -- Step: a word, 256 times kind plus index.
 unfoldable pub step-word : Symbols → List ℕ → Verdict ℕ
 unfolding byte-at used-name
-step-word b [] = refuse refusals.bad-field
+step-word b [] = refuse (line-refusals .bad-field)
 step-word b (mark ∷ name) = do
-  _ ← require (ltb (byte-at mark marks) 5) refusals.bad-field
+  _ ← require (ltb (byte-at mark marks) 5) (line-refusals .bad-field)
   index ← used-name (names-of b (byte-at mark marks)) name
   accept (256 * byte-at mark marks + index)
 

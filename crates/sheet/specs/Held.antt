@@ -6,9 +6,9 @@ use mathlib.Core.List.{List, [], _∷_}
 use lib.Dec.{leb, ltb, eqb}
 use lib.ListN.{length, getD, take, drop, set, replicate}
 use lib.Seq.{slice}
-use Rattle.refusals.specs.Refusals as refusals
+use Rattle.refusals.specs.Sheet.{line-refusals}
 use Rattle.chars.specs.Inner.{fields-from}
-use Rattle.steps.specs.Words.{rule-width}
+use Rattle.steps.specs.Widths.{rule-width}
 use Rattle.sheet.specs.declared.Span.{Span}
 use Rattle.sheet.specs.declared.names.Names.{Names}
 use Rattle.sheet.specs.declared.fields.Body.{Body}
@@ -35,9 +35,9 @@ in-order stage w = ltb (row w) 5 && leb stage (row w)
 unfoldable pub line-head : Reading → Word → ℕ → Verdict (Unit {0})
 unfolding overfull
 line-head r w n = do
-  _ ← require (in-order (r .stage) w) refusals.bad-word
-  _ ← require (not (overfull (r .book) w n)) refusals.too-many
-  require (not (miscounted w n)) refusals.bad-field
+  _ ← require (in-order (r .stage) w) (line-refusals .bad-word)
+  _ ← require (not (overfull (r .book) w n)) (line-refusals .too-many)
+  require (not (miscounted w n)) (line-refusals .bad-field)
 
 -- A line whose head passed, by its word and the fields after it.
 abbrev pub recorded : Reading → Word → List (List ℕ) → Verdict Reading

@@ -4,7 +4,7 @@ use mathlib.Core.Bool.{Bool, false, cond, not, _&&_, _||_}
 use mathlib.Core.List.{List, [], _∷_, _++_}
 use lib.ListN.{length, getD, drop}
 use lib.Dec.{leb, ltb, eqb}
-use Rattle.refusals.specs.Refusals as refusals
+use Rattle.refusals.specs.Sheet.{line-refusals}
 use Rattle.chars.specs.Bytes.{text, HASH, begins}
 use Rattle.chars.specs.Pieces.{fields, bare}
 use Rattle.chars.specs.Places.{same}
@@ -36,10 +36,8 @@ row Other = 5
 
 -- The reading of the lines so far: what they say, the place of the first word of the row that the next line may have, and whether a `start`
 -- stood above.
-pub record Reading : Type 0 where
-  pub book : Book
-  pub stage : ℕ
-  pub started : Bool
+abbrev pub Reading : Type 0
+Reading = record { book : Book; stage : ℕ; started : Bool }
 
 -- Before the first line nothing is said.
 abbrev pub empty : Reading
@@ -86,15 +84,15 @@ record-line b Start fs = do
 record-line b Goal fs = do
   steps ← step-words (b .names) fs
   accept (with-goal b steps)
-record-line b Other fs = refuse refusals.bad-word
+record-line b Other fs = refuse (line-refusals .bad-word)
 
 -- A line by its word and the fields after it: 13, 17 and the count part of 14 come first, then fields from the left. A record word is not out
 -- of order where no line above has a word later in the row, and no `start` or `goal` is the second.
 abbrev pub line-of : Reading → Word → List (List ℕ) → Verdict Reading
 line-of r w fs = do
-  _ ← require (ltb (row w) 5 && leb (r .stage) (row w)) refusals.bad-word
-  _ ← require (not (overfull (r .book) w (length fs))) refusals.too-many
-  _ ← require (not (miscounted w (length fs))) refusals.bad-field
+  _ ← require (ltb (row w) 5 && leb (r .stage) (row w)) (line-refusals .bad-word)
+  _ ← require (not (overfull (r .book) w (length fs))) (line-refusals .too-many)
+  _ ← require (not (miscounted w (length fs))) (line-refusals .bad-field)
   book ← record-line (r .book) w fs
   accept (after r w book)
 

@@ -4,7 +4,7 @@ use mathlib.Core.Bool.{Bool, cond, _&&_, _||_}
 use mathlib.Core.List.{List, [], _∷_}
 use lib.ListN.{length, getD}
 use lib.Dec.{leb, eqb}
-use Rattle.refusals.specs.Refusals as refusals
+use Rattle.refusals.specs.Sheet.{sheet-refusals}
 use Rattle.chars.specs.Bytes.{LF, clean}
 use Rattle.chars.specs.Pieces.{lines}
 use Rattle.sheet.specs.Verdict.{Verdict, refuse, accept, _>>=_, require}
@@ -19,9 +19,9 @@ ended s = eqb (length s) 0 || eqb (getD s (length s - 1) 0) LF
 unfoldable pub whole-sheet : List ℕ → Verdict (Unit {0})
 unfolding clean ended
 whole-sheet s = do
-  _ ← require (leb (length s) 65536) refusals.too-long
-  _ ← require (clean s) refusals.bad-byte
-  require (ended s) refusals.not-ended
+  _ ← require (leb (length s) 65536) (sheet-refusals .too-long)
+  _ ← require (clean s) (sheet-refusals .bad-byte)
+  require (ended s) (sheet-refusals .not-ended)
 
 -- A refusal and its line, or the book.
 pub data Outcome : Type 0 where
@@ -30,7 +30,7 @@ pub data Outcome : Type 0 where
 
 -- Sheet's end: no `start` or no `goal`.
 unfoldable pub at-end : Reading → Outcome
-at-end r = cond (r .started && eqb (r .stage) 5) (written (r .book)) (refused refusals.incomplete 0)
+at-end r = cond (r .started && eqb (r .stage) 5) (written (r .book)) (refused (sheet-refusals .incomplete) 0)
 
 -- Lines go from the top, the next of them numbered n; then the sheet's end.
 unfoldable pub read-lines : ℕ → Reading → List (List ℕ) → Outcome

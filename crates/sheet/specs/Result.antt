@@ -4,9 +4,9 @@ use mathlib.Core.Bool.{Bool, cond}
 use mathlib.Core.List.{List, [], _++_}
 use lib.ListN.{length, drop}
 use lib.Dec.{ltb}
-use Rattle.refusals.specs.Refusals as refusals
+use Rattle.refusals.specs.Sheet.{sheet-refusals}
 use Rattle.steps.specs.State.{State}
-use Rattle.steps.specs.Words.{rule-width}
+use Rattle.steps.specs.Widths.{rule-width}
 use Rattle.sheet.specs.declared.Sheet.{Sheet}
 use Rattle.sheet.specs.Book.{Book, padded, joined}
 use Rattle.sheet.specs.Reader.{Outcome, refused, written}
@@ -29,7 +29,7 @@ short room b = ltb room (rule-width * length (b .rules))
 -- The result, where `room` rule words are lent.
 unfoldable pub result-of : ℕ → Outcome → Sheet
 result-of room (refused number line) = refusal number line
-result-of room (written b) = cond (short room b) (refusal refusals.no-room 0) (accepted b)
+result-of room (written b) = cond (short room b) (refusal (sheet-refusals .no-room) 0) (accepted b)
 
 -- The list lent, as it is afterwards: refusals leave it unchanged, and past the last rule it is unchanged.
 unfoldable pub rules-after : List ℕ → Outcome → List ℕ

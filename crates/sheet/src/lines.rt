@@ -6,7 +6,7 @@ ghost use lib.ListN.{length, take, drop};
 ghost use lib.Seq.{slice};
 ghost use Rattle.chars.specs.Pieces.{lines};
 ghost use Rattle.chars.specs.Inner.{fields-from};
-ghost use Rattle.steps.specs.Words.{rule-width};
+ghost use Rattle.steps.specs.Widths.{rule-width};
 ghost use Rattle.sheet.specs.Line.{empty, word-of, row, overfull, miscounted, plain-line, line};
 ghost use Rattle.sheet.specs.Reader.{read-lines};
 ghost use Rattle.sheet.specs.Held.{line-head, Kept, Answers, Reads, answer, recorded, book-in, reading-in, begun};

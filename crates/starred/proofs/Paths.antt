@@ -16,10 +16,10 @@ use Rattle.records.specs.Records.{follow, follows, justified}
 use Rattle.checks.specs.Checks.{over-room, good-call, good-calls, all-justified, bad-records}
 use Rattle.unfolding.specs.Path.{shown, adds, walked, below, path-of}
 use Rattle.unfolding.specs.States.{states}
-use Rattle.path.specs.Outcome.{Handed, fault, call-records, answer-records, states-of, too-short, path-refusal, state-count, list-after}
+use Rattle.path.specs.Answered.{Handed, fault, call-records, answer-records, states-of, too-short, path-refusal, state-count, list-after}
 use Rattle.path.proofs.OutcomeLaws.{sane, path-executed}
 use Rattle.path.proofs.FinishedLaws.{finished-sound}
-use Rattle.starred.specs.Drills.{Shown, Drill, run, handed-of, GoalAnswer, Shows, word, _⟵_, drill, path, drills, denials}
+use Rattle.starred.specs.Drills.{DrillPath, Drill, run, handed-of, GoalAnswer, Shows, word, _⟵_, drill, path, drills, denials}
 use Rattle.starred.proofs.ListTests.{both, both-l, both-r, every, every-at}
 use Rattle.starred.proofs.Certified.{CallRow, certified, separate, closed, justified as grounded, reached, owned, kept, apart, some-place, every-place, ends-at, comes-at, call-row, call-same, answer-row, places, bodies, next}
 use Rattle.starred.proofs.RunTables.{of-run, finished}
@@ -52,7 +52,7 @@ module _ (l m : Handed) (x y : ℕ) (list : List ℕ) (e : fault l x ≡ 0) (f :
   unfolding list-after
   same-after = rw (same-refusal, s) refl
 
-module _ (d : Drill) (p : Shown) where
+module _ (d : Drill) (p : DrillPath) where
   -- what is lent with the tables of the row, and the call of the record asked for
   abbrev own : Handed
   own = handed-of d (p .calls) (p .answers)
@@ -135,7 +135,7 @@ pass : T (every all-right (drills ++ denials))
 unfolding all-right right only-path only behind of-run rows certified separate apart closed every-place kept grounded some-place ends-at reached comes-at owned call-row answer-row places bodies next rules-from same drills denials drill path _⟵_ word path-refusal state-count list-after fault too-short words-refusal bad-counts bad-length bad-rules bad-goal good-rule good-word good-step each-below over-room bad-records good-calls good-call all-justified bad-state justified follows follow elementary step-by path-of below walked adds shown
 pass = tt
 
-module _ (d : Drill) (m : List·Memᴰ d (drills ++ denials)) (p : Shown) (k : List·Memᴰ p (d .paths)) where
+module _ (d : Drill) (m : List·Memᴰ d (drills ++ denials)) (p : DrillPath) (k : List·Memᴰ p (d .paths)) where
   passed : T (right d p)
   unfolding all-right
   passed = every-at (right d) (every-at all-right pass m) k

@@ -9,12 +9,12 @@ use Rattle.steps.specs.Acceptance.{each-below}
 use Rattle.steps.proofs.EachBelow.{each-at}
 use Rattle.records.specs.Records.{Calls, Answers, justified, call-width, answer-width}
 use Rattle.records.specs.Finished.{call-rows, answer-rows, Finished}
-use Rattle.path.specs.Outcome.{call-records, answer-records, bodies}
-use Rattle.starred.specs.Drills.{Shown, Drill, run, handed-of}
+use Rattle.path.specs.Answered.{call-records, answer-records, bodies}
+use Rattle.starred.specs.Drills.{DrillPath, Drill, run, handed-of}
 use Rattle.starred.proofs.ListTests.{both-l, both-r, holds-true, distinct, distinct-of}
 use Rattle.starred.proofs.Certified.{CallRow, AnswerRow, call-row, answer-row, call-row-refl, answer-row-refl, certified, certified-exact}
 
-module _ (d : Drill) (p : Shown) where
+module _ (d : Drill) (p : DrillPath) where
   abbrev calls : Calls
   calls = call-records (handed-of d (p .calls) (p .answers))
 

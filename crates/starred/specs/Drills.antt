@@ -13,11 +13,11 @@ use Rattle.steps.specs.Words.{run-of}
 use Rattle.steps.specs.Acceptance.{refusal-of}
 use Rattle.records.specs.Finished.{Finished}
 use Rattle.checks.specs.Checks.{over-room}
-use Rattle.path.specs.Outcome.{Handed, call-records, answer-records, fault, path-refusal, state-count, list-after}
+use Rattle.path.specs.Answered.{Handed, call-records, answer-records, fault, path-refusal, state-count, list-after}
 
 -- A path of a row: words of both tables, the answer record asked for and the list lent; then the refusal, the count of states and the list
 -- afterwards, which are the same for all tables of the row's run.
-pub record Shown : Type 0 where
+pub record DrillPath : Type 0 where
   pub calls : List ℕ
   pub answers : List ℕ
   pub asked : ℕ
@@ -37,7 +37,7 @@ pub record Drill : Type 0 where
   pub ends : List State
   pub calls : ℕ
   pub answers : ℕ
-  pub paths : List Shown
+  pub paths : List DrillPath
 
 abbrev pub run : Drill → Run
 run d = run-of (d .rules) (d .goal) (d .start)
@@ -64,7 +64,7 @@ pub record GoalAnswer (d : Drill) (calls answers : List ℕ) (x : ℕ) : Type 0 
   pub state : call-records (handed-of d calls answers) .state (answer-records (handed-of d calls answers) .call x) ≡ d .start
 
 -- What a path of a row says of such tables: what is lent meets none of 20 to 23 and 40 to 42, and this is the result of the path.
-pub record Shows (d : Drill) (p : Shown) (calls answers : List ℕ) (x : ℕ) : Type 0 where
+pub record Shows (d : Drill) (p : DrillPath) (calls answers : List ℕ) (x : ℕ) : Type 0 where
   pub sound : fault (handed-of d calls answers) x ≡ 0
   pub refusal : path-refusal (handed-of d calls answers) x (p .list) ≡ p .refusal
   pub count : state-count (handed-of d calls answers) x (p .list) ≡ p .count
@@ -82,8 +82,8 @@ pub record Holds (d : Drill) : Type 0 where
   pub calls : Counts (Call (run d)) (d .calls)
   pub answers : Counts (Answer (run d)) (d .answers)
   -- Each path is shown of all tables of a finished run, and those that stand in the row are some.
-  pub tables : (p : Shown) → List·Memᴰ p (d .paths) → GoalAnswer d (p .calls) (p .answers) (p .asked)
-  pub paths : (p : Shown) → List·Memᴰ p (d .paths) → {calls answers : List ℕ} {x : ℕ} → GoalAnswer d calls answers x → Shows d p calls answers x
+  pub tables : (p : DrillPath) → List·Memᴰ p (d .paths) → GoalAnswer d (p .calls) (p .answers) (p .asked)
+  pub paths : (p : DrillPath) → List·Memᴰ p (d .paths) → {calls answers : List ℕ} {x : ℕ} → GoalAnswer d calls answers x → Shows d p calls answers x
 
 -- ---- steps and rules in their words
 
@@ -99,7 +99,7 @@ unfoldable pub _⟵_ : ℕ → Body → List ℕ
 unfolding word
 head ⟵ body = head ∷ length body ∷ map word body ++ replicate (16 - length body) 0
 
-unfoldable pub drill : ℕ → ℕ → List ℕ → State → Body → List State → ℕ → ℕ → List Shown → Drill
+unfoldable pub drill : ℕ → ℕ → List ℕ → State → Body → List State → ℕ → ℕ → List DrillPath → Drill
 unfolding word
 drill f a r s g e c m p = record { fluents = f; actions = a; rules = r; start = s; goal = map word g; ends = e; calls = c; answers = m; paths = p }
 
@@ -112,7 +112,7 @@ called action state = action ∷ state ∷ []
 abbrev answered : ℕ → State → ℕ → List ℕ → List ℕ
 answered row final rule evidence = row ∷ final ∷ rule ∷ evidence ++ replicate (16 - length evidence) 0
 
-unfoldable pub path : List ℕ → List ℕ → ℕ → List ℕ → ℕ → ℕ → List ℕ → Shown
+unfoldable pub path : List ℕ → List ℕ → ℕ → List ℕ → ℕ → ℕ → List ℕ → DrillPath
 path c m x l r n a = record { calls = c; answers = m; asked = x; list = l; refusal = r; count = n; after = a }
 
 -- the tables of D9: the calls are the goal, q and p, the answers those of p, q and the goal

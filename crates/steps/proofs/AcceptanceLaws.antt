@@ -12,12 +12,13 @@ use lib.Pow.{pow-pos}
 use lib.Seq.{getD-take, getD-drop}
 use lib.Dec.{eqb, ltb}
 use borrow.Author.Tests.{lt-ltb, ltb-true, ltb-false, eqb-true, not-false}
-use Rattle.refusals.specs.Refusals as refusals
+use Rattle.refusals.specs.Run.{run-refusals}
 use Rattle.steps.specs.State.{State, holds, added, removed}
 use Rattle.steps.specs.Step.{Step, query, insert, delete, call, deny, Body, Rule, Book}
 use Rattle.steps.specs.Deduction.{ComesToCall, _⊢_, Move, queries, inserts, deletes, calls, denies, Deduction, done, move}
 use Rattle.steps.specs.Run.{Goal}
-use Rattle.steps.specs.Words.{step-by, step-of, body-of, head-of, count-of, words-of, book-of, run-of, rule-width}
+use Rattle.steps.specs.Words.{step-by, step-of, body-of, head-of, count-of, words-of, book-of, run-of}
+use Rattle.steps.specs.Widths.{rule-width}
 use Rattle.steps.specs.Acceptance.{good-step, good-word, good-rule, bad-counts, bad-length, bad-rules, bad-goal, bad-state, words-refusal, refusal-of}
 use Rattle.steps.proofs.StateLaws.{room, not-held}
 use Rattle.steps.proofs.EachBelow.{both, each-at, true-not-false}
@@ -70,10 +71,10 @@ rule-good fluents actions rules r e =
 pub accepted : (fluents actions : ℕ) (rules goal : List ℕ) → words-refusal fluents actions rules goal ≡ 0 → AcceptedWords fluents actions rules goal
 unfolding words-refusal bad-counts bad-length bad-rules bad-goal
 accepted fluents actions rules goal e =
-    let (c, e₁) = next-test (bad-counts fluents actions) refusals.bad-counts _ (λ z. omega arith) e in
-    let (l, e₂) = next-test (bad-length rules) refusals.bad-length _ (λ z. omega arith) e₁ in
-    let (r, e₃) = next-test (bad-rules fluents actions rules) refusals.bad-rule _ (λ z. omega arith) e₂ in
-    let (g, e₄) = next-test (bad-goal fluents actions goal) refusals.bad-goal 0 (λ z. omega arith) e₃ in
+    let (c, e₁) = next-test (bad-counts fluents actions) (run-refusals .bad-counts) _ (λ z. omega arith) e in
+    let (l, e₂) = next-test (bad-length rules) (run-refusals .bad-length) _ (λ z. omega arith) e₁ in
+    let (r, e₃) = next-test (bad-rules fluents actions rules) (run-refusals .bad-rule) _ (λ z. omega arith) e₂ in
+    let (g, e₄) = next-test (bad-goal fluents actions goal) (run-refusals .bad-goal) 0 (λ z. omega arith) e₃ in
     let (cf, ca) = neither (ltb 64 fluents) (ltb 64 actions) c in
     let (lw, lf) = neither (not (eqb (length rules % rule-width) 0)) (ltb 256 (length rules / rule-width)) l in
     let (gs, ge) = neither (ltb 16 (length goal)) _ g in
@@ -95,7 +96,7 @@ pub words-accepted : (fluents actions : ℕ) (rules goal : List ℕ) (start : �
 unfolding refusal-of
 words-accepted fluents actions rules goal start e = by (eqb (words-refusal fluents actions rules goal) 0) refl e
   where
-    by : (b : Bool) → eqb (words-refusal fluents actions rules goal) 0 ≡ b → cond b (cond (bad-state fluents start) refusals.bad-start 0) (words-refusal fluents actions rules goal) ≡ 0
+    by : (b : Bool) → eqb (words-refusal fluents actions rules goal) 0 ≡ b → cond b (cond (bad-state fluents start) (run-refusals .bad-start) 0) (words-refusal fluents actions rules goal) ≡ 0
         → words-refusal fluents actions rules goal ≡ 0
     by true z e = eqb-true (words-refusal fluents actions rules goal) 0 z
     by false z e = e
@@ -106,7 +107,7 @@ pub start-accepted : (fluents actions : ℕ) (rules goal : List ℕ) (start : �
 unfolding refusal-of bad-state
 start-accepted fluents actions rules goal start e =
     let z = words-accepted fluents actions rules goal start e in
-    let (s, _) = next-test (bad-state fluents start) refusals.bad-start 0 (λ z. omega arith) (rw z at e) in
+    let (s, _) = next-test (bad-state fluents start) (run-refusals .bad-start) 0 (λ z. omega arith) (rw z at e) in
     let q : start / 2 ^ fluents ≡ 0 = eqb-true (start / 2 ^ fluents) 0 (not-false _ s) in
     (accepted fluents actions rules goal z, omega (arith, div-lt-iff-lt-mul {k = 2 ^ fluents} {x = start} {y = 1} (pow-pos fluents) .0 (omega arith)))
 

@@ -12,7 +12,9 @@ use borrow.Author.Tests.{lt-ltb, eqb-true, eqb-false}
 use Rattle.steps.specs.State.{State, holds, added}
 use Rattle.steps.specs.Step.{Step, query, insert, delete, call, deny, Body, Rule, Book}
 use Rattle.steps.specs.Deduction.{_⊢_, Move}
-use Rattle.steps.specs.Words.{is-call, step-by, step-of, count-of, words-of, rule-of, rules-from, book-of, rule-width}
+use Rattle.steps.specs.Words.{step-by, step-of, count-of, words-of, rules-from, book-of}
+use Rattle.steps.specs.Widths.{rule-width}
+use Rattle.steps.specs.Inner.{is-call, rule-of}
 use Rattle.steps.specs.Elementary.{on, stuck, elementary}
 use Rattle.steps.proofs.Lists.{at-member}
 use Rattle.steps.proofs.Deductions.{Does, asks, adds, drops, lacks, does-move, move-does}

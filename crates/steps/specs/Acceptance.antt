@@ -4,8 +4,9 @@ use mathlib.Core.Bool.{Bool, true, cond, not, _&&_, _||_}
 use mathlib.Core.List.{List}
 use lib.ListN.{getD, length}
 use lib.Dec.{eqb, ltb}
-use Rattle.refusals.specs.Refusals as refusals
-use Rattle.steps.specs.Words.{kind-of, index-of, is-call, head-of, count-of, rule-width}
+use Rattle.refusals.specs.Run.{run-refusals}
+use Rattle.steps.specs.Words.{kind-of, index-of, head-of, count-of}
+use Rattle.steps.specs.Widths.{rule-width}
 
 -- The test holds of each number below n.
 unfoldable pub each-below : ℕ → (ℕ → Bool) → Bool
@@ -14,7 +15,7 @@ each-below (suc n) p = each-below n p && p n
 
 -- A good step: its kind is one of the five, and its index is below the count of fluents (of actions for a call).
 unfoldable pub good-step : ℕ → ℕ → ℕ → Bool
-good-step fluents actions w = ltb (kind-of w) 5 && ltb (index-of w) (cond (is-call w) actions fluents)
+good-step fluents actions w = ltb (kind-of w) 5 && ltb (index-of w) (cond (eqb (kind-of w) 3) actions fluents)
 
 -- Step word i of a rule with n steps is a good step, or unused and 0.
 unfoldable pub good-word : ℕ → ℕ → ℕ → ℕ → ℕ → Bool
@@ -22,9 +23,8 @@ good-word fluents actions n i w = cond (ltb i n) (good-step fluents actions w) (
 
 -- Rule r: its head is an action, its count is at most 16, and its 16 step words are good.
 unfoldable pub good-rule : ℕ → ℕ → List ℕ → ℕ → Bool
-good-rule fluents actions rules r =
-    ltb (head-of rules r) actions
-    && (ltb (count-of rules r) 17 && each-below 16 (λ i. good-word fluents actions (count-of rules r) i (getD rules (rule-width * r + 2 + i) 0)))
+good-rule fluents actions rules r = ltb (head-of rules r) actions && (ltb (count-of rules r) 17
+    && each-below 16 (λ i. good-word fluents actions (count-of rules r) i (getD rules (rule-width * r + 2 + i) 0)))
 
 -- 20: over 64 fluents or over 64 actions
 unfoldable pub bad-counts : ℕ → ℕ → Bool
@@ -48,14 +48,12 @@ bad-state fluents s = not (eqb (s / 2 ^ fluents) 0)
 
 -- The first of 20 to 23 that is met, down the table, or 0.
 unfoldable pub words-refusal : ℕ → ℕ → List ℕ → List ℕ → ℕ
-words-refusal fluents actions rules goal =
-    cond (bad-counts fluents actions) refusals.bad-counts
-    (cond (bad-length rules) refusals.bad-length
-    (cond (bad-rules fluents actions rules) refusals.bad-rule
-    (cond (bad-goal fluents actions goal) refusals.bad-goal
-    0)))
+words-refusal fluents actions rules goal = cond (bad-counts fluents actions) (run-refusals .bad-counts)
+    (cond (bad-length rules) (run-refusals .bad-length)
+    (cond (bad-rules fluents actions rules) (run-refusals .bad-rule)
+    (cond (bad-goal fluents actions goal) (run-refusals .bad-goal) 0)))
 
 -- The first of 20 to 24 that is met, down the table, or 0. "Rules, goal and start are accepted if they meet none of 20 to 24."
 unfoldable pub refusal-of : ℕ → ℕ → List ℕ → List ℕ → ℕ → ℕ
-refusal-of fluents actions rules goal start =
-    let refusal = words-refusal fluents actions rules goal in cond (eqb refusal 0) (cond (bad-state fluents start) refusals.bad-start 0) refusal
+refusal-of fluents actions rules goal start = let refusal = words-refusal fluents actions rules goal in
+    cond (eqb refusal 0) (cond (bad-state fluents start) (run-refusals .bad-start) 0) refusal

@@ -1,7 +1,7 @@
 -- States, and what an update makes of one (document 01, "What the logic says"). Assumes nothing.
 use Prim.Native.Nat.{ℕ, _+_, _-_, _/_, _%_, _^_}
 use mathlib.Core.Bool.{Bool, cond}
-use lib.Dec.{eqb, ltb}
+use lib.Dec.{eqb}
 
 -- "A state is a set of at most 64 fluents, held as an unsigned 64-bit number": that it has no more bits is what acceptance gives.
 abbrev pub State : Type 0
@@ -22,7 +22,3 @@ added s k = cond (holds s k) s (s + 2 ^ k)
 -- "The state with p removed", also where p did not hold.
 abbrev pub removed : State → ℕ → State
 removed s k = cond (holds s k) (s - 2 ^ k) s
-
--- What the code makes of an insert of any number: a 64-bit state has no fluent from 64 on, and is handed back as it is.
-abbrev pub inserted : State → ℕ → State
-inserted s k = cond (ltb k 64) (added s k) s

@@ -1,12 +1,11 @@
 -- The words lent to the evaluator, as steps, bodies and rules (document 01, "Words lent to the evaluator"). Assumes nothing.
 use Prim.Native.Nat.{ℕ, zero, suc, _+_, _*_, _/_, _%_}
-use mathlib.Core.Bool.{Bool}
 use mathlib.Core.List.{List, [], _∷_, map}
 use lib.ListN.{getD, take, drop, length}
-use lib.Dec.{eqb}
 use Rattle.steps.specs.State.{State}
-use Rattle.steps.specs.Step.{Step, query, insert, delete, call, deny, Body, Rule, Book}
+use Rattle.steps.specs.Step.{Step, query, insert, delete, call, deny, Body, Book}
 use Rattle.steps.specs.Run.{Run}
+use Rattle.steps.specs.Widths.{rule-width}
 
 -- "Step: a 16-bit word, 256 times kind plus index."
 abbrev pub kind-of : ℕ → ℕ
@@ -14,10 +13,6 @@ kind-of w = w / 256
 
 abbrev pub index-of : ℕ → ℕ
 index-of w = w % 256
-
--- A word of kind 3 is a call.
-abbrev pub is-call : ℕ → Bool
-is-call w = eqb (kind-of w) 3
 
 -- "Kinds: 0 query, 1 insert, 2 delete, 3 call"; "a fifth step, kind 4". A word of any other kind is refused, so its meaning is never used.
 unfoldable pub step-by : ℕ → ℕ → Step
@@ -35,10 +30,6 @@ step-of w = step-by (kind-of w) (index-of w)
 abbrev pub body-of : List ℕ → Body
 body-of words = map step-of words
 
--- "Rule: 18 words: head, step count, 16 step words, unused ones zero."
-abbrev pub rule-width : ℕ
-rule-width = 18
-
 -- Of rule r, its head,
 abbrev pub head-of : List ℕ → ℕ → ℕ
 head-of rules r = getD rules (rule-width * r) 0
@@ -47,18 +38,14 @@ head-of rules r = getD rules (rule-width * r) 0
 abbrev pub count-of : List ℕ → ℕ → ℕ
 count-of rules r = getD rules (rule-width * r + 1) 0
 
--- the step words that are used,
+-- and the step words that are used.
 abbrev pub words-of : List ℕ → ℕ → List ℕ
 words-of rules r = take (count-of rules r) (drop (rule-width * r + 2) rules)
-
--- and the rule itself.
-abbrev pub rule-of : List ℕ → ℕ → Rule
-rule-of rules r = record { head = head-of rules r; body = body-of (words-of rules r) }
 
 -- "Rules are numbered from 0." The n rules from number r on,
 unfoldable pub rules-from : List ℕ → ℕ → ℕ → Book
 rules-from rules r zero = []
-rules-from rules r (suc n) = rule-of rules r ∷ rules-from rules (suc r) n
+rules-from rules r (suc n) = record { head = head-of rules r; body = body-of (words-of rules r) } ∷ rules-from rules (suc r) n
 
 -- and all rules of the lent words.
 abbrev pub book-of : List ℕ → Book

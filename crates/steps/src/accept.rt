@@ -3,8 +3,9 @@ use crate::word;
 ghost use mathlib.Core.Path.{_≡_};
 ghost use Prim.Native.Nat.{_+_, _*_, _/_, _≤_};
 ghost use lib.ListN.{length, getD};
-ghost use Rattle.steps.specs.Acceptance.{each-below, good-step, good-word, good-rule, bad-counts, bad-length, bad-rules, bad-goal, bad-state, words-refusal, refusal-of};
-ghost use Rattle.steps.specs.Words.{rule-width};
+ghost use Rattle.steps.specs.Acceptance.{each-below, good-step, good-word, good-rule};
+ghost use Rattle.steps.specs.Acceptance.{bad-counts, bad-length, bad-rules, bad-goal, bad-state, words-refusal, refusal-of};
+ghost use Rattle.steps.specs.Widths.{rule-width};
 
 // Whether a step word is a step of these fluents and actions.
 pub fn good_step(fluents: u64, actions: u64, step: u16) -> bool

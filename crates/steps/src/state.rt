@@ -1,7 +1,8 @@
 // States by value, and calls.
 ghost use mathlib.Core.Path.{_≡_};
 ghost use Rattle.steps.specs.Run.{Goal};
-ghost use Rattle.steps.specs.State.{holds, inserted, removed};
+ghost use Rattle.steps.specs.State.{holds, removed};
+ghost use Rattle.steps.specs.Inner.{inserted};
 
 // A set of at most 64 fluents: fluent k holds exactly if bit k is set.
 pub struct State(pub u64);

@@ -1,7 +1,8 @@
 // Step words: their kinds and indices, and the one elementary step.
 use crate::state::State;
 ghost use mathlib.Core.Path.{_≡_};
-ghost use Rattle.steps.specs.Words.{kind-of, index-of, is-call, step-of};
+ghost use Rattle.steps.specs.Words.{kind-of, index-of, step-of};
+ghost use Rattle.steps.specs.Inner.{is-call};
 ghost use Rattle.steps.specs.Elementary.{elementary};
 ghost use Rattle.steps.specs.Next.{onward};
 

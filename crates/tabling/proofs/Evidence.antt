@@ -9,7 +9,8 @@ use lib.ListN.{length, getD, drop, drop-of-length-le}
 use lib.Seq.{drop-cons}
 use Rattle.steps.specs.State.{State}
 use Rattle.steps.specs.Step.{Step, query, insert, delete, call, deny, Body}
-use Rattle.steps.specs.Words.{step-of, body-of, is-call}
+use Rattle.steps.specs.Words.{step-of, body-of}
+use Rattle.steps.specs.Inner.{is-call}
 use Rattle.steps.specs.Elementary.{Onward, on, stuck, elementary}
 use Rattle.steps.proofs.WordLaws.{call-word, elementary-does}
 use Rattle.steps.proofs.Deductions.{Does}

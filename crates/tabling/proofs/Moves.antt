@@ -6,7 +6,8 @@ use mathlib.Core.List.{List}
 use lib.ListN.{getD}
 use Rattle.steps.specs.State.{State}
 use Rattle.steps.specs.Step.{Step, query, insert, delete, call, deny}
-use Rattle.steps.specs.Words.{step-of, is-call}
+use Rattle.steps.specs.Words.{step-of}
+use Rattle.steps.specs.Inner.{is-call}
 use Rattle.steps.specs.Elementary.{Onward, on, stuck, elementary}
 use Rattle.steps.proofs.WordLaws.{call-word, no-call, not-on}
 use Rattle.records.proofs.Growth.{Tables}

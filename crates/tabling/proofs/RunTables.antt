@@ -10,7 +10,9 @@ use Rattle.steps.specs.State.{State}
 use Rattle.steps.specs.Step.{Body, Rule}
 use Rattle.steps.specs.Run.{Run, Goal, Call, Answer}
 use Rattle.steps.specs.Counting.{Outnumbers}
-use Rattle.steps.specs.Words.{body-of, head-of, rule-of, run-of, rule-width}
+use Rattle.steps.specs.Words.{body-of, head-of, run-of}
+use Rattle.steps.specs.Widths.{rule-width}
+use Rattle.steps.specs.Inner.{rule-of}
 use Rattle.steps.proofs.WordLaws.{book-member, rule-member}
 use Rattle.steps.proofs.AcceptanceLaws.{AcceptedWords, separate}
 use Rattle.steps.proofs.Counting.{outnumbers-map}

@@ -10,7 +10,8 @@ use lib.Dec.{eqb}
 use borrow.Author.Tests.{eqb-true, eqb-false}
 use Rattle.steps.specs.State.{State}
 use Rattle.steps.proofs.EachBelow.{true-not-false}
-use Rattle.steps.specs.Words.{step-of, is-call}
+use Rattle.steps.specs.Words.{step-of}
+use Rattle.steps.specs.Inner.{is-call}
 use Rattle.unfolding.specs.Path.{adds}
 use Rattle.unfolding.proofs.Walk.{Checked, LeadsTo, leads-below, adds-call, words-at, step-at, evidence-at, added-by, start-at, Stands, left, stands-next, left-first, left-next, left-end}
 use Rattle.unfolding.proofs.Sizes.{Sized, Turned, turned-exact}

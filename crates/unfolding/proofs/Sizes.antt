@@ -10,7 +10,8 @@ use lib.Seq.{getD-take, getD-set-same, getD-set-other}
 use lib.Dec.{eqb}
 use borrow.Author.Tests.{eqb-true, eqb-false}
 use Rattle.steps.specs.State.{State}
-use Rattle.steps.specs.Words.{step-of, is-call}
+use Rattle.steps.specs.Words.{step-of}
+use Rattle.steps.specs.Inner.{is-call}
 use Rattle.unfolding.specs.Path.{shown, adds}
 use Rattle.unfolding.proofs.Walk.{LeadsTo, leads-below, adds-call, adds-shown, shown-small, words-at, step-at, evidence-at, added-by, start-at, Stands, left, stands-next, left-first, left-next, left-end}
 

@@ -12,7 +12,8 @@ use Rattle.steps.specs.State.{State}
 use Rattle.steps.specs.Step.{Step, query, insert, delete, call, deny, Body, Rule, Book}
 use Rattle.steps.specs.Deduction.{_⊢_, queries, inserts, deletes, calls as replaces, denies, Deduction, done, move, Final}
 use Rattle.steps.specs.Run.{Goal, body-of-call}
-use Rattle.steps.specs.Words.{body-of, words-of, rule-of, book-of, run-of}
+use Rattle.steps.specs.Words.{body-of, words-of, book-of, run-of}
+use Rattle.steps.specs.Inner.{rule-of}
 use Rattle.steps.specs.Elementary.{Onward, on, stuck, elementary}
 use Rattle.steps.proofs.EachBelow.{both, true-not-false}
 use Rattle.steps.proofs.WordLaws.{elementary-does, not-on, on-same, rule-member}

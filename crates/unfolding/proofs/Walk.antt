@@ -11,7 +11,8 @@ use lib.Dec.{eqb}
 use borrow.Author.Tests.{eqb-true, ne-eqb}
 use Rattle.steps.specs.State.{State}
 use Rattle.steps.specs.Step.{Step, query, insert, delete, call, deny, Body}
-use Rattle.steps.specs.Words.{step-by, step-of, body-of, is-call}
+use Rattle.steps.specs.Words.{step-by, step-of, body-of}
+use Rattle.steps.specs.Inner.{is-call}
 use Rattle.steps.specs.Elementary.{Onward, on, stuck, elementary}
 use Rattle.steps.proofs.EachBelow.{true-not-false}
 use Rattle.steps.proofs.WordLaws.{call-word, no-call, not-on}

@@ -10,7 +10,8 @@ use lib.Seq.{getD-set-same, getD-set-other, getD-append-add, getD-drop, ext-getD
 use lib.Dec.{eqb, ltb}
 use borrow.Author.Tests.{eqb-true, eqb-false, ltb-true, ltb-false}
 use Rattle.steps.specs.State.{State}
-use Rattle.steps.specs.Words.{step-of, is-call}
+use Rattle.steps.specs.Words.{step-of}
+use Rattle.steps.specs.Inner.{is-call}
 use Rattle.unfolding.specs.Path.{shown, adds}
 use Rattle.unfolding.proofs.Walk.{Checked, checked-less, LeadsTo, leads-below, adds-call, adds-shown, shown-small, shown-new, words-at, step-at, evidence-at, added-by, start-at}
 use Rattle.unfolding.proofs.Sizes.{Sized, sized-less}

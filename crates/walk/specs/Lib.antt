@@ -1,2 +1,2 @@
--- Outcome: what the functions of a walk say to one another and to `rounds`.
-pub mod Outcome
+-- Leaving: what the functions of a walk say to one another and to `rounds`.
+pub mod Leaving

@@ -16,7 +16,7 @@ ghost use mathlib.Core.Bool.{true, false};
 ghost use mathlib.Core.List.{List};
 ghost use Prim.Native.Nat.{ℕ, _+_, _-_, _*_, _<_, _≤_};
 ghost use lib.ListN.{length, getD, drop};
-ghost use Rattle.steps.specs.Words.{is-call};
+ghost use Rattle.steps.specs.Inner.{is-call};
 ghost use Rattle.records.specs.Records.{Bodies, call-table, answer-table, call-width, answer-width};
 ghost use Rattle.records.specs.Storage.{Stored};
 ghost use Rattle.records.proofs.Growth.{Tables};
@@ -27,7 +27,7 @@ ghost use Rattle.tabling.proofs.Moves.{Chosen};
 ghost use Rattle.tabling.proofs.Evidence.{Among};
 ghost use Rattle.loops.proofs.Turn.{RetreatRow, Turning, Picked};
 ghost use Rattle.loops.proofs.Going.{Kept, Indexed, WentBack, Going, in-words};
-ghost use Rattle.walk.specs.Outcome.{spot-of, past-of, Stepped, Outcome, Stays};
+ghost use Rattle.walk.specs.Leaving.{spot-of, past-of, Stepped, Leaving, Stays};
 
 // What does not change while a body is walked: its rule's number, the call record that it is of, how many answers may serve, and the
 // walk's own number; the records from `first` up to `old` were walked before, with the answers below `seen`; and whether the round has noted
@@ -450,7 +450,7 @@ pub fn turn(
         → Going bodies (Among roots) b (job .known) (job .rule) (job .row) (job .walk) (past-of job notes) (now (body .entry))
         (in-words (now (calls .entry)) n (now (answers .entry)) m) (now (marks .entry)) (now (uses .entry)) (now (chosen .entry))
         (now (rest .entry)) (spot-of spot)
-        → Outcome (r .leave) bodies (Among roots) b notes job (now (body .entry)) (length (now (calls .entry))) (length (now (answers .entry)))
+        → Leaving (r .leave) bodies (Among roots) b notes job (now (body .entry)) (length (now (calls .entry))) (length (now (answers .entry)))
         (now (chosen .entry)) (length (now (body .entry)) - length (now (rest .entry)))
         (in-words (now (calls .exit)) (r .calls) (now (answers .exit)) (r .answers)) (now (marks .exit)) (now (uses .exit)) (now (chosen .exit)))
         ⌝ }

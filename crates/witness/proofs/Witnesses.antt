@@ -11,7 +11,7 @@ use Rattle.steps.specs.Step.{Body, Book}
 use Rattle.steps.specs.Deduction.{_⊢_, queries, inserts, deletes, calls, denies, Deduction, done, move}
 use Rattle.unfolding.specs.States.{move-states, states}
 use Rattle.unfolding.proofs.Soundness.{Executed}
-use Rattle.path.specs.Outcome.{Handed, call-records, answer-records, fault, too-short, path-refusal, state-count, list-after, Answered}
+use Rattle.path.specs.Answered.{Handed, call-records, answer-records, fault, too-short, path-refusal, state-count, list-after, Answered}
 use Rattle.path.proofs.OutcomeLaws.{path-executed}
 use Rattle.entailment.specs.Execution.{execution}
 use Rattle.entailment.proofs.ExecutionLaws.{execution-first, execution-last}

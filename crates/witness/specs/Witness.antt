@@ -5,7 +5,7 @@ use mathlib.Core.List.{List, [], _∷_}
 use Rattle.steps.specs.State.{State}
 use Rattle.steps.specs.Run.{body-of-call}
 use Rattle.steps.specs.Words.{book-of, run-of}
-use Rattle.path.specs.Outcome.{Handed, call-records, answer-records, states-of}
+use Rattle.path.specs.Answered.{Handed, call-records, answer-records, states-of}
 use Rattle.entailment.specs.Path.{Path, ⟨_⟩, _▷_, first, last}
 use Rattle.entailment.specs.Entailment.{Entails}
 

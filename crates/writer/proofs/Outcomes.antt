@@ -5,14 +5,14 @@ use mathlib.Core.Path.{_≡_, refl, ap, sym, _∙_}
 use mathlib.Core.List.{List}
 use lib.ListN.{length}
 use borrow.Author.Tests.{lt-ltb, le-ltb}
-use Rattle.refusals.specs.Refusals as refusals
+use Rattle.refusals.specs.Text.{text-refusals}
 use Rattle.sheet.specs.declared.Sheet.{Sheet}
 use Rattle.sheet.specs.Book.{Book}
 use Rattle.sheet.specs.Reader.{Outcome, read-sheet, refused, written}
 use Rattle.sheet.specs.Result.{result-of, accepted}
 use Rattle.sheet.proofs.ValidSheets.{sheet-valid}
 use Rattle.sheet.proofs.RefusalNumbers.{unrefused}
-use Rattle.steps.specs.Words.{rule-width}
+use Rattle.steps.specs.Widths.{rule-width}
 use Rattle.writer.specs.Text.{text-of}
 use Rattle.writer.specs.Writer.{said, over, written-in, out-after}
 
@@ -53,7 +53,7 @@ module _ (out : List ℕ) (o : Outcome) where
 
   module _ (b : Book) (e : o ≡ written b) where
     module _ (l : length out < length (text-of b)) where
-      pub short-result : written-in (length out) o ≡ said refusals.text-short 0 0
+      pub short-result : written-in (length out) o ≡ said (text-refusals .text-short) 0 0
       unfolding written-in
       short-result = ap (written-in (length out)) e ∙ rw (lt-ltb (length out) (length (text-of b)) l) refl
 

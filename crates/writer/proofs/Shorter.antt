@@ -7,7 +7,7 @@ use mathlib.Core.List.{List, [], _∷_}
 use lib.ListN.{length}
 use lib.Dec.{eqb, leb}
 use borrow.Author.Tests.{eqb-true, leb-true, ne-eqb}
-use Rattle.refusals.specs.Refusals as refusals
+use Rattle.refusals.specs.Sheet.{sheet-refusals}
 use Rattle.chars.specs.Bytes.{LF, CR, HASH, begins, clean}
 use Rattle.chars.specs.Pieces.{piece-then, pieces, lines, bare}
 use Rattle.sheet.specs.Verdict.{Verdict, refuse, accept, _>>=_, require}
@@ -31,9 +31,9 @@ sheet-whole s b e = by (whole-sheet s) refl
 pub whole-told : (s : List ℕ) → whole-sheet s ≡ accept tt → (length s ≤ 65536) × (ended s ≡ true)
 unfolding whole-sheet
 whole-told s e =
-    let (l, r) = required (leb (length s) 65536) refusals.too-long (λ _. require (clean s) refusals.bad-byte >>= (λ _. require (ended s) refusals.not-ended)) tt e in
-    let (c, t) = required (clean s) refusals.bad-byte (λ _. require (ended s) refusals.not-ended) tt r in
-    (leb-true (length s) 65536 l, held (ended s) refusals.not-ended t)
+    let (l, r) = required (leb (length s) 65536) (sheet-refusals .too-long) (λ _. require (clean s) (sheet-refusals .bad-byte) >>= (λ _. require (ended s) (sheet-refusals .not-ended))) tt e in
+    let (c, t) = required (clean s) (sheet-refusals .bad-byte) (λ _. require (ended s) (sheet-refusals .not-ended)) tt r in
+    (leb-true (length s) 65536 l, held (ended s) (sheet-refusals .not-ended) t)
 
 -- ---- an ended sheet from its lines
 ended-tail : (x z : ℕ) (zs : List ℕ) → ended (x ∷ z ∷ zs) ≡ true → ended (z ∷ zs) ≡ true

@@ -7,7 +7,7 @@ use mathlib.Core.List.{List, [], _∷_, map}
 use lib.ListN.{length, getD, drop}
 use lib.Dec.{ltb, eqb}
 use borrow.Author.Tests.{ltb-true, eqb-true}
-use Rattle.refusals.specs.Refusals as refusals
+use Rattle.refusals.specs.Sheet.{line-refusals}
 use Rattle.steps.proofs.EachBelow.{both, true-not-false}
 use Rattle.chars.specs.Bytes.{text, TAB}
 use Rattle.chars.specs.Pieces.{piece-then, pieces, fields}
@@ -92,10 +92,10 @@ module _ (y : Symbols) (few-fluents : length (y .fluents) ≤ 64) (few-actions :
 
   pub step-is : (f : List ℕ) (w : ℕ) → step-word y f ≡ accept w → step-text y w ≡ f
   unfolding step-word
-  step-is [] w e = absurd (not-both refusals.bad-field w e)
+  step-is [] w e = absurd (not-both (line-refusals .bad-field) w e)
   step-is (mark ∷ name) w e =
       let kind = byte-at mark marks in
-      let (k, r) = required (ltb kind 5) refusals.bad-field (λ _. step-from kind (used-name (names-of y kind) name)) w e in
+      let (k, r) = required (ltb kind 5) (line-refusals .bad-field) (λ _. step-from kind (used-name (names-of y kind) name)) w e in
       let (index, u, v) = followed (used-name (names-of y kind) name) (λ index. accept (256 * kind + index)) w r in
       let few = few-names kind in
       let low = used-below (names-of y kind) name index u in

@@ -9,7 +9,7 @@ use borrow.Author.Needs.{needs}
 use borrow.Author.Tests.{eq-eqb, ne-eqb}
 use Rattle.steps.specs.Acceptance.{each-below}
 use Rattle.steps.proofs.EachBelow.{each-none, each-more, each-not}
-use Rattle.archive.specs.Outcome.{bad-bits}
+use Rattle.archive.specs.Archived.{bad-bits}
 use Rattle.archive.proofs.Counted.{last-block}
 use Rattle.archive.proofs.bad_bits.Statement.{statement}
 use Rattle.archive.proofs.bad_bits.Tie as tie

@@ -6,7 +6,7 @@ use mathlib.Core.Bool.{true, not}
 use lib.ListN.{length, getD}
 use Rattle.steps.specs.Acceptance.{each-below, bad-state}
 use Rattle.steps.proofs.EachBelow.{each-none, each-more, each-not}
-use Rattle.archive.specs.Outcome.{bad-states}
+use Rattle.archive.specs.Archived.{bad-states}
 use borrow.Author.Needs.{needs}
 use Rattle.archive.proofs.bad_states.Statement.{statement}
 use Rattle.archive.proofs.bad_states.Tie as tie

@@ -3,7 +3,7 @@ use native.Mathlib.Omega.{arith}
 use mathlib.Core.Path.{refl, sym, _∙_}
 use borrow.Author.Needs.{needs}
 use borrow.Author.Tests.{lt-ltb, le-ltb, eqb-true, not-false}
-use Rattle.archive.specs.Outcome.{restore-refusal}
+use Rattle.archive.specs.Archived.{restore-refusal}
 use Rattle.archive.proofs.restore_refusal.Statement.{statement}
 use Rattle.archive.proofs.restore_refusal.Tie as tie
 

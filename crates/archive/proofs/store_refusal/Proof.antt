@@ -7,7 +7,7 @@ use lib.ListN.{length}
 use borrow.Author.Needs.{needs}
 use borrow.Author.Tests.{lt-ltb, le-ltb}
 use Rattle.archive.specs.Archive.{blocks}
-use Rattle.archive.specs.Outcome.{store-refusal}
+use Rattle.archive.specs.Archived.{store-refusal}
 use Rattle.archive.proofs.store_refusal.Statement.{statement}
 use Rattle.archive.proofs.store_refusal.Tie as tie
 

@@ -8,7 +8,7 @@ use Rattle.steps.proofs.AcceptanceLaws.{start-accepted}
 use Rattle.steps.specs.Run.{Goal}
 use Rattle.records.specs.Records.{call-table}
 use Rattle.records.specs.Storage.{FindCall}
-use Rattle.evaluator.specs.Evaluated.{Asked, Lent, asked, lent, told, refused-with, not-accepted, no-room}
+use Rattle.evaluator.specs.Evaluated.{Asked, Lent, asked, lent, told, refused-with, not-accepted, outgrown}
 use Rattle.evaluator.proofs.Outcomes.{all-zero, zero-long, is-full, answers-once, is-short, is-listed}
 use Rattle.evaluator.proofs.evaluate.Statement.{statement}
 use Rattle.evaluator.proofs.evaluate.Tie as tie
@@ -58,7 +58,7 @@ returns-2 c =
     let F = t .tabulate .ensures in
     let calls : at-clear3 .clear3 .last .0 ≡ replicate (length (i t .args .calls .now)) 0 = at-clear3 .clear3 .ensures ∙ ap (λ (n : ℕ). replicate n 0) (F .calls-long ∙ calls-long t) in
     let answers : c .before .before .clear4 .last .0 ≡ replicate (length (i t .args .answers .now)) 0 = c .before .before .clear4 .ensures ∙ ap (λ (n : ℕ). replicate n 0) (F .answers-long ∙ answers-long t) in
-    no-room (ok t) (is-full (question (i t)) (buffers (i t)) (ok t) (calls-long t) (answers-long t) F (at-if2 .if2 .taken)) refl (λ k. lent (calls k) (answers k) (i t .args .ends .now))
+    outgrown (ok t) (is-full (question (i t)) (buffers (i t)) (ok t) (calls-long t) (answers-long t) F (at-if2 .if2 .taken)) refl (λ k. lent (calls k) (answers k) (i t .args .ends .now))
 
 find-call-requires : tie.Need-find-call-requires
 find-call-requires c κs = let k =

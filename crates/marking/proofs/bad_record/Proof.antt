@@ -6,10 +6,10 @@ use mathlib.Core.Bool.{Bool, true, false, not, _&&_}
 use borrow.Author.Tests.{not-true, not-false}
 use borrow.Author.Needs.{needs}
 use lib.ListN.{length, getD}
-use Rattle.steps.specs.Words.{is-call}
+use Rattle.steps.specs.Inner.{is-call}
 use Rattle.steps.specs.Acceptance.{each-below, good-step}
 use Rattle.steps.proofs.EachBelow.{each-none, each-more, each-not}
-use Rattle.marking.specs.Marking.{bad-record}
+use Rattle.marking.specs.Marking.{bad-recorded-steps}
 use Rattle.marking.proofs.bad_record.Statement.{statement}
 use Rattle.marking.proofs.bad_record.Tie as tie
 
@@ -33,14 +33,14 @@ loop-holds : tie.Need-loop-holds Inv-loop μ-loop
 loop-holds c = (omega arith, each-none _)
 
 returns : tie.Need-returns Inv-loop μ-loop
-unfolding bad-record
+unfolding bad-recorded-steps
 returns c =
     let l = c .before .before .before .before .loop in
     let within : l .i < length (c .before .before .before .before .before .before .args .recorded .now) = omega arith in
     rw (each-not _ _ (l .i) within (call-fails _ _ (sym (c .before .is-call .ensures) ∙ c .if1 .taken))) refl
 
 returns-2 : tie.Need-returns-2 Inv-loop μ-loop
-unfolding bad-record
+unfolding bad-recorded-steps
 returns-2 c =
     let l = c .before .before .before .before .before .before .before .loop in
     let plain = sym (c .before .before .before .before .is-call .ensures) ∙ c .before .before .before .if1 .left in
@@ -54,7 +54,7 @@ loop-again c =
     (omega arith, each-more _ _ (l .inv .1) (good-passes _ _ plain (sym (c .before .good-step .ensures) ∙ not-false _ (c .if2 .left))))
 
 returns-3 : tie.Need-returns-3 Inv-loop μ-loop
-unfolding bad-record
+unfolding bad-recorded-steps
 returns-3 c =
     let l = c .before .loop in
     let e : l .i ≡ length (c .before .before .before .args .recorded .now) = omega arith in

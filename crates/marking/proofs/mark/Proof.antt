@@ -5,7 +5,7 @@ use lib.ListN.{length}
 use borrow.Author.Needs.{needs}
 use Rattle.marking.specs.Marking.{question}
 use Rattle.marking.proofs.Marks.{size-recorded}
-use Rattle.marking.proofs.Outcomes.{room-enough, taken-of, walkable-of, goal-good, lent-of, cleared-sound, refused-outcome, marked-outcome}
+use Rattle.marking.proofs.Outcomes.{room-enough, taken-of, walkable-of, goal-good, guide-of, cleared-sound, refused-outcome, marked-outcome}
 use Rattle.marking.proofs.mark.Statement.{statement}
 use Rattle.marking.proofs.mark.Tie as tie
 
@@ -25,7 +25,7 @@ settle-all-requires c κs =
     let e = sym (c .before .before .before .before .before .before .before .record-refusal .ensures) ∙ c .before .before .before .before .before .before .if1 .left in
     let taken = taken-of q (length (a .table .now)) e (c .before .before .before .before .before .runs-of .ensures) in
     let cleared = c .before .before .before .clear .ensures in
-    (lent-of taken _ (omega (arith, room-enough q (length (a .table .now)) e, cleared .size)), walkable-of taken, cleared-sound _ _ _ cleared)
+    (guide-of taken _ (omega (arith, room-enough q (length (a .table .now)) e, cleared .size)), walkable-of taken, cleared-sound _ _ _ cleared)
 
 walk-mask-requires : tie.Need-walk-mask-requires
 walk-mask-requires c κs =
@@ -35,7 +35,7 @@ walk-mask-requires c κs =
     let taken = taken-of q (length (a .table .now)) e (c .before .before .before .before .before .before .before .before .before .runs-of .ensures) in
     let cleared = c .before .before .before .before .before .before .before .clear .ensures in
     let all = c .before .before .before .settle-all .ensures in
-    (lent-of taken _ (omega (arith, room-enough q (length (a .table .now)) e, cleared .size, all .size)), omega arith, goal-good taken)
+    (guide-of taken _ (omega (arith, room-enough q (length (a .table .now)) e, cleared .size, all .size)), omega arith, goal-good taken)
 
 shr-yes : tie.Need-shr-t21
 shr-yes c =

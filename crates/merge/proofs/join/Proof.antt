@@ -9,7 +9,7 @@ use native.Mathlib.Omega.{arith}
 use denote.Ref.{now}
 use lib.Dec.{ltb}
 use lib.ListN.{length, length-append}
-use Rattle.refusals.specs.Refusals as refusals
+use Rattle.refusals.specs.Sheet.{sheet-refusals}
 use Rattle.steps.specs.State.{State}
 use Rattle.chars.specs.Bytes.{text}
 use Rattle.chars.specs.Pieces.{lines}
@@ -20,7 +20,7 @@ use Rattle.writer.specs.Text.{holding, text-of}
 use Rattle.writer.proofs.Outcomes.{told-refused, told-written}
 use Rattle.merge.specs.declared.Layout.{Layout}
 use Rattle.merge.specs.Joined.{together, both-books}
-use Rattle.merge.specs.Merge.{Outcome, faulty, joins, judge, merge-of}
+use Rattle.merge.specs.Merge.{Judgement, faulty, joins, judge, merge-of}
 use Rattle.merge.specs.Inner.{Inside, Grows, parts-from, section, inserted-in, fault-of, text-parts, text-in, Few, Laid, Holds, Ordered, Joining}
 use Rattle.merge.proofs.Joins.{NamesFit}
 use Rattle.merge.proofs.Laying.{holds-kept}
@@ -85,7 +85,7 @@ returns-3 c =
 
 -- the names fit
 module _ (d : tie.Else3) where
-  fits : NamesFit (first (d .before .before .before .before .before .before .before) .0) (second (d .before .before .before .before .before .before .before) .0) × (length (both-books (first (d .before .before .before .before .before .before .before) .0) (second (d .before .before .before .before .before .before .before) .0) .rules) ≤ 256) × (judge (first (d .before .before .before .before .before .before .before) .0) (second (d .before .before .before .before .before .before .before) .0) ≡ cond (ltb 65536 (length (text-of (both-books (first (d .before .before .before .before .before .before .before) .0) (second (d .before .before .before .before .before .before .before) .0))))) (faulty refusals.too-long 0 0) (joins (first (d .before .before .before .before .before .before .before) .0) (second (d .before .before .before .before .before .before .before) .0)))
+  fits : NamesFit (first (d .before .before .before .before .before .before .before) .0) (second (d .before .before .before .before .before .before .before) .0) × (length (both-books (first (d .before .before .before .before .before .before .before) .0) (second (d .before .before .before .before .before .before .before) .0) .rules) ≤ 256) × (judge (first (d .before .before .before .before .before .before .before) .0) (second (d .before .before .before .before .before .before .before) .0) ≡ cond (ltb 65536 (length (text-of (both-books (first (d .before .before .before .before .before .before .before) .0) (second (d .before .before .before .before .before .before .before) .0))))) (faulty (sheet-refusals .too-long) 0 0) (joins (first (d .before .before .before .before .before .before .before) .0) (second (d .before .before .before .before .before .before .before) .0)))
   fits = judged _ _ (first (d .before .before .before .before .before .before .before) .0) (second (d .before .before .before .before .before .before .before) .0) (first (d .before .before .before .before .before .before .before) .1) (second (d .before .before .before .before .before .before .before) .1) .yes (sym (d .before .fault .ensures) ∙ d .if3 .left)
 
 -- both starts together, and those that hold
@@ -153,7 +153,7 @@ returns-4 c =
     let (i, j, k) = c .refused4 .ensures in
     let n = c .before .before .text-size .ensures ∙ ap length (all-text d) in
     let l = lt-ltb 65536 (length (text-of (both-books a b))) (omega (arith, c .before .if4 .taken)) in
-    let h = both-read _ _ a b (first (z (y d) .before .before .before .before .before .before .before) .1) (second (z (y d) .before .before .before .before .before .before .before) .1) ∙ fits (z (y d)) .2 ∙ ap (λ (v : Bool). cond v (faulty refusals.too-long 0 0) (joins a b)) l in
+    let h = both-read _ _ a b (first (z (y d) .before .before .before .before .before .before .before) .1) (second (z (y d) .before .before .before .before .before .before .before) .1) ∙ fits (z (y d)) .2 ∙ ap (λ (v : Bool). cond v (faulty (sheet-refusals .too-long) 0 0) (joins a b)) l in
     (λ x. h ∙ rw (i, j, k) refl, λ x. absurd (omega (arith, i)))
 
 returns-5 : tie.Need-returns-5
@@ -163,7 +163,7 @@ returns-5 c =
     let b = B (y d) in
     let n = c .before .text-size .ensures ∙ ap length (all-text d) in
     let l = le-ltb 65536 (length (text-of (both-books a b))) (omega (arith, c .if4 .left)) in
-    let h = both-read _ _ a b (first (z (y d) .before .before .before .before .before .before .before) .1) (second (z (y d) .before .before .before .before .before .before .before) .1) ∙ fits (z (y d)) .2 ∙ ap (λ (v : Bool). cond v (faulty refusals.too-long 0 0) (joins a b)) l in
+    let h = both-read _ _ a b (first (z (y d) .before .before .before .before .before .before .before) .1) (second (z (y d) .before .before .before .before .before .before .before) .1) ∙ fits (z (y d)) .2 ∙ ap (λ (v : Bool). cond v (faulty (sheet-refusals .too-long) 0 0) (joins a b)) l in
     let L = d .before .before .before .before .before .before .before .before .before .before .before .before .lay .ensures in
     let (o, p, q, r) = L .order in (
       λ x. absurd (x refl),

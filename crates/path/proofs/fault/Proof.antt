@@ -1,8 +1,8 @@
 -- `fault` meets its contract: the tests in the table's order. Assumes nothing.
 use mathlib.Core.Path.{sym, _∙_}
 use borrow.Author.Needs.{needs}
-use Rattle.path.specs.Outcome.{handed}
-use Rattle.path.proofs.OutcomeLaws.{bad-words, no-room, not-below, not-right}
+use Rattle.path.specs.Answered.{handed}
+use Rattle.path.proofs.OutcomeLaws.{bad-words, over-rooms, not-below, not-right}
 use Rattle.path.proofs.fault.Statement.{statement}
 use Rattle.path.proofs.fault.Tie as tie
 
@@ -16,7 +16,7 @@ returns-2 : tie.Need-returns-2
 returns-2 c =
     let a = c .before .before .before .before .before .before .before .before .args in
     let l = handed (a .fluents) (a .actions) (a .rules .now) (a .goal .now) (a .calls .now) (a .call-count) (a .answers .now) (a .answer-count) in
-    no-room l (a .asked) (sym (c .before .before .before .words-refusal .ensures) ∙ c .before .before .if1 .left) (sym (c .before .over-room .ensures) ∙ c .if2 .taken)
+    over-rooms l (a .asked) (sym (c .before .before .before .words-refusal .ensures) ∙ c .before .before .if1 .left) (sym (c .before .over-room .ensures) ∙ c .if2 .taken)
 
 returns-3 : tie.Need-returns-3
 returns-3 c =

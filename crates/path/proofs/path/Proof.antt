@@ -1,7 +1,7 @@
 -- `path` meets its contract: refused, too few places, or listed. Assumes nothing.
 use mathlib.Core.Path.{sym, _∙_}
 use borrow.Author.Needs.{needs}
-use Rattle.path.specs.Outcome.{handed}
+use Rattle.path.specs.Answered.{handed}
 use Rattle.path.proofs.OutcomeLaws.{walkable, refused, too-few, listed-all}
 use Rattle.path.proofs.path.Statement.{statement}
 use Rattle.path.proofs.path.Tie as tie

@@ -6,7 +6,7 @@ use mathlib.Core.Bool.{Bool, true, false}
 use mathlib.Core.List.{List, _++_}
 use lib.ListN.{length, drop, getD-replicate}
 use borrow.Author.Needs.{needs}
-use Rattle.report.specs.Outcome.{bad-starts, bad-ends}
+use Rattle.report.specs.Report.{bad-starts, bad-ends}
 use Rattle.report.proofs.Results.{lent-le}
 use Rattle.report.proofs.Outcomes.{figures-are, refused-20, refused-26, refused-27, unrefused}
 use Rattle.report.proofs.report.Statement.{statement}

@@ -13,7 +13,7 @@ use Rattle.steps.specs.State.{bit}
 use Rattle.steps.specs.Acceptance.{each-below, bad-state}
 use Rattle.steps.proofs.EachBelow.{true-not-false, each-none, each-more, each-not}
 use Rattle.report.specs.Figures.{sum-below, held}
-use Rattle.report.specs.Outcome.{bad-ends}
+use Rattle.report.specs.Report.{bad-ends}
 use Rattle.report.proofs.Sums.{sum-none, sum-more}
 use Rattle.report.proofs.Ones.{ones-sum, holding-le, all-held-le}
 use Rattle.report.proofs.tally.Statement.{statement}

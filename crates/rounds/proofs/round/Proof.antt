@@ -8,7 +8,7 @@ use mathlib.Core.List.{List}
 use lib.ListN.{length, length-replicate}
 use borrow.Author.Tests.{not-true, not-false}
 use Rattle.steps.proofs.EachBelow.{true-not-false}
-use Rattle.steps.specs.Words.{rule-width}
+use Rattle.steps.specs.Widths.{rule-width}
 use Rattle.records.specs.Records.{bodies-of}
 use Rattle.records.proofs.BodyLaws.{short-of}
 use Rattle.notes.specs.Uses.{UsesGrew, Lit}
@@ -19,7 +19,7 @@ use Rattle.tabling.proofs.Measure.{left}
 use Rattle.records.specs.Bodies.{number-at}
 use Rattle.records.proofs.Numbers.{numbers-all, proper-of}
 use Rattle.loops.proofs.Turn.{before, Given, turn-start, body-short}
-use Rattle.walk.specs.Outcome.{spot-of}
+use Rattle.walk.specs.Leaving.{spot-of}
 use Rattle.records.proofs.Growth.{Tables}
 use Rattle.loops.proofs.Cold.{Past}
 use Rattle.loops.proofs.Going.{in-words, Going, going-start, going-on, going-back, going-fits, on-less, back-less}

@@ -4,7 +4,7 @@ use mathlib.Core.Logic.{⊎-elim}
 use Prim.Native.Nat.{ℕ}
 use borrow.Author.Tests.{eqb-false}
 use denote.Ref.{now}
-use Rattle.refusals.specs.Refusals as refusals
+use Rattle.refusals.specs.Sheet.{sheet-refusals}
 use Rattle.sheet.specs.Reader.{read-sheet, refused}
 use Rattle.sheet.specs.Held.{reading-in}
 use Rattle.sheet.proofs.Verdicts.{answer-ok, answer-no}
@@ -80,8 +80,8 @@ returns-4 c =
     let f = sym (c .before .before .before .before .before .before .before .before .before .whole-refusal .ensures) ∙ answer-ok (c .before .before .before .before .before .before .before .before .before .whole-refusal .result) tt (c .before .before .before .before .before .before .before .before .if1 .left) in
     let z = c .before .before .if2 .left in
     let y = sym (x .ensures .says) ∙ ending-ok s w n b z in
-    let o : read-sheet s ≡ refused refusals.incomplete 0 = ⊎-elim (λ v. sheet-no-goal s f (reading-in s w b) y (v .1 .left)) (λ v. sheet-no-start s f (reading-in s w b) y (v .left)) (c .before .if3 .came) in
-    let u : c .blank2 .result .refusal ≡ 0 → ⊥ = λ e. eqb-false refusals.incomplete 0 refl (sym (c .blank2 .ensures) ∙ e) in
+    let o : read-sheet s ≡ refused (sheet-refusals .incomplete) 0 = ⊎-elim (λ v. sheet-no-goal s f (reading-in s w b) y (v .1 .left)) (λ v. sheet-no-start s f (reading-in s w b) y (v .left)) (c .before .if3 .came) in
+    let u : c .blank2 .result .refusal ≡ 0 → ⊥ = λ e. eqb-false (sheet-refusals .incomplete) 0 refl (sym (c .blank2 .ensures) ∙ e) in
     record { says = outcome-no s w 0 (c .blank2 .result) u ∙ ap (λ (i : ℕ). refused i 0) (c .blank2 .ensures) ∙ sym o; keeps = λ e. absurd (u e); size = x .ensures .size }
 
 pub scan-sheet-spec : {M : Type 1} → statement M

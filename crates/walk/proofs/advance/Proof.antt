@@ -5,7 +5,7 @@ use mathlib.Core.Bool.{true, false}
 use lib.ListN.{getD, set}
 use lib.Seq.{getD-set-other}
 use borrow.Author.Needs.{needs}
-use Rattle.steps.specs.Words.{is-call}
+use Rattle.steps.specs.Inner.{is-call}
 use Rattle.steps.specs.Elementary.{elementary}
 use Rattle.steps.specs.Next.{onward}
 use Rattle.tabling.proofs.Evidence.{Among}
@@ -13,7 +13,7 @@ use Rattle.notes.proofs.UsesLaws.{uses-refl}
 use Rattle.tabling.proofs.Measure.{left-on}
 use Rattle.loops.proofs.Turn.{turn-forward, turn-stuck}
 use Rattle.loops.proofs.Going.{tail-some, tail-none, tail-word}
-use Rattle.walk.specs.Outcome.{past-of}
+use Rattle.walk.specs.Leaving.{past-of}
 use Rattle.walk.proofs.advance.Statement.{statement}
 use Rattle.walk.proofs.advance.Tie as tie
 

@@ -14,7 +14,7 @@ use Rattle.notes.proofs.UsesLaws.{uses-refl}
 use Rattle.tabling.proofs.Measure.{left-on}
 use Rattle.loops.proofs.Turn.{turn-called, turn-calls-full, turn-noted, turn-seen, turn-none, turn-take}
 use Rattle.loops.proofs.Going.{picked-among}
-use Rattle.walk.specs.Outcome.{past-of}
+use Rattle.walk.specs.Leaving.{past-of}
 use Rattle.walk.proofs.enter.Statement.{statement}
 use Rattle.walk.proofs.enter.Tie as tie
 

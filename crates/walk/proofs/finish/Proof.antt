@@ -5,7 +5,7 @@ use borrow.Author.Needs.{needs}
 use Rattle.records.specs.Records.{room, call-width}
 use Rattle.tabling.proofs.Evidence.{Among}
 use Rattle.loops.proofs.Turn.{turn-ended, turn-answers-full}
-use Rattle.walk.specs.Outcome.{past-of}
+use Rattle.walk.specs.Leaving.{past-of}
 use Rattle.walk.proofs.finish.Statement.{statement}
 use Rattle.walk.proofs.finish.Tie as tie
 

@@ -6,7 +6,7 @@ use mathlib.Core.Path.{_≡_, sym, _∙_}
 use mathlib.Core.Bool.{false}
 use lib.ListN.{length, getD}
 use Rattle.steps.proofs.EachBelow.{true-not-false}
-use Rattle.steps.specs.Words.{is-call}
+use Rattle.steps.specs.Inner.{is-call}
 use borrow.Author.Needs.{needs}
 use Rattle.walk.proofs.is_last.Statement.{statement}
 use Rattle.walk.proofs.is_last.Tie as tie

@@ -5,7 +5,7 @@ use mathlib.Core.Path.{_≡_, sym, _∙_}
 use mathlib.Core.Bool.{true, false}
 use borrow.Author.Needs.{needs}
 use lib.ListN.{getD}
-use Rattle.steps.specs.Words.{is-call}
+use Rattle.steps.specs.Inner.{is-call}
 use Rattle.steps.proofs.EachBelow.{true-not-false}
 use Rattle.records.specs.Records.{answer-table}
 use Rattle.tabling.proofs.Sweep.{from-here}

@@ -15,7 +15,7 @@ use Rattle.loops.proofs.Going.{Going, going-fits, in-words, went-over, went-on}
 use Rattle.walk.specs.declared.Job.{Job}
 use Rattle.walk.specs.declared.Front.{Front}
 use Rattle.walk.specs.declared.Front.the-variants as front
-use Rattle.walk.specs.Outcome.{spot-of, past-of, Stepped}
+use Rattle.walk.specs.Leaving.{spot-of, past-of, Stepped}
 use Rattle.walk.proofs.turn.Statement.{statement}
 use Rattle.walk.proofs.turn.Tie as tie
 

@@ -17,10 +17,10 @@ abbrev μ-loop : tie.MeasureT-loop
 μ-loop rules action calls place runs recorded table₀ notes₀ word end more₀ n₀ table notes more n = end - n
 
 add-word : tie.Need-add-word Inv-loop μ-loop
-add-word c = let r = c .before .before .before .before .before .pre .0 in omega (arith, c .before .before .before .before .before .pre .1, r .place, r .lent .within, r .lent .few)
+add-word c = let r = c .before .before .before .before .before .pre .0 in omega (arith, c .before .before .before .before .before .pre .1, r .place, r .guide .within, r .guide .few)
 
 slice-read-word : tie.Need-slice-read-word Inv-loop μ-loop
-slice-read-word c = let r = c .before .before .before .before .before .before .pre .0 in omega (arith, c .before .before .before .before .before .before .pre .1, r .place, r .lent .within, r .lent .few, r .lent .room)
+slice-read-word c = let r = c .before .before .before .before .before .before .pre .0 in omega (arith, c .before .before .before .before .before .before .pre .1, r .place, r .guide .within, r .guide .few, r .guide .room)
 
 add-end : tie.Need-add-end Inv-loop μ-loop
 add-end c = omega (arith, c .before .before .before .before .before .before .pre .1)

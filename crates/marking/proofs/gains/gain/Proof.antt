@@ -10,8 +10,8 @@ use Rattle.marking.proofs.gains.gain.Tie as tie
 
 walk-all-requires : tie.Need-walk-all-requires
 walk-all-requires c κs =
-    let (lent, place, walkable, size, sound) = c .before .before .before .before .before .before .pre in
-    record { lent = lent; place = place; walkable = walkable; sound = sound; noted = noted-none _ _ _ _ _ (rw length-replicate (omega arith)) (nothing 4352) }
+    let (guide, place, walkable, size, sound) = c .before .before .before .before .before .before .pre in
+    record { guide = guide; place = place; walkable = walkable; sound = sound; noted = noted-none _ _ _ _ _ (rw length-replicate (omega arith)) (nothing 4352) }
 
 follow-all-requires : tie.Need-follow-all-requires
 follow-all-requires c κs = (c .before .before .before .before .before .walk-all .ensures .1, c .before .before .before .before .before .before .before .before .before .before .before .before .pre .3)

@@ -5,7 +5,7 @@ use mathlib.Core.Path.{_≡_, refl, _∙_}
 use lib.ListN.{length}
 use borrow.Author.Needs.{needs}
 use Rattle.steps.proofs.StateLaws.{one-shl}
-use Rattle.steps.specs.Words.{rule-width}
+use Rattle.steps.specs.Widths.{rule-width}
 use Rattle.marking.specs.Masks.{Grown, Ready}
 use Rattle.marking.proofs.Widening.{grown-none, grown-then}
 use Rattle.marking.proofs.Gaining.{came-start}
@@ -23,12 +23,12 @@ loop-holds : tie.Need-loop-holds Inv-loop μ-loop
 loop-holds c = (refl, grown-none _ _, c .before .before .before .before .pre, refl)
 
 shl-walk-on : tie.Need-shl-walk-on Inv-loop μ-loop
-shl-walk-on c = let r = c .before .before .before .before .before .before .pre in omega (arith, r .place, r .lent .within, r .lent .few)
+shl-walk-on c = let r = c .before .before .before .before .before .before .pre in omega (arith, r .place, r .guide .within, r .guide .few)
 
 walk-on-requires : tie.Need-walk-on-requires Inv-loop μ-loop
 walk-on-requires c κs =
     let (e, grown, ready, size) = c .before .before .before .loop .inv in
-    let low : c .before .before .before .before .before .before .before .before .args .place < 64 = omega (arith, ready .place, ready .lent .within, ready .lent .few) in
+    let low : c .before .before .before .before .before .before .before .before .args .place < 64 = omega (arith, ready .place, ready .guide .within, ready .guide .few) in
     (ready, omega arith, omega arith, rw (one-shl _ low) (came-start (c .before .before .before .before .before .before .before .before .args .rules .now) (c .before .before .before .before .before .before .before .before .args .recorded .now) (c .before .before .before .before .before .before .before .before .args .runs) (c .before .before .before .before .before .before .before .before .args .place) (c .before .before .before .loop .r)))
 
 loop-again : tie.Need-loop-again Inv-loop μ-loop

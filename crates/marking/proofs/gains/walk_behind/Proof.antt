@@ -24,7 +24,7 @@ slice-read-has : tie.Need-slice-read-has
 slice-read-has c = omega (arith, c .before .before .before .before .before .before .before .pre .1, c .before .before .before .before .before .before .before .pre .0 .noted .room)
 
 has-requires : tie.Need-has-requires
-has-requires c κs = let r = c .before .before .before .before .before .before .before .pre .0 in omega (arith, r .place, r .lent .within, r .lent .few)
+has-requires c κs = let r = c .before .before .before .before .before .before .before .pre .0 in omega (arith, r .place, r .guide .within, r .guide .few)
 
 returns-2 : tie.Need-returns-2
 returns-2 c = (grown-none _ _, c .before .before .before .before .before .before .before .before .before .pre .0)
@@ -42,7 +42,7 @@ reach-requires : tie.Need-reach-requires
 reach-requires c κs =
     let r = c .before .before .before .before .before .before .before .before .before .before .before .before .before .before .pre .0 in
     let e = c .before .before .before .rule-steps .ensures in
-    (r .lent, omega (arith, r .place, r .lent .within, r .lent .few), rw e (r .walkable .good _ (omega arith) (c .before .before .before .before .before .before .before .before .before .before .before .before .before .before .args .number % 17) (omega (arith, ap length e))))
+    (r .guide, omega (arith, r .place, r .guide .within, r .guide .few), rw e (r .walkable .good _ (omega arith) (c .before .before .before .before .before .before .before .before .before .before .before .before .before .before .args .number % 17) (omega (arith, ap length e))))
 
 walk-on-requires : tie.Need-walk-on-requires
 walk-on-requires c κs =

@@ -51,7 +51,7 @@ spread-requires : tie.Need-spread-requires Inv-loop μ-loop
 spread-requires c κs =
     let (e, l, few, size, noted, came) = c .before .before .before .before .loop .inv in
     let (ready, count, lf, start) = c .before .before .before .before .before .before .before .before .before .before .before .before .before .before .pre in
-    (ready .lent, rw e (ready .walkable .good _ count (c .before .before .before .before .loop .p) (omega (arith, ap length e))))
+    (ready .guide, rw e (ready .walkable .good _ count (c .before .before .before .before .loop .p) (omega (arith, ap length e))))
 
 note-requires-2 : tie.Need-note-requires-2 Inv-loop μ-loop
 note-requires-2 c κs =
@@ -76,7 +76,7 @@ loop-again c =
 add-requires : tie.Need-add-requires Inv-loop μ-loop
 add-requires c κs =
     let (ready, count, lf, start) = c .before .before .before .before .before .before .before .before .before .before .before .before .pre in
-    (count, ready .walkable, omega (arith, ready .place, ready .lent .within, ready .lent .few), ready .lent .room)
+    (count, ready .walkable, omega (arith, ready .place, ready .guide .within, ready .guide .few), ready .guide .room)
 
 head-requires : tie.Need-head-requires Inv-loop μ-loop
 head-requires c κs = let (ready, count, lf, start) = c .before .before .before .before .before .before .before .before .before .before .before .before .before .before .before .before .pre in (count, ready .walkable)

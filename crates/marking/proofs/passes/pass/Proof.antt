@@ -4,9 +4,9 @@ use native.Mathlib.Omega.{arith}
 use mathlib.Core.Path.{_≡_, refl}
 use lib.ListN.{length}
 use borrow.Author.Needs.{needs}
-use Rattle.steps.specs.Words.{rule-width}
+use Rattle.steps.specs.Widths.{rule-width}
 use Rattle.marking.specs.Masks.{Turned}
-use Rattle.marking.proofs.Widening.{lent-kept}
+use Rattle.marking.proofs.Widening.{guide-kept}
 use Rattle.marking.proofs.Turning.{turned-none, turned-all}
 use Rattle.marking.proofs.passes.pass.Statement.{statement}
 use Rattle.marking.proofs.passes.pass.Tie as tie
@@ -25,7 +25,7 @@ turn-requires : tie.Need-turn-requires Inv-loop μ-loop
 turn-requires c κs =
     let (e, t) = c .before .before .loop .inv in
     let pre = c .before .before .before .before .before .before .pre in
-    (lent-kept (pre .0) (t .grown .size), pre .1, omega arith, pre .2)
+    (guide-kept (pre .0) (t .grown .size), pre .1, omega arith, pre .2)
 
 loop-again : tie.Need-loop-again Inv-loop μ-loop
 loop-again c = let (e, t) = c .before .before .before .before .before .loop .inv in (e, c .before .before .turn .ensures _ t)

@@ -7,15 +7,15 @@ use mathlib.Core.Bool.{cond}
 use lib.Dec.{eqb}
 use lib.ListN.{length}
 use borrow.Author.Needs.{needs}
-use Rattle.marking.specs.Masks.{Lent, Wide, total, Grown, SoundMarks, Fresh}
-use Rattle.marking.proofs.Widening.{lent-kept, grown-none, grown-then}
+use Rattle.marking.specs.Masks.{Guide, Wide, total, Grown, SoundMarks, Fresh}
+use Rattle.marking.proofs.Widening.{guide-kept, grown-none, grown-then}
 use Rattle.marking.proofs.Turning.{settled-last, still-less}
 use Rattle.marking.proofs.passes.settle.Statement.{statement}
 use Rattle.marking.proofs.passes.settle.Tie as tie
 
 abbrev Inv-loop : tie.InvT-loop
 Inv-loop rules place runs recorded table₀ gained₀ table gained =
-    Lent recorded runs table × Wide table × Grown place table₀ table × (SoundMarks rules recorded runs table₀ → SoundMarks rules recorded runs table)
+    Guide recorded runs table × Wide table × Grown place table₀ table × (SoundMarks rules recorded runs table₀ → SoundMarks rules recorded runs table)
     × Fresh rules recorded runs place gained table
 
 abbrev μ-loop : tie.MeasureT-loop
@@ -27,25 +27,25 @@ pass-requires c κs = let pre = c .before .before .before .before .pre in (pre .
 loop-holds : tie.Need-loop-holds Inv-loop μ-loop
 loop-holds c =
     let p = c .before .before .pass .ensures in
-    (lent-kept (c .before .before .before .before .before .before .before .pre .0) (p .grown .size), λ n. c .slice-known2 .given n .fits, grown-none _ _, λ s. s, p .fresh)
+    (guide-kept (c .before .before .before .before .before .before .before .pre .0) (p .grown .size), λ n. c .slice-known2 .given n .fits, grown-none _ _, λ s. s, p .fresh)
 
 pass-requires-2 : tie.Need-pass-requires-2 Inv-loop μ-loop
 pass-requires-2 c κs =
     let pre = c .before .before .before .before .before .before .before .before .before .before .pre in
-    let (lent, wide, grown, sound, fresh) = c .before .before .loop .inv in
-    (lent, pre .1, pre .2, λ ne. fresh)
+    let (guide, wide, grown, sound, fresh) = c .before .before .loop .inv in
+    (guide, pre .1, pre .2, λ ne. fresh)
 
 loop-less : tie.Need-loop-less Inv-loop μ-loop
 loop-less c =
     let pre = c .before .before .before .before .before .before .before .before .before .before .before .before .before .pre in
-    let (lent, wide, grown, sound, fresh) = c .before .before .before .before .before .loop .inv in
+    let (guide, wide, grown, sound, fresh) = c .before .before .before .before .before .loop .inv in
     still-less _ _ _ _ (pre .2) (pre .1) _ _ _ _ (c .before .before .before .before .loop-test .taken) wide (c .before .before .pass2 .ensures)
 
 loop-again : tie.Need-loop-again Inv-loop μ-loop
 loop-again c =
-    let (lent, wide, grown, sound, fresh) = c .before .before .before .before .before .loop .inv in
+    let (guide, wide, grown, sound, fresh) = c .before .before .before .before .before .loop .inv in
     let p = c .before .before .pass2 .ensures in
-    (lent-kept lent (p .grown .size), p .grown .wide wide, grown-then grown (p .grown), λ s. p .sound (sound s), p .fresh)
+    (guide-kept guide (p .grown .size), p .grown .wide wide, grown-then grown (p .grown), λ s. p .sound (sound s), p .fresh)
 
 same-length : tie.Need-same-length Inv-loop μ-loop
 same-length c = c .before .loop .inv .2 .size ∙ c .before .before .before .before .pass .ensures .grown .size
@@ -53,7 +53,7 @@ same-length c = c .before .loop .inv .2 .size ∙ c .before .before .before .bef
 returns : tie.Need-returns Inv-loop μ-loop
 returns c =
     let entry = c .before .before .before .before .before .before .before .before .before in
-    let (lent, wide, grown, sound, fresh) = c .before .loop .inv in
+    let (guide, wide, grown, sound, fresh) = c .before .loop .inv in
     settled-last (entry .args .rules .now) (entry .args .recorded .now) (entry .args .runs) (entry .args .place) (entry .pre .2) (entry .pre .1) _ (c .before .loop .gained)
     (c .loop-test .left) (c .before .before .before .before .pass .ensures) grown sound fresh
 

@@ -4,7 +4,7 @@ use native.Mathlib.Omega.{arith}
 use mathlib.Core.Path.{_≡_, _∙_}
 use borrow.Author.Needs.{needs}
 use Rattle.marking.specs.Masks.{AllSettled}
-use Rattle.marking.proofs.Widening.{lent-kept}
+use Rattle.marking.proofs.Widening.{guide-kept}
 use Rattle.marking.proofs.Turning.{all-none, all-more}
 use Rattle.marking.proofs.Gaining.{settled-after}
 use Rattle.marking.proofs.passes.settle_places.Statement.{statement}
@@ -23,13 +23,13 @@ gain-requires : tie.Need-gain-requires Inv-loop μ-loop
 gain-requires c κs =
     let (l, all) = c .before .before .loop .inv in
     let pre = c .before .before .before .before .before .before .before .pre in
-    (lent-kept (pre .0) (all .size), omega arith, pre .1, pre .3, all .sound)
+    (guide-kept (pre .0) (all .size), omega arith, pre .1, pre .3, all .sound)
 
 settle-requires : tie.Need-settle-requires Inv-loop μ-loop
 settle-requires c κs =
     let (l, all) = c .before .before .before .before .before .before .loop .inv in
     let pre = c .before .before .before .before .before .before .before .before .before .before .before .pre in
-    (lent-kept (pre .0) (c .before .before .before .gain .ensures .0 .size ∙ all .size), omega arith, pre .1)
+    (guide-kept (pre .0) (c .before .before .before .gain .ensures .0 .size ∙ all .size), omega arith, pre .1)
 
 loop-less : tie.Need-loop-less Inv-loop μ-loop
 loop-less c = omega arith

@@ -9,7 +9,7 @@ use borrow.Author.Needs.{needs}
 use lib.Bits.{bitOr}
 use lib.ListN.{length, getD}
 use Rattle.steps.specs.State.{bit}
-use Rattle.steps.specs.Words.{is-call}
+use Rattle.steps.specs.Inner.{is-call}
 use Rattle.steps.proofs.EachBelow.{true-not-false}
 use Rattle.marking.proofs.Widening.{no-call-words}
 use Rattle.marking.proofs.passes.stale.Statement.{statement}

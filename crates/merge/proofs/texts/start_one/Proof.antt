@@ -6,7 +6,7 @@ use mathlib.Core.List.{List, _++_}
 use Prim.Native.Nat.{ℕ, _-_}
 use native.Mathlib.Omega.{arith}
 use denote.Ref.{now}
-use Rattle.steps.specs.State.{inserted}
+use Rattle.steps.specs.Inner.{inserted}
 use Rattle.chars.specs.Places.{place}
 use Rattle.merge.specs.Inner.{part-at, parts-from}
 use Rattle.merge.proofs.texts.start_one.Statement.{statement}

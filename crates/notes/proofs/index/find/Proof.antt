@@ -4,8 +4,7 @@ use native.Mathlib.Omega.{arith}
 use mathlib.Core.Logic.{⊎-elim}
 use borrow.Author.Needs.{needs}
 use lib.ListN.{length, getD}
-use Rattle.records.specs.Records.{calls-in}
-use Rattle.records.specs.Storage.{CallAt}
+use Rattle.records.specs.Storage.{CallAt, calls-in}
 use Rattle.notes.specs.Index.{Reaches, Sought}
 use Rattle.notes.proofs.IndexLaws.{sought-head, sought-link, bucket-small, record-inside}
 use Rattle.notes.proofs.index.find.Statement.{statement}

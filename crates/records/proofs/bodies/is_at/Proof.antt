@@ -5,7 +5,7 @@ use mathlib.Core.Path.{refl}
 use borrow.Author.Tests.{lt-ltb, le-ltb, ne-eqb}
 use Rattle.records.specs.Bodies.{number-at}
 use borrow.Author.Needs.{needs}
-use Rattle.steps.specs.Words.{rule-width}
+use Rattle.steps.specs.Widths.{rule-width}
 use Rattle.records.proofs.bodies.is_at.Statement.{statement}
 use Rattle.records.proofs.bodies.is_at.Tie as tie
 use Rattle.records.specs.Records.{goal-rule}

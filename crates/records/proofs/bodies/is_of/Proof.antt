@@ -3,7 +3,7 @@ use Prim.Native.Nat.{_*_}
 use native.Mathlib.Omega.{arith}
 use borrow.Author.Tests.{lt-ltb, le-ltb, eq-eqb, ne-eqb}
 use borrow.Author.Needs.{needs}
-use Rattle.steps.specs.Words.{rule-width}
+use Rattle.steps.specs.Widths.{rule-width}
 use Rattle.records.proofs.bodies.is_of.Statement.{statement}
 use Rattle.records.proofs.bodies.is_of.Tie as tie
 use Rattle.records.proofs.bodies.is_of.Reads as reads

@@ -17,7 +17,7 @@ use Rattle.sheet.proofs.LineVerdicts.{rule-head, rule-steps, rule-read}
 use Rattle.sheet.proofs.Bodies.{rules-more, filled-rule}
 use Rattle.sheet.proofs.Kept.{refused-answers}
 use borrow.Author.Needs.{needs}
-use Rattle.steps.specs.Words.{rule-width}
+use Rattle.steps.specs.Widths.{rule-width}
 use Rattle.sheet.proofs.lines.rule_line.Statement.{statement}
 use Rattle.sheet.proofs.lines.rule_line.Tie as tie
 

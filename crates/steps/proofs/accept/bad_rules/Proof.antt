@@ -9,7 +9,7 @@ use Rattle.steps.specs.Acceptance.{each-below, good-rule, bad-rules}
 use Rattle.steps.proofs.EachBelow.{each-none, each-more, each-not}
 use Rattle.steps.proofs.accept.bad_rules.Statement.{statement}
 use Rattle.steps.proofs.accept.bad_rules.Tie as tie
-use Rattle.steps.specs.Words.{rule-width}
+use Rattle.steps.specs.Widths.{rule-width}
 
 abbrev Inv-loop : tie.InvT-loop
 Inv-loop fluents actions rules count r₀ r = (r ≤ count) × (count ≡ length rules / rule-width) × (each-below r (good-rule fluents actions rules) ≡ true)

@@ -9,7 +9,7 @@ use Rattle.steps.specs.Acceptance.{each-below, good-word}
 use Rattle.steps.proofs.EachBelow.{each-none, each-more, each-not}
 use Rattle.steps.proofs.accept.good_body.Statement.{statement}
 use Rattle.steps.proofs.accept.good_body.Tie as tie
-use Rattle.steps.specs.Words.{rule-width}
+use Rattle.steps.specs.Widths.{rule-width}
 
 abbrev Inv-loop : tie.InvT-loop
 Inv-loop fluents actions rules r n i₀ i = (i ≤ 16) × (each-below i (λ i. good-word fluents actions n i (getD rules (rule-width * r + 2 + i) 0)) ≡ true)

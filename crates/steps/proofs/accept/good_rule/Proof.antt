@@ -7,7 +7,7 @@ use borrow.Author.Tests.{lt-ltb, le-ltb}
 use Rattle.steps.specs.Acceptance.{good-rule}
 use Rattle.steps.proofs.accept.good_rule.Statement.{statement}
 use Rattle.steps.proofs.accept.good_rule.Tie as tie
-use Rattle.steps.specs.Words.{rule-width}
+use Rattle.steps.specs.Widths.{rule-width}
 
 cast-head : tie.Need-cast-head
 cast-head c = omega (arith, c .shared-slice-known2 .given (rule-width * c .before .before .args .r))

@@ -5,7 +5,7 @@ use mathlib.Core.Bool.{Bool, cond, not}
 use mathlib.Core.List.{List, _++_}
 use lib.ListN.{length, drop}
 use lib.Dec.{eqb, ltb}
-use Rattle.refusals.specs.Refusals as refusals
+use Rattle.refusals.specs.Path.{path-refusals}
 use Rattle.steps.specs.State.{State}
 use Rattle.steps.specs.Acceptance.{words-refusal}
 use Rattle.records.specs.Records.{Calls, Answers, Bodies, bodies-of, call-table, answer-table}
@@ -46,10 +46,9 @@ states-of l x = path-of (call-records l) (answer-records l) (bodies l) x
 unfoldable pub fault : Handed → ℕ → ℕ
 fault l x =
     cond (eqb (words-refusal (l .fluents) (l .actions) (l .rules) (l .goal)) 0)
-    (cond (over-room (l .calls) (l .call-count) (l .answers) (l .answer-count)) refusals.bad-record-count
-    (cond (not (ltb x (l .answer-count))) refusals.no-record
-    (cond (bad-records (l .fluents) (l .actions) (bodies l) (call-records l) (answer-records l)) refusals.bad-record
-    0)))
+    (cond (over-room (l .calls) (l .call-count) (l .answers) (l .answer-count)) (path-refusals .bad-record-count)
+    (cond (not (ltb x (l .answer-count))) (path-refusals .no-record)
+    (cond (bad-records (l .fluents) (l .actions) (bodies l) (call-records l) (answer-records l)) (path-refusals .bad-record) 0)))
     (words-refusal (l .fluents) (l .actions) (l .rules) (l .goal))
 
 -- 43: fewer places than states in the path
@@ -58,7 +57,7 @@ too-short l x list = ltb (length list) (length (states-of l x))
 
 -- The refusal, or 0.
 unfoldable pub path-refusal : Handed → ℕ → List ℕ → ℕ
-path-refusal l x list = cond (eqb (fault l x) 0) (cond (too-short l x list) refusals.states-short 0) (fault l x)
+path-refusal l x list = cond (eqb (fault l x) 0) (cond (too-short l x list) (path-refusals .states-short) 0) (fault l x)
 
 -- The count of states; 0 where refused.
 unfoldable pub state-count : Handed → ℕ → List ℕ → ℕ

@@ -5,7 +5,8 @@ use mathlib.Core.Bool.{Bool, cond, not, _&&_}
 use mathlib.Core.List.{List, _++_}
 use lib.ListN.{length, drop, getD}
 use lib.Dec.{eqb, ltb}
-use Rattle.refusals.specs.Refusals as refusals
+use Rattle.refusals.specs.Run.{run-refusals}
+use Rattle.refusals.specs.Archive.{archive-refusals}
 use Rattle.steps.specs.State.{State}
 use Rattle.steps.specs.Acceptance.{each-below, bad-state}
 use Rattle.archive.specs.Archive.{blocks, stored, restored}
@@ -30,38 +31,38 @@ bad-states fluents states = not (each-below (length states) (λ i. not (bad-stat
 -- `store`: the first of 20, 24 and 80 that is met, or 0. The words are its own: no 81, no 82.
 unfoldable pub store-refusal : ℕ → List State → (room : ℕ) → ℕ
 store-refusal fluents states room =
-    cond (bad-count fluents) refusals.bad-counts
-    (cond (bad-states fluents states) refusals.bad-start
-    (cond (ltb room (blocks (length states) * fluents)) refusals.output-short
+    cond (bad-count fluents) (run-refusals .bad-counts)
+    (cond (bad-states fluents states) (run-refusals .bad-start)
+    (cond (ltb room (blocks (length states) * fluents)) (archive-refusals .output-short)
     0))
 
 -- `restore`: the first of 20, 81, 82 and 80 that is met, or 0. The states are its own: no 24.
 unfoldable pub restore-refusal : (fluents count : ℕ) → List ℕ → (room : ℕ) → ℕ
 restore-refusal fluents count words room =
-    cond (bad-count fluents) refusals.bad-counts
-    (cond (bad-words fluents count words) refusals.bad-word-count
-    (cond (bad-bits fluents count words) refusals.bit-past-end
-    (cond (ltb room count) refusals.output-short
+    cond (bad-count fluents) (run-refusals .bad-counts)
+    (cond (bad-words fluents count words) (archive-refusals .bad-word-count)
+    (cond (bad-bits fluents count words) (archive-refusals .bit-past-end)
+    (cond (ltb room count) (archive-refusals .output-short)
     0)))
 
 -- How many words or states are written; 0 where refused.
-abbrev pub count-of : ℕ → List ℕ → ℕ
-count-of refusal written = cond (eqb refusal 0) (length written) 0
+abbrev pub written-count : ℕ → List ℕ → ℕ
+written-count refusal written = cond (eqb refusal 0) (length written) 0
 
 -- The output: what is written, and past it what it held; unchanged where refused.
 abbrev pub after : ℕ → List ℕ → List ℕ → List ℕ
 after refusal written out = cond (eqb refusal 0) (written ++ drop (length written) out) out
 
 -- What is told and left, by the refusal, what is to be written, and the output as it was.
-pub record Outcome (refusal : ℕ) (written out : List ℕ) (told count : ℕ) (left : List ℕ) : Type 0 where
+pub record Archived (refusal : ℕ) (written out : List ℕ) (told count : ℕ) (left : List ℕ) : Type 0 where
   pub refused : told ≡ refusal
-  pub counted : count ≡ count-of refusal written
+  pub counted : count ≡ written-count refusal written
   pub output : left ≡ after refusal written out
 
 -- What `store` tells and leaves in `words`.
-abbrev pub Stored : ℕ → List State → (words : List ℕ) → (told count : ℕ) → (left : List ℕ) → Type 0
-Stored fluents states words = Outcome (store-refusal fluents states (length words)) (stored fluents states) words
+abbrev pub StatesStored : ℕ → List State → (words : List ℕ) → (told count : ℕ) → (left : List ℕ) → Type 0
+StatesStored fluents states words = Archived (store-refusal fluents states (length words)) (stored fluents states) words
 
 -- What `restore` tells and leaves in `states`.
-abbrev pub Restored : (fluents count : ℕ) → (words : List ℕ) → (states : List State) → (told given : ℕ) → (left : List State) → Type 0
-Restored fluents count words states = Outcome (restore-refusal fluents count words (length states)) (restored fluents count words) states
+abbrev pub StatesRestored : (fluents count : ℕ) → (words : List ℕ) → (states : List State) → (told given : ℕ) → (left : List State) → Type 0
+StatesRestored fluents count words states = Archived (restore-refusal fluents count words (length states)) (restored fluents count words) states

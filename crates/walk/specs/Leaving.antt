@@ -47,15 +47,15 @@ Stepped front.Full bodies Root b notes job body cw aw chosen at s t marks uses c
     (room answer-width aw)
 
 -- A whole turn: as above, or back at place p with another answer, or the walk is over.
-abbrev pub Outcome : Leave → Bodies → (ℕ → State → Type 0) → Tables → List ℕ → Job → List ℕ → ℕ → ℕ → List ℕ → ℕ → Tables → List ℕ → List ℕ
+abbrev pub Leaving : Leave → Bodies → (ℕ → State → Type 0) → Tables → List ℕ → Job → List ℕ → ℕ → ℕ → List ℕ → ℕ → Tables → List ℕ → List ℕ
     → List ℕ → Type 0
-Outcome (leave.On s′) bodies Root b notes job body cw aw chosen at t marks uses chosen′ =
+Leaving (leave.On s′) bodies Root b notes job body cw aw chosen at t marks uses chosen′ =
     Turning bodies Root b (job .known) (job .rule) (job .row) (job .walk) (past-of job notes) body t marks uses chosen′ (at + 1) (spot-of s′)
     × (left (job .known) chosen′ (at + 1) < left (job .known) chosen at)
-Outcome (leave.Back p s′) bodies Root b notes job body cw aw chosen at t marks uses chosen′ =
+Leaving (leave.Back p s′) bodies Root b notes job body cw aw chosen at t marks uses chosen′ =
     Turning bodies Root b (job .known) (job .rule) (job .row) (job .walk) (past-of job notes) body t marks uses chosen′ p (spot-of s′)
     × (left (job .known) chosen′ p < left (job .known) chosen at)
-Outcome leave.Done bodies Root b notes job body cw aw chosen at t marks uses chosen′ =
+Leaving leave.Done bodies Root b notes job body cw aw chosen at t marks uses chosen′ =
     Over bodies Root b (job .known) (job .rule) (job .row) (job .walk) (past-of job notes) body t marks uses
-Outcome leave.Full bodies Root b notes job body cw aw chosen at t marks uses chosen′ = Outgrown bodies Root (room call-width cw)
+Leaving leave.Full bodies Root b notes job body cw aw chosen at t marks uses chosen′ = Outgrown bodies Root (room call-width cw)
     (room answer-width aw)
