@@ -71,8 +71,8 @@ extern "C" {
  *  40  a record count over its room                          list unchanged
  *  41  record number not below the answer count              list unchanged
  *  42  a call record with an action neither 64 nor below
- *      the count, or a state bit too high; or an answer
- *      not justified                                         list unchanged
+ *      the count, a state bit too high, or a round over
+ *      131,071; or an answer not justified                   list unchanged
  *  43  fewer places than states in the path                  list unchanged
  * Text (lawhemuri_write, after 10 to 18):
  *  50  fewer bytes lent than the text has                    text unchanged
@@ -97,7 +97,7 @@ extern "C" {
  *  27  fewer than 2 words for each fluent and 4 more         output unchanged
  *
  * A result with a refusal has 0 in every other field, but for three: the line of 13
- * to 17, the three counts of 31, and which of two sheets has a fault of its own.
+ * to 17, the counts of 31, and which of two sheets has a fault of its own.
  */
 #define LAWHEMURI_OK 0u
 #define LAWHEMURI_TOO_LONG 10u
@@ -139,12 +139,17 @@ extern "C" {
  * Step: 256 times kind plus index. Kinds: 0 query, 1 insert, 2 delete of a fluent,
  *   3 call of an action, 4 denial of a fluent (goes on if it does not hold).
  * Rule: 18 words: head, step count, 16 step words, unused ones 0.
- * Call record: 2 words: action (64 for the goal), state.
- * Answer record: 19 words: call record number; final state; rule number (256 for the
- *   goal); 16 evidence words. At a call step of the rule the evidence is the number of
- *   the answer record used, always a smaller one; elsewhere it is 0.
+ * Call record: 3 words: action (64 for the goal), state, round.
+ * Answer record: 20 words: call record number; final state; rule number (256 for the
+ *   goal); 16 evidence words; round. At a call step of the rule the evidence is the number
+ *   of the answer record used, always of a smaller number and a smaller round; elsewhere it
+ *   is 0.
+ * Round: the goal's call stands at round 0. Each round walks every body of every call of
+ *   an earlier round with only the answers of earlier rounds, and adds all new calls and
+ *   answers at once; a record's round is the one it came in. A run has as many rounds as
+ *   added something.
  * Result words of a start in a class: 4 words: refusal number or 0, ends, calls, answers.
- * Room of a table: its length divided by 2 or 19, rounded down, at most 65,536.
+ * Room of a table: its length divided by 3 or 20, rounded down, at most 65,536.
  * States by fluent: for each block of 64 states, of which the last may be shorter, one
  *   word per fluent, in fluent order. Bit i of the word of fluent k in block b, which is
  *   word k + b * fluents, is set exactly if fluent k holds in state i of the block, which
@@ -161,13 +166,14 @@ extern "C" {
  *   count, for a place past the record's end, and for a place after a step that cannot run.
  */
 #define LAWHEMURI_RULE_WORDS 18u
-#define LAWHEMURI_CALL_WORDS 2u
-#define LAWHEMURI_ANSWER_WORDS 19u
+#define LAWHEMURI_CALL_WORDS 3u
+#define LAWHEMURI_ANSWER_WORDS 20u
 #define LAWHEMURI_MOST_FLUENTS 64u
 #define LAWHEMURI_MOST_ACTIONS 64u
 #define LAWHEMURI_MOST_RULES 256u
 #define LAWHEMURI_MOST_STEPS 16u
 #define LAWHEMURI_MOST_RECORDS 65536u
+#define LAWHEMURI_MOST_CALL_ROUND 131071u
 #define LAWHEMURI_MOST_STARTS 1024u
 #define LAWHEMURI_START_WORDS 4u
 #define LAWHEMURI_MOST_SHEET_BYTES 65536u
@@ -209,6 +215,7 @@ typedef struct lawhemuri_run {
     uint64_t ends;
     uint64_t calls;   /* records in the call table */
     uint64_t answers; /* records in the answer table */
+    uint64_t rounds;  /* rounds that added something: at most calls + answers - 1 */
 } lawhemuri_run;
 
 /* What a path gives. */
@@ -302,14 +309,14 @@ lawhemuri_part lawhemuri_merged_fluent(const uint8_t *first, size_t first_len,
 /* Evaluates a goal from a start (refusals 20 to 31).
  *
  * No refusal:
- *   calls: result.calls records, each of the run's calls once; 0 past them.
- *   answers: result.answers records, each of the run's answers once, each justified by
- *     its evidence; 0 past them.
+ *   calls: result.calls records, each of the run's calls once, with its round; 0 past them.
+ *   answers: result.answers records, each of the run's answers once, with its round, each
+ *     justified by its evidence; 0 past them.
  *   ends: the goal's final states, result.ends of them in rising order; unchanged past
  *     them.
  * 20 to 24: all three unchanged.
  * 30: calls and answers 0 throughout, ends unchanged.
- * 31: calls and answers as with no refusal, the three counts given, ends unchanged.
+ * 31: calls and answers as with no refusal, all counts given, ends unchanged.
  */
 lawhemuri_run lawhemuri_evaluate(uint64_t fluents, uint64_t actions,
                                  const uint16_t *rules, size_t rules_len,
@@ -325,8 +332,8 @@ lawhemuri_run lawhemuri_evaluate(uint64_t fluents, uint64_t actions,
  *
  * 25: all buffers unchanged. Else:
  *   results: four words for each start, in the starts' order: its refusal number (20 to 31)
- *     or 0, its ends, calls and answers, as lawhemuri_evaluate gives them; unchanged past
- *     them.
+ *     or 0, its ends, calls and answers, as lawhemuri_evaluate gives them; its rounds have no
+ *     word here; unchanged past them.
  *   ends: the ends of the unrefused starts, one start after another, each start's in rising
  *     order; unchanged past them. A refused start takes no places, and later ones still run:
  *     one that has fewer places left than ends is 31.

@@ -1,6 +1,6 @@
 //! A class of 1,024 starts in one go, beside as many single calls made in turn with the same tables.
 
-use lawhemuri::{class, evaluate, outcomes, Buffers, Question, MOST_STARTS, START_WORDS};
+use lawhemuri::{class, evaluate, outcomes, Buffers, Question, ANSWER_WORDS, CALL_WORDS, MOST_STARTS, START_WORDS};
 use std::time::Instant;
 
 const INSERT: u16 = 256;
@@ -35,7 +35,7 @@ fn cases() -> [Case; 2] {
 }
 
 fn buffers() -> Left {
-    [vec![0; START_WORDS * MOST_STARTS], vec![0; 2 * ROOM], vec![0; 19 * ROOM], vec![0; 256 * MOST_STARTS]]
+    [vec![0; START_WORDS * MOST_STARTS], vec![0; CALL_WORDS * ROOM], vec![0; ANSWER_WORDS * ROOM], vec![0; 256 * MOST_STARTS]]
 }
 
 /// The class in one go.

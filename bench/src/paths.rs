@@ -4,6 +4,9 @@ use crate::book::{Book, CALL, DELETE, INSERT};
 use crate::timing::{race, verdict};
 use lawhemuri::{path, Records, Refusal, ANSWER_WORDS};
 
+/// The place of an answer record's round.
+const ROUND: usize = ANSWER_WORDS - 1;
+
 /// The body of the first record, and that of all others.
 struct Chain {
     name: &'static str,
@@ -19,10 +22,11 @@ const CHAINS: [Chain; 5] = [
     Chain { name: "empty", first: &[], others: &[CALL, CALL] },
 ];
 
-/// Every record is of the one call, in state 0, and ends in state 0.
+/// Every record is of the one call, in state 0, ends in state 0, and came in the round after that of the one before.
 fn answers(chain: &Chain, records: usize) -> Vec<u64> {
     let mut words = vec![0; ANSWER_WORDS * records];
     for n in 1..records {
+        words[ANSWER_WORDS * n + ROUND] = n as u64;
         words[ANSWER_WORDS * n + 2] = 1;
         for (q, &step) in chain.others.iter().enumerate() {
             if step == CALL {
@@ -47,7 +51,7 @@ impl Table<'_> {
     /// The steps of a record's rule, each with its evidence.
     fn steps(&self, n: usize) -> impl Iterator<Item = (u16, usize)> + '_ {
         let record = self.record(n);
-        self.bodies[record[2] as usize].iter().zip(&record[3..]).map(|(&step, &evidence)| (step, evidence as usize))
+        self.bodies[record[2] as usize].iter().zip(&record[3..ROUND]).map(|(&step, &evidence)| (step, evidence as usize))
     }
 
     /// Whether the evidence of a record leads from state 0 to its final state.
@@ -55,7 +59,7 @@ impl Table<'_> {
         let mut state = 0;
         for (step, evidence) in self.steps(n) {
             match step {
-                CALL if state != 0 || evidence >= n => return false,
+                CALL if state != 0 || evidence >= n || self.record(evidence)[ROUND] >= self.record(n)[ROUND] => return false,
                 CALL => state = self.record(evidence)[1],
                 _ => state = u64::from(step == INSERT),
             }
@@ -105,7 +109,7 @@ fn measure(chain: &Chain, count: usize) -> bool {
     book.rule(0, chain.others);
     let question = book.question();
     let answers = answers(chain, count);
-    let records = Records { calls: &[0, 0], call_count: 1, answers: &answers, answer_count: count };
+    let records = Records { calls: &[0, 0, 0], call_count: 1, answers: &answers, answer_count: count };
     let mut states = vec![0; 2 * 65536 + 1];
     let room = states.len() as u64;
     let table = Table { bodies: [chain.first, chain.others], answers: &answers };

@@ -4,7 +4,7 @@ use crate::book::Book;
 use crate::families::FAMILIES;
 use crate::plain;
 use crate::timing::{least, race, timed, verdict};
-use lawhemuri::{evaluate, Buffers, Run, ANSWER_WORDS, CALL_WORDS};
+use lawhemuri::{evaluate, Buffers, ANSWER_WORDS, CALL_WORDS};
 use std::io::{stdout, Write};
 use std::process::{exit, Command};
 use std::sync::mpsc::{channel, RecvTimeoutError::Timeout};
@@ -79,8 +79,7 @@ struct Figures {
 /// Both evaluators on a book of which the plain one's run is known.
 fn measure(book: &Book, known: &plain::Run, lent: &mut Lent) -> Figures {
     let ((run, ours), (_, plain)) = race(|| lent.evaluate(book), || plain::evaluate(book));
-    let counts = Run { ends: known.ends.len(), calls: known.calls, answers: known.answers };
-    let same = run == Some(counts) && lent.ends[..known.ends.len()] == known.ends;
+    let same = run == Some([known.ends.len(), known.calls, known.answers]) && lent.ends[..known.ends.len()] == known.ends;
     Figures { records: known.calls + known.answers, ours, plain, same }
 }
 
@@ -111,9 +110,9 @@ impl Lent {
         Lent { calls: words(run.calls, CALL_WORDS), answers: words(run.answers, ANSWER_WORDS), ends: words(run.ends.len(), 1) }
     }
 
-    /// The counts, or nothing where the library refuses.
-    fn evaluate(&mut self, book: &Book) -> Option<Run> {
+    /// The counts of ends, calls and answers, or nothing where the library refuses.
+    fn evaluate(&mut self, book: &Book) -> Option<[usize; 3]> {
         let mut lent = Buffers { calls: &mut self.calls, answers: &mut self.answers, ends: &mut self.ends };
-        evaluate(&book.question(), &mut lent).ok()
+        evaluate(&book.question(), &mut lent).ok().map(|run| [run.ends, run.calls, run.answers])
     }
 }

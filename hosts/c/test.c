@@ -24,7 +24,7 @@ static const char EXAMPLE[] = "fluent\topen\nfluent\tlit\naction\tpurge\naction\
 static const uint16_t RULES[36] = {0, 3, 768, 0, 257, [18] = 0, 1, 256};
 static const uint16_t GOAL[1] = {768};
 
-static uint64_t calls[2 * 8], answers[19 * 8], ends[8];
+static uint64_t calls[LAWHEMURI_CALL_WORDS * 8], answers[LAWHEMURI_ANSWER_WORDS * 8], ends[8];
 
 static int all(const uint64_t *words, size_t len, uint64_t value) {
     for (size_t i = 0; i < len; i++)
@@ -43,7 +43,8 @@ static lawhemuri_run in_rooms(size_t call_room, size_t answer_room, size_t list)
     fill(calls, WORDS(calls));
     fill(answers, WORDS(answers));
     fill(ends, WORDS(ends));
-    return lawhemuri_evaluate(2, 1, RULES, 36, GOAL, 1, 0, calls, 2 * call_room, answers, 19 * answer_room, ends, list);
+    return lawhemuri_evaluate(2, 1, RULES, 36, GOAL, 1, 0, calls, LAWHEMURI_CALL_WORDS * call_room, answers,
+                              LAWHEMURI_ANSWER_WORDS * answer_room, ends, list);
 }
 
 static lawhemuri_sheet read_text(const char *text, uint16_t *rules, size_t len) {
@@ -61,9 +62,9 @@ static void test_example(void) {
     fill(ends, WORDS(ends));
     lawhemuri_run r = lawhemuri_evaluate(s.fluents, s.actions, rules, LAWHEMURI_RULE_WORDS * s.rules, s.goal, s.goal_len,
                                          s.start, calls, WORDS(calls), answers, WORDS(answers), ends, WORDS(ends));
-    EXPECT(r.refusal == LAWHEMURI_OK && r.ends == 1 && r.calls == 3 && r.answers == 3);
+    EXPECT(r.refusal == LAWHEMURI_OK && r.ends == 1 && r.calls == 3 && r.answers == 3 && r.rounds == 5);
     EXPECT(ends[0] == 2 && all(ends + 1, WORDS(ends) - 1, MARK));
-    EXPECT(all(calls + 6, WORDS(calls) - 6, 0) && all(answers + 57, WORDS(answers) - 57, 0));
+    EXPECT(all(calls + 9, WORDS(calls) - 9, 0) && all(answers + 60, WORDS(answers) - 60, 0));
 }
 
 static void test_names(void) {
@@ -163,18 +164,18 @@ static void test_refused_sheets(void) {
 
 static void test_rooms(void) {
     lawhemuri_run r = in_rooms(2, 4, 2);
-    EXPECT(r.refusal == LAWHEMURI_OK && r.ends == 2 && r.calls == 2 && r.answers == 4);
+    EXPECT(r.refusal == LAWHEMURI_OK && r.ends == 2 && r.calls == 2 && r.answers == 4 && r.rounds == 4);
     EXPECT(ends[0] == 1 && ends[1] == 3 && all(ends + 2, WORDS(ends) - 2, MARK));
-    EXPECT(all(calls + 4, WORDS(calls) - 4, MARK) && all(answers + 76, WORDS(answers) - 76, MARK));
+    EXPECT(all(calls + 6, WORDS(calls) - 6, MARK) && all(answers + 80, WORDS(answers) - 80, MARK));
     static const size_t short_rooms[3][2] = {{1, 4}, {2, 3}, {0, 4}};
     for (size_t i = 0; i < 3; i++) {
         size_t c = short_rooms[i][0], a = short_rooms[i][1];
         r = in_rooms(c, a, 2);
-        EXPECT(r.refusal == LAWHEMURI_TABLES_FULL && r.ends == 0 && r.calls == 0 && r.answers == 0);
-        EXPECT(all(calls, 2 * c, 0) && all(answers, 19 * a, 0) && all(ends, WORDS(ends), MARK));
+        EXPECT(r.refusal == LAWHEMURI_TABLES_FULL && r.ends == 0 && r.calls == 0 && r.answers == 0 && r.rounds == 0);
+        EXPECT(all(calls, LAWHEMURI_CALL_WORDS * c, 0) && all(answers, LAWHEMURI_ANSWER_WORDS * a, 0) && all(ends, WORDS(ends), MARK));
     }
     r = in_rooms(2, 4, 1);
-    EXPECT(r.refusal == LAWHEMURI_LIST_SHORT && r.ends == 2 && r.calls == 2 && r.answers == 4);
+    EXPECT(r.refusal == LAWHEMURI_LIST_SHORT && r.ends == 2 && r.calls == 2 && r.answers == 4 && r.rounds == 4);
     EXPECT(calls[0] == LAWHEMURI_GOAL_ACTION && all(ends, WORDS(ends), MARK));
 }
 
@@ -186,7 +187,7 @@ static void test_refused_questions(void) {
     fill(answers, WORDS(answers));
     fill(ends, WORDS(ends));
 #define RUN(f, a, rules, len, goal, goal_len, start) \
-    lawhemuri_evaluate(f, a, rules, len, goal, goal_len, start, calls, 16, answers, 152, ends, 8).refusal
+    lawhemuri_evaluate(f, a, rules, len, goal, goal_len, start, calls, 24, answers, 160, ends, 8).refusal
     EXPECT(RUN(LAWHEMURI_MOST_FLUENTS + 1, 1, RULES, 36, GOAL, 1, 0) == LAWHEMURI_BAD_COUNTS);
     EXPECT(RUN(2, LAWHEMURI_MOST_ACTIONS + 1, RULES, 36, GOAL, 1, 0) == LAWHEMURI_BAD_COUNTS);
     EXPECT(RUN(2, 1, RULES, 35, GOAL, 1, 0) == LAWHEMURI_BAD_LENGTH);
@@ -221,10 +222,10 @@ static void test_path(void) {
     EXPECT(r.refusal == LAWHEMURI_OK && r.calls == 3 && r.answers == 3);
     uint64_t record = r.answers;
     for (uint64_t x = 0; x < r.answers; x++)
-        if (calls[2 * answers[19 * x]] == LAWHEMURI_GOAL_ACTION)
+        if (calls[LAWHEMURI_CALL_WORDS * answers[LAWHEMURI_ANSWER_WORDS * x]] == LAWHEMURI_GOAL_ACTION)
             record = x;
 #define PATH(count, call_room, record, places) \
-    lawhemuri_path(2, 2, rules, 36, goal, 1, calls, 2 * (call_room), r.calls, answers, WORDS(answers), count, record, states, places)
+    lawhemuri_path(2, 2, rules, 36, goal, 1, calls, LAWHEMURI_CALL_WORDS * (call_room), r.calls, answers, WORDS(answers), count, record, states, places)
     fill(states, WORDS(states));
     lawhemuri_states p = PATH(r.answers, 8, record, 5);
     EXPECT(p.refusal == LAWHEMURI_OK && p.states == 4);
@@ -233,9 +234,57 @@ static void test_path(void) {
     EXPECT(PATH(r.answers, 2, record, 5).refusal == LAWHEMURI_BAD_RECORD_COUNT);
     EXPECT(PATH(r.answers, 8, 3, 5).refusal == LAWHEMURI_NO_RECORD);
     EXPECT(PATH(r.answers, 8, record, 3).refusal == LAWHEMURI_STATES_SHORT);
-    answers[19 * record + 1] ^= 1;
+    answers[LAWHEMURI_ANSWER_WORDS * record + 1] ^= 1;
     p = PATH(r.answers, 8, record, 5);
     EXPECT(p.refusal == LAWHEMURI_BAD_RECORD && p.states == 0 && all(states, WORDS(states), MARK));
+}
+
+/* How many rounds drills D1, D3, D4, D7, D8 and D9 take, and a goal that is stuck at once. */
+static void test_rounds(void) {
+    static const struct {
+        uint16_t rules[36], goal[2];
+        size_t goal_len;
+        uint64_t start, rounds, calls, answers;
+    } drills[] = {
+        {{0, 1, 256, [18] = 1, 4, 768, 0, 257, 512}, {769}, 1, 0, 5, 3, 3}, {{0, 1, 768, [18] = 1}, {768}, 1, 0, 1, 2, 0},
+        {{0}, {0}, 0, 2, 1, 1, 1},                                         {{0, 1, 256, [18] = 1}, {768, 1}, 2, 0, 2, 2, 1},
+        {{0, 2, 256, 768, [18] = 0, 1, 0}, {768}, 1, 0, 5, 3, 3},          {{0, 2, 256, 512, [18] = 1, 2, 768, 768}, {769}, 1, 0, 5, 3, 3},
+        {{0}, {1}, 1, 0, 0, 1, 0},
+    };
+    for (size_t i = 0; i < WORDS(drills); i++) {
+        lawhemuri_run r = lawhemuri_evaluate(2, 2, drills[i].rules, 36, drills[i].goal, drills[i].goal_len, drills[i].start, calls,
+                                             WORDS(calls), answers, WORDS(answers), ends, WORDS(ends));
+        EXPECT(r.refusal == LAWHEMURI_OK && r.rounds == drills[i].rounds && r.calls == drills[i].calls && r.answers == drills[i].answers);
+    }
+    EXPECT(lawhemuri_evaluate(65, 1, RULES, 36, GOAL, 1, 0, NULL, 0, NULL, 0, NULL, 0).rounds == 0);
+    EXPECT(lawhemuri_evaluate(2, 1, RULES, 35, GOAL, 1, 0, NULL, 0, NULL, 0, NULL, 0).rounds == 0);
+    EXPECT(lawhemuri_evaluate(2, 0, RULES, 36, GOAL, 1, 0, NULL, 0, NULL, 0, NULL, 0).rounds == 0);
+    EXPECT(lawhemuri_evaluate(2, 1, RULES, 36, drills[0].goal, 1, 0, NULL, 0, NULL, 0, NULL, 0).rounds == 0);
+    EXPECT(lawhemuri_evaluate(2, 1, RULES, 36, GOAL, 1, 4, NULL, 0, NULL, 0, NULL, 0).rounds == 0);
+}
+
+/* The records of drill D2 with their rounds, and the rounds that the path refuses with 42. */
+static void test_rounds_of_records(void) {
+    static const uint64_t call_records[2][3] = {{64, 0, 0}, {0, 0, 1}};
+    static const uint64_t heads[4][4] = {{1, 1, 1, 0}, {0, 1, 256, 0}, {1, 3, 0, 0}, {0, 3, 256, 2}}, rounds[4] = {2, 3, 3, 4};
+    uint64_t states[4];
+    lawhemuri_run r = in_rooms(2, 4, 2);
+    EXPECT(r.refusal == LAWHEMURI_OK && r.rounds == 4 && memcmp(calls, call_records, sizeof call_records) == 0);
+    for (size_t x = 0; x < 4; x++) {
+        const uint64_t *record = answers + LAWHEMURI_ANSWER_WORDS * x;
+        EXPECT(memcmp(record, heads[x], sizeof heads[x]) == 0 && all(record + 4, 15, 0) && record[19] == rounds[x]);
+    }
+#define SHOWN() lawhemuri_path(2, 1, RULES, 36, GOAL, 1, calls, 6, 2, answers, 80, 4, 3, states, WORDS(states)).refusal
+    EXPECT(SHOWN() == LAWHEMURI_OK);
+    calls[2] = LAWHEMURI_MOST_CALL_ROUND;
+    EXPECT(SHOWN() == LAWHEMURI_OK);
+    calls[2] = LAWHEMURI_MOST_CALL_ROUND + 1;
+    EXPECT(SHOWN() == LAWHEMURI_BAD_RECORD);
+    calls[2] = 0;
+    answers[79] = UINT64_MAX;
+    EXPECT(SHOWN() == LAWHEMURI_OK);
+    answers[59] = answers[19];
+    EXPECT(SHOWN() == LAWHEMURI_BAD_RECORD);
 }
 
 /* Drill D5: an insert of what holds is an update too, so its path has two states. */
@@ -260,7 +309,7 @@ static void test_store(void) {
     lawhemuri_run r = lawhemuri_evaluate(2, 2, rules, 36, goal, 1, 0, calls, WORDS(calls), answers, WORDS(answers), ends, WORDS(ends));
     EXPECT(r.refusal == LAWHEMURI_OK && r.answers == 3);
     uint64_t record = 0;
-    while (record < r.answers && calls[2 * answers[19 * record]] != LAWHEMURI_GOAL_ACTION)
+    while (record < r.answers && calls[LAWHEMURI_CALL_WORDS * answers[LAWHEMURI_ANSWER_WORDS * record]] != LAWHEMURI_GOAL_ACTION)
         record++;
     lawhemuri_states p = lawhemuri_path(2, 2, rules, 36, goal, 1, calls, WORDS(calls), r.calls, answers, WORDS(answers), r.answers,
                                         record, states, WORDS(states));
@@ -321,7 +370,7 @@ static void test_refused_stores(void) {
 static void test_class(void) {
     static const uint64_t starts[4] = {0, 2, 4, 1};
     static const uint64_t told[16] = {0, 2, 2, 4, 0, 1, 2, 2, 24, 0, 0, 0, 31, 2, 2, 4};
-    uint64_t results[17], kept_calls[2 * 8], kept_answers[19 * 8];
+    uint64_t results[17], kept_calls[WORDS(calls)], kept_answers[WORDS(answers)];
     fill(results, WORDS(results));
     fill(calls, WORDS(calls));
     fill(answers, WORDS(answers));
@@ -346,7 +395,7 @@ static void test_refused_class(void) {
     fill(answers, WORDS(answers));
     fill(ends, WORDS(ends));
 #define CLASS(fluents, count, words) \
-    lawhemuri_class(fluents, 1, RULES, 36, GOAL, 1, starts, count, results, words, calls, 4, answers, 76, ends, 2)
+    lawhemuri_class(fluents, 1, RULES, 36, GOAL, 1, starts, count, results, words, calls, 6, answers, 80, ends, 2)
     EXPECT(CLASS(2, LAWHEMURI_MOST_STARTS + 1, WORDS(results)) == LAWHEMURI_BAD_CLASS);
     EXPECT(CLASS(2, 1, 3) == LAWHEMURI_BAD_CLASS);
     EXPECT(CLASS(65, 0, 0) == LAWHEMURI_OK);
@@ -474,6 +523,8 @@ int main(void) {
     test_refused_questions();
     test_denial();
     test_path();
+    test_rounds();
+    test_rounds_of_records();
     test_idle_update();
     test_store();
     test_blocks();

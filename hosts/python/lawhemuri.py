@@ -21,6 +21,9 @@ Text = Union[bytes, bytearray, memoryview, str]
 Rules = ctypes.Array[ctypes.c_uint16]
 Words = ctypes.Array[ctypes.c_uint64]
 
+# A call record: action, state, round. An answer record: call record number, final state, rule number, 16 evidence words, round.
+CALL_WORDS, ANSWER_WORDS = 3, 20
+
 # What each refusal means, in the words of the Rust host.
 MEANINGS = {
     10: "sheet longer than 65,536 bytes",
@@ -108,7 +111,13 @@ class Part(Shown):
 
 
 class Run(Shown):
-    """The refusal, 0 for none, and the counts."""
+    """The refusal, 0 for none, the counts, and how many rounds added something."""
+
+    _fields_ = [(name, U64) for name in ("refusal", "ends", "calls", "answers", "rounds")]
+
+
+class Start(Shown):
+    """What a class run tells of a start: the refusal, 0 for none, and the counts. It tells no rounds."""
 
     _fields_ = [(name, U64) for name in ("refusal", "ends", "calls", "answers")]
 
@@ -216,7 +225,7 @@ class Library:
 
     def evaluate(self, sheet: Sheet, rules: Rules, rooms: tuple[int, int, int] = (512, 256, 256)) -> tuple[Run, list[int], Words, Words]:
         """The run's counts, its ends in rising order, and the tables of calls and answers."""
-        calls, answers, ends = (U64 * (2 * rooms[0]))(), (U64 * (19 * rooms[1]))(), (U64 * rooms[2])()
+        calls, answers, ends = (U64 * (CALL_WORDS * rooms[0]))(), (U64 * (ANSWER_WORDS * rooms[1]))(), (U64 * rooms[2])()
         run = self._evaluate(
             sheet.fluents, sheet.actions, rules, 18 * sheet.rules, sheet.goal, sheet.goal_len, sheet.start,
             calls, len(calls), answers, len(answers), ends, len(ends),
@@ -227,13 +236,13 @@ class Library:
 
     def class_run(
         self, sheet: Sheet, rules: Rules, starts: Sequence[int], rooms: tuple[int, int, int] | None = None, words: int | None = None
-    ) -> list[tuple[Run, list[int]]]:
-        """For each start its run, whose refusal is 0 for none, and its ends in rising order. `rooms` are those of calls, answers and ends,
+    ) -> list[tuple[Start, list[int]]]:
+        """For each start its refusal, 0 for none, and counts, and its ends in rising order. `rooms` are those of calls, answers and ends,
         512, 256 and 256 for each start if none are given; `words` is the room for the result words. The tables are not handed back."""
         if not all(0 <= start < 2**64 for start in starts):
             raise ValueError("a start is a number of 64 bits")
         rooms = (512, 256, 256 * len(starts)) if rooms is None else rooms
-        calls, answers, ends = (U64 * (2 * rooms[0]))(), (U64 * (19 * rooms[1]))(), (U64 * rooms[2])()
+        calls, answers, ends = (U64 * (CALL_WORDS * rooms[0]))(), (U64 * (ANSWER_WORDS * rooms[1]))(), (U64 * rooms[2])()
         results = (U64 * (4 * len(starts) if words is None else words))()
         refusal = self._class(
             sheet.fluents, sheet.actions, rules, 18 * sheet.rules, sheet.goal, sheet.goal_len, (U64 * len(starts))(*starts), len(starts),
@@ -242,7 +251,7 @@ class Library:
         if refusal:
             raise Refused(refusal)
         given, used = [], 0
-        for run in (Run(*results[4 * i : 4 * i + 4]) for i in range(len(starts))):
+        for run in (Start(*results[4 * i : 4 * i + 4]) for i in range(len(starts))):
             taken = 0 if run.refusal else run.ends
             given.append((run, ends[used : used + taken]))
             used += taken
@@ -303,8 +312,8 @@ class Library:
 
 def goal_records(run: Run, calls: Words, answers: Words) -> dict[int, int]:
     """The number of the goal's answer record for each end."""
-    goals = [i for i in range(run.answers) if calls[2 * answers[19 * i]] == 64]
-    return {answers[19 * i + 1]: i for i in goals}
+    goals = [i for i in range(run.answers) if calls[CALL_WORDS * answers[ANSWER_WORDS * i]] == 64]
+    return {answers[ANSWER_WORDS * i + 1]: i for i in goals}
 
 
 def print_ends(lib: Library, text: Text) -> None:

@@ -90,7 +90,7 @@ class Kinds(unittest.TestCase):
             repr(sheet),
             f"Sheet(refusal=0, line=0, fluents=1, actions=0, rules=0, start=0, goal_len=1, goal={[256] + [0] * 15})",
         )
-        self.assertEqual(repr(LIBRARY.evaluate(sheet, rules)[0]), "Run(refusal=0, ends=1, calls=1, answers=1)")
+        self.assertEqual(repr(LIBRARY.evaluate(sheet, rules)[0]), "Run(refusal=0, ends=1, calls=1, answers=1, rounds=1)")
         with self.assertRaises(lawhemuri.Refused) as refused:
             LIBRARY.merge(self.TEXT, b"\n")
         said = "refused 13: no record word, or one out of order, sheet 2, line 1"
@@ -233,8 +233,52 @@ class ShortList(unittest.TestCase):
             LIBRARY.evaluate(sheet, rules, rooms=(2, 4, 1))
         self.assertEqual(short.exception.number, 31)
         run, same_calls, same_answers = short.exception.finished
-        self.assertEqual((run.ends, run.calls, run.answers), (2, 2, 4))
+        self.assertEqual((run.ends, run.calls, run.answers, run.rounds), (2, 2, 4, 4))
         self.assertEqual((list(same_calls), list(same_answers)), (list(calls), list(answers)))
+
+
+class Rounds(unittest.TestCase):
+    """How deep the work of a run went, and the round of each record."""
+
+    def setUp(self):
+        self.sheet, self.rules = LIBRARY.read(content(os.path.join(SHEETS, "left_recursion.sheet")))
+
+    def test_drills(self):
+        for fields, goal, rounds in [
+            ("rule\tg\t+a\nrule\th\t!g\t?a\t+b\t-a", "!h", 5),  # D1
+            ("rule\tg\t!g\t?a\t+b\nrule\tg\t+a", "!g", 4),  # D2
+            ("rule\tg\t!g", "!g", 1),  # D3
+            ("rule\tg\t+a", "!g\t?b", 2),  # D7
+            ("rule\tg\t+a\t!g\nrule\tg\t?a", "!g", 5),  # D8
+            ("rule\tg\t+a\t-a\nrule\th\t!g\t!g", "!h", 5),  # D9
+            ("rule\tg", "?a", 0),
+        ]:
+            text = f"fluent\ta\nfluent\tb\naction\tg\naction\th\n{fields}\nstart\ngoal\t{goal}\n"
+            self.assertEqual(LIBRARY.evaluate(*LIBRARY.read(text))[0].rounds, rounds)
+        empty = LIBRARY.evaluate(*LIBRARY.read("fluent\ta\nfluent\tb\nstart\tb\ngoal\n"))[0]  # D4
+        self.assertEqual((empty.answers, empty.rounds), (1, 1))
+
+    def test_records_of_left_recursion(self):
+        run, _, calls, answers = LIBRARY.evaluate(self.sheet, self.rules, rooms=(2, 4, 2))
+        self.assertEqual((run.rounds, list(calls)), (4, [64, 0, 0, 0, 0, 1]))
+        records = [answers[20 * i : 20 * i + 20] for i in range(4)]
+        self.assertEqual([record[:4] for record in records], [[1, 1, 1, 0], [0, 1, 256, 0], [1, 3, 0, 0], [0, 3, 256, 2]])
+        self.assertEqual([record[19] for record in records], [2, 3, 3, 4])
+
+    def test_rounds_that_no_table_has(self):
+        run, _, calls, answers = LIBRARY.evaluate(self.sheet, self.rules, rooms=(2, 4, 2))
+
+        def shown():
+            return LIBRARY.path(self.sheet, self.rules, run, calls, answers, 3)
+
+        path, calls[2], answers[79] = shown(), 131071, 2**64 - 1
+        self.assertEqual(shown(), path)
+        for table, word, value in (calls, 2, 131072), (answers, 59, 2):
+            kept, table[word] = table[word], value
+            with self.assertRaises(lawhemuri.Refused) as refused:
+                shown()
+            self.assertEqual(refused.exception.number, 42)
+            table[word] = kept
 
 
 class WholeClass(unittest.TestCase):

@@ -161,7 +161,7 @@ pub fn calls_itself(word: u16, action: u64) -> &'static str {
 
 #[cfg(test)]
 mod tests {
-    use lawhemuri::{evaluate, Buffers, Question, Rehearsal};
+    use lawhemuri::{evaluate, Buffers, Question, Rehearsal, ANSWER_WORDS, CALL_WORDS};
 
     use super::*;
     use crate::layout::{Layout, Row};
@@ -180,7 +180,7 @@ mod tests {
         for &start in from {
             let rules = drill.rehearsal.rules();
             let question = Question { fluents: sheet.fluents, actions: sheet.actions, rules, goal: body, start };
-            let (mut calls, mut answers, mut ends) = (vec![0; 2 * ROOM], vec![0; 19 * ROOM], vec![0; ROOM]);
+            let (mut calls, mut answers, mut ends) = (vec![0; CALL_WORDS * ROOM], vec![0; ANSWER_WORDS * ROOM], vec![0; ROOM]);
             let mut lent = Buffers { calls: &mut calls, answers: &mut answers, ends: &mut ends };
             let run = evaluate(&question, &mut lent).unwrap();
             reached.extend(&ends[..run.ends]);

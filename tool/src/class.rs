@@ -130,10 +130,10 @@ pub fn table(sheet: &Sheet, starts: &[Start], given: &[OfStart], with_ends: bool
 }
 
 /// The counts of a start; of one that is refused its number, which is 30 wherever a room does not help.
-fn counts(told: &Result<lawhemuri::Run, lawhemuri::Unrun>) -> [String; 3] {
+fn counts(told: &Result<lawhemuri::Counts, lawhemuri::Uncounted>) -> [String; 3] {
     match told {
-        Ok(run) => [run.ends, run.calls, run.answers].map(grouped),
-        Err(unrun) => [format!("refused {}", unrun.refusal.number()), "-".into(), "-".into()],
+        Ok(counts) => [counts.ends, counts.calls, counts.answers].map(grouped),
+        Err(refused) => [format!("refused {}", refused.refusal.number()), "-".into(), "-".into()],
     }
 }
 
@@ -143,15 +143,15 @@ pub fn json(sheet: &Sheet, starts: &[Start], given: &[OfStart]) -> String {
         |state: u64| holding(&sheet.fluents, state).iter().map(|name| format!("\"{name}\"")).collect::<Vec<_>>().join(",");
     let end = |end: &u64| format!("{{\"state\":\"{end}\",\"holds\":[{}]}}", names(*end));
     let row = |(start, (told, ends)): (&Start, &OfStart)| {
-        let (refusal, run) = told.map_or_else(|unrun| (unrun.refusal.number(), unrun.run), |run| (0, run));
+        let (refusal, counts) = told.map_or_else(|refused| (refused.refusal.number(), refused.counts), |counts| (0, counts));
         format!(
             "    {{\"start\":{},\"state\":\"{}\",\"holds\":[{}],\"refusal\":{refusal},\"ends\":{},\"calls\":{},\"answers\":{},\"list\":[{}]}}",
             quoted(&start.who),
             start.state,
             names(start.state),
-            run.ends,
-            run.calls,
-            run.answers,
+            counts.ends,
+            counts.calls,
+            counts.answers,
             ends.iter().map(end).collect::<Vec<_>>().join(",")
         )
     };

@@ -43,10 +43,11 @@ pub fn ends_json(drill: &Drill, numbers: &[usize]) -> String {
     };
     let list: Vec<String> = numbers.iter().map(end).collect();
     format!(
-        "{{\n  \"ends\":{},\n  \"calls\":{},\n  \"answers\":{},\n  \"fluents\":[{}],\n  \"start\":\"{}\",\n  \"list\":[{}]\n}}\n",
+        "{{\n  \"ends\":{},\n  \"calls\":{},\n  \"answers\":{},\n  \"rounds\":{},\n  \"fluents\":[{}],\n  \"start\":\"{}\",\n  \"list\":[{}]\n}}\n",
         counts.ends,
         counts.calls,
         counts.answers,
+        counts.rounds,
         names(drill.fluents().iter().map(String::as_str).collect()),
         drill.start(),
         if list.is_empty() { String::new() } else { format!("\n{}\n  ", list.join(",\n")) }
@@ -102,7 +103,7 @@ pub fn accepted(drill: &Drill) -> String {
     let (sheet, counts) = (drill.rehearsal.sheet(), drill.rehearsal.counts());
     let goal = if sheet.goal().is_empty() { "of no step".to_string() } else { drill.goal() };
     let mut out = format!(
-        "{}: accepted: {}, {}, {}, goal {goal}\n  {}, {}, {}; SHA-256 {}\n",
+        "{}: accepted: {}, {}, {}, goal {goal}\n  {}, {}, {}, {}; SHA-256 {}\n",
         drill.file,
         count(sheet.fluents as usize, "fluent"),
         count(sheet.actions as usize, "action"),
@@ -110,6 +111,7 @@ pub fn accepted(drill: &Drill) -> String {
         count_or_no(counts.ends, "end"),
         count(counts.calls, "call"),
         count(counts.answers, "answer"),
+        count_or_no(counts.rounds, "round"),
         digest(drill.rehearsal.text()),
     );
     let answers = Answers::of(drill);

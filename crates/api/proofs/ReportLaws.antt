@@ -27,7 +27,7 @@ use Rattle.report.proofs.Outcomes.{never-26, good-ends}
 -- ---- the result words of starts that were told so
 
 -- word k of start i
-word-at : (rs : List Told) (i k : ℕ) → i < length rs → k < 4 → getD (result-words rs) (4 * i + k) 0 ≡ getD (four (getD rs i (told 0 0 0 0))) k 0
+word-at : (rs : List Told) (i k : ℕ) → i < length rs → k < 4 → getD (result-words rs) (4 * i + k) 0 ≡ getD (four (getD rs i (told 0 0 0 0 0))) k 0
 word-at rs i k l h =
     sym (getD-take 4 (drop (4 * i) (result-words rs)) k 0 h ∙ getD-drop (4 * i) (result-words rs) k 0)
     ∙ ap (λ (ws : List ℕ). getD ws k 0) (ap (λ (ws : List ℕ). take 4 (drop (4 * i) ws)) (sym (append-nil (result-words rs))) ∙ words-of-start rs [] i l)
@@ -95,11 +95,11 @@ module _ {fluents actions : ℕ} {rules goal : List ℕ} {begun : List State} {r
     few-ends : (i : ℕ) → i < starts words → few words i ≡ true
     few-ends i l =
         let h : i < length (S .given) = omega (arith, long) in
-        let r = getD (S .given) i (told 0 0 0 0) in
+        let r = getD (S .given) i (told 0 0 0 0 0) in
         let first-word : getD words (4 * i) 0 ≡ r .refusal = ap (λ (n : ℕ). getD words n 0) (omega arith) ∙ word-at (S .given) i 0 h (omega arith) in
         few-at words i (λ z.
         subst (λ (n : ℕ). n ≤ 65536) (sym (word-at (S .given) i 1 h (omega arith)))
-        (S .most r (at-member (S .given) i (told 0 0 0 0) h) (sym first-word ∙ z)))
+        (S .most r (at-member (S .given) i (told 0 0 0 0 0) h) (sym first-word ∙ z)))
 
     results-good : bad-starts words (length (S .ends)) ≡ false
     results-good = good-starts words (length (S .ends)) (omega (arith, words-long (S .given))) (omega (arith, long, many)) few-ends sum-is

@@ -87,7 +87,7 @@ pub extern "C" fn lawhemuri_evaluate<'a>(
 ) -> evaluator::Run
     ensures { λ r. ⌜ Evaluated (asked fluents actions (now (rules .entry)) (now (goal .entry)) start)
         (lent (now (calls .entry)) (now (answers .entry)) (now (ends .entry))) (lent (now (calls .exit)) (now (answers .exit)) (now (ends .exit)))
-        (told (r .refusal) (r .ends) (r .calls) (r .answers)) ⌝ }
+        (told (r .refusal) (r .ends) (r .calls) (r .answers) (r .rounds)) ⌝ }
 {
     evaluator::evaluate(fluents, actions, rules, goal, start, calls, answers, ends)
 }

@@ -7,19 +7,25 @@ use mathlib.Core.List.{List, _∷_}
 use lib.ListN.{length, getD, drop, drop-of-length-le}
 use lib.Seq.{drop-cons}
 use lib.Dec.{eqb, ltb}
+use borrow.Author.Tests.{ltb-true}
 use Rattle.steps.specs.State.{State}
 use Rattle.steps.specs.Step.{Step, query, insert, delete, call, deny, Body}
 use Rattle.steps.specs.Words.{step-of, body-of}
 use Rattle.steps.specs.Inner.{is-call}
 use Rattle.steps.specs.Acceptance.{each-below}
 use Rattle.steps.specs.Elementary.{Onward, on, stuck, elementary}
+use Rattle.steps.proofs.EachBelow.{both}
 use Rattle.steps.proofs.WordLaws.{call-word, no-call}
-use Rattle.records.specs.Records.{Calls, Answers, follow, follows}
+use Rattle.records.specs.Records.{Calls, Answers, earlier, follow, follows}
 
 module _ (calls : Calls) (answers : Answers) (n : ℕ) where
+  -- an answer that comes before record n has a smaller number
+  pub earlier-below : (e : ℕ) → earlier calls answers n e ≡ true → e < n
+  earlier-below e h = ltb-true e n (both (ltb e n) _ h .0)
+
   -- a call takes the named answer
   pub follow-call : (w : ℕ) (s : State) (e : ℕ) → is-call w ≡ true → follow calls answers n (step-of w) s e
-      ≡ cond (ltb e n && (eqb (calls .action (answers .call e)) (w % 256) && eqb (calls .state (answers .call e)) s)) (on (answers .final e)) stuck
+      ≡ cond (earlier calls answers n e && (eqb (calls .action (answers .call e)) (w % 256) && eqb (calls .state (answers .call e)) s)) (on (answers .final e)) stuck
   unfolding follow
   follow-call w s e l = rw (call-word w l) refl
 

@@ -1,10 +1,11 @@
 -- The test `justified` by its parts, and what the records below are good for once they are justified. Assumes nothing.
-use Prim.Native.Nat.{ℕ, _*_, _<_, _≤_}
+use Prim.Native.Nat.{ℕ, _+_, _*_, _<_, _≤_}
 use native.Mathlib.Omega.{arith}
 use mathlib.Core.Path.{_≡_, refl}
 use mathlib.Core.Bool.{Bool, true, false}
 use mathlib.Core.List.{List}
-use lib.ListN.{length}
+use lib.ListN.{length, getD}
+use borrow.Author.Count.{below-more}
 use borrow.Author.Tests.{lt-ltb, le-ltb}
 use Rattle.steps.specs.Words.{body-of}
 use Rattle.steps.specs.Acceptance.{each-below}
@@ -38,3 +39,8 @@ readable calls k answers m bodies n fits most long all =
       long = long;
       called = λ x l. omega (arith, justified-out {bodies = bodies} {t = tables (call-table calls k) (answer-table answers m)} {n = x} (each-at (λ x. justified (call-table calls k) (answer-table answers m) x bodies) n all x l) .exists);
     }
+
+-- one record more, whose call record stands
+pub readable-more : {calls answers : List ℕ} {n k : ℕ} → Readable calls answers n → call-width * k ≤ length calls → n < 65536 → answer-width * n + answer-width ≤ length answers
+    → getD answers (answer-width * n) 0 < k → Readable calls answers (n + 1)
+readable-more r fits most long exists = record { most = omega arith; long = omega arith; called = below-more _ _ (r .called) (omega arith) }

@@ -1,21 +1,22 @@
 -- Records that 42 does not refuse. Assumes nothing.
-use Prim.Native.Nat.{ℕ, _^_, _<_}
+use Prim.Native.Nat.{ℕ, _^_, _<_, _≤_}
 use native.Mathlib.Nat.{div-eq-of-lt}
 use mathlib.Core.Path.{_≡_, refl}
-use mathlib.Core.Bool.{Bool, true, false, _||_}
+use mathlib.Core.Bool.{Bool, true, false, not, _||_}
 use mathlib.Core.Logic.{_⊎_, inl, inr}
 use lib.Dec.{eqb, ltb}
-use borrow.Author.Tests.{eq-eqb, lt-ltb}
+use borrow.Author.Tests.{eq-eqb, lt-ltb, le-leb, leb-true, not-false}
 use Rattle.steps.specs.Run.{Goal}
 use Rattle.steps.specs.Acceptance.{bad-state}
-use Rattle.steps.proofs.EachBelow.{each-all}
+use Rattle.steps.proofs.EachBelow.{both, each-at, each-all}
 use Rattle.records.specs.Records.{Calls, Answers, Bodies, justified}
-use Rattle.checks.specs.Checks.{good-call, good-calls, all-justified, bad-records}
+use Rattle.checks.specs.Checks.{last-round, good-call, good-calls, all-justified, bad-records}
 
--- A call record of the goal or of an action below the count, in a state of the fluents counted.
+-- A call record of the goal or of an action below the count, in a state of the fluents counted, of a round that a run can come to.
 pub record Proper (fluents actions : ℕ) (calls : Calls) (i : ℕ) : Type 0 where
   pub action : (calls .action i ≡ Goal) ⊎ (calls .action i < actions)
   pub state : calls .state i < 2 ^ fluents
+  pub round : calls .round i ≤ last-round
 
 within : (fluents s : ℕ) → s < 2 ^ fluents → bad-state fluents s ≡ false
 unfolding bad-state
@@ -31,7 +32,7 @@ either actions a (inr l) = by (eqb a Goal)
 
 proper-good : (fluents actions : ℕ) (calls : Calls) (i : ℕ) → Proper fluents actions calls i → good-call fluents actions calls i ≡ true
 unfolding good-call
-proper-good fluents actions calls i p = rw (either actions (calls .action i) (p .action), within fluents (calls .state i) (p .state)) refl
+proper-good fluents actions calls i p = rw (either actions (calls .action i) (p .action), within fluents (calls .state i) (p .state), le-leb (calls .round i) last-round (p .round)) refl
 
 -- What an evaluation leaves, proper calls and justified answers, is never refused.
 pub never-bad : (fluents actions : ℕ) (bodies : Bodies) (calls : Calls) (answers : Answers) → ((i : ℕ) → i < calls .count → Proper fluents actions calls i)
@@ -39,3 +40,11 @@ pub never-bad : (fluents actions : ℕ) (bodies : Bodies) (calls : Calls) (answe
 unfolding bad-records good-calls all-justified
 never-bad fluents actions bodies calls answers proper just =
     rw (each-all (good-call fluents actions calls) (calls .count) (λ i l. proper-good fluents actions calls i (proper i l)), each-all (λ n. justified calls answers n bodies) (answers .count) just) refl
+
+-- The rounds of call records that are not refused.
+pub rounds-right : (fluents actions : ℕ) (bodies : Bodies) (calls : Calls) (answers : Answers) → bad-records fluents actions bodies calls answers ≡ false
+    → (i : ℕ) → i < calls .count → calls .round i ≤ last-round
+unfolding bad-records good-calls good-call
+rounds-right fluents actions bodies calls answers e i l =
+    let good = each-at (good-call fluents actions calls) (calls .count) (both (good-calls fluents actions calls) _ (not-false _ e) .0) i l in
+    leb-true (calls .round i) last-round (both (not (bad-state fluents (calls .state i))) _ (both (eqb (calls .action i) Goal || ltb (calls .action i) actions) _ good .1) .1)

@@ -3,7 +3,7 @@ use Prim.Native.Nat.{ℕ}
 use mathlib.Core.Bool.{Bool, not, _&&_, _||_}
 use mathlib.Core.List.{List}
 use lib.ListN.{length}
-use lib.Dec.{eqb, ltb}
+use lib.Dec.{eqb, leb, ltb}
 use Rattle.steps.specs.Run.{Goal}
 use Rattle.steps.specs.Acceptance.{each-below, bad-state}
 use Rattle.records.specs.Records.{Calls, Answers, Bodies, room, justified, call-width, answer-width}
@@ -13,9 +13,15 @@ unfoldable pub over-room : List ℕ → ℕ → List ℕ → ℕ → Bool
 over-room calls call-count answers answer-count = ltb (room call-width (length calls)) call-count
     || ltb (room answer-width (length answers)) answer-count
 
--- A good call record: its action is 64 or below the count, and no state bit is at or above the fluent count.
+-- The last round that a call can come in: the goal's call stands at round 0, each round after it adds a record, and both tables together hold at
+-- most 131,072.
+abbrev pub last-round : ℕ
+last-round = 131071
+
+-- A good call record: its action is 64 or below the count, no state bit is at or above the fluent count, and its round is not over 131,071.
 unfoldable pub good-call : ℕ → ℕ → Calls → ℕ → Bool
-good-call fluents actions calls i = (eqb (calls .action i) Goal || ltb (calls .action i) actions) && not (bad-state fluents (calls .state i))
+good-call fluents actions calls i =
+    (eqb (calls .action i) Goal || ltb (calls .action i) actions) && (not (bad-state fluents (calls .state i)) && leb (calls .round i) last-round)
 
 -- Every call record is good.
 unfoldable pub good-calls : ℕ → ℕ → Calls → Bool
@@ -25,6 +31,6 @@ good-calls fluents actions calls = each-below (calls .count) (good-call fluents 
 unfoldable pub all-justified : Calls → Answers → Bodies → Bool
 all-justified calls answers bodies = each-below (answers .count) (λ n. justified calls answers n bodies)
 
--- 42: a call record with an action neither 64 nor below the count, or a state bit too high; or an answer not justified
+-- 42: a call record with an action neither 64 nor below the count, a state bit too high, or a round over 131,071; or an answer not justified
 unfoldable pub bad-records : ℕ → ℕ → Bodies → Calls → Answers → Bool
 bad-records fluents actions bodies calls answers = not (good-calls fluents actions calls && all-justified calls answers bodies)

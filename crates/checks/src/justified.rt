@@ -22,7 +22,7 @@ fn unused(answers: &[u64], n: usize, q: usize) -> bool
 {
     let mut i = 0;
     while i < 16 - q {
-        if tables::evidence_of(answers, n, q + i) != 0 {
+        if tables::evidence_of(answers, tables::ANSWER_WORDS, n, q + i) != 0 {
             return false;
         }
         i += 1;
@@ -32,8 +32,7 @@ fn unused(answers: &[u64], n: usize, q: usize) -> bool
 
 // Whether walking the body from a state with the evidence of record n ends in its final state.
 fn follows(body: &[u16], start: State, n: usize, calls: &[u64], answers: &[u64]) -> bool
-    requires { ⌜ Readable (now calls) (now answers) n × (n < 65536) × (answer-width * n + answer-width ≤ length (now answers))
-        × (length (now body) ≤ 16) ⌝ }
+    requires { ⌜ Readable (now calls) (now answers) (n + 1) × (length (now body) ≤ 16) ⌝ }
     ensures { λ b. ⌜ ((c m : ℕ) → b ≡ follows (call-table (now (calls .entry)) c) (answer-table (now (answers .entry)) m) n
         (body-of (now (body .entry))) 0 (start .0)) ⌝ }
 {
@@ -43,7 +42,7 @@ fn follows(body: &[u16], start: State, n: usize, calls: &[u64], answers: &[u64])
         let next = follow(
             body[q],
             state,
-            tables::evidence_of(answers, n, q),
+            tables::evidence_of(answers, tables::ANSWER_WORDS, n, q),
             n,
             calls,
             answers,
@@ -58,7 +57,7 @@ fn follows(body: &[u16], start: State, n: usize, calls: &[u64], answers: &[u64])
         }
         q += 1;
     }
-    if state.0 == tables::final_of(answers, n).0 {
+    if state.0 == tables::final_of(answers, tables::ANSWER_WORDS, n).0 {
         return unused(answers, n, q);
     }
     false
@@ -78,14 +77,18 @@ pub fn justified<'a>(
     ensures { λ b. ⌜ ((m : ℕ) → b ≡ justified (call-table (now (calls .entry)) «call_count») (answer-table (now (answers .entry)) m) n
         (bodies-of (now (rules .entry)) (now (goal .entry)))) ⌝ }
 {
-    let call = tables::call_of(answers, n);
+    let call = tables::call_of(answers, tables::ANSWER_WORDS, n);
     if call < call_count as u64 {
         let row = call as usize;
-        let rule = tables::rule_of(answers, n);
-        if bodies::is_of(rules, rule, tables::action_of(calls, row)) {
+        let rule = tables::rule_of(answers, tables::ANSWER_WORDS, n);
+        if bodies::is_of(
+            rules,
+            rule,
+            tables::action_of(calls, tables::CALL_WORDS, row),
+        ) {
             return follows(
                 bodies::steps_of(rules, goal, rule),
-                tables::state_of(calls, row),
+                tables::state_of(calls, tables::CALL_WORDS, row),
                 n,
                 calls,
                 answers,

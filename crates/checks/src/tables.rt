@@ -11,6 +11,9 @@ ghost use Rattle.steps.specs.Acceptance.{bad-state, words-refusal};
 ghost use Rattle.records.specs.Records.{bodies-of, room, call-table, answer-table, call-width};
 ghost use Rattle.checks.specs.Checks.{over-room, good-call, good-calls, bad-records};
 
+// The last round that a call can come in.
+const LAST_ROUND: u64 = 131071;
+
 // Whether a record count is over its room: 40.
 pub fn over_room(calls: &[u64], call_count: u64, answers: &[u64], answer_count: u64) -> bool
     ensures { λ b. ⌜ b ≡ over-room (now (calls .entry)) «call_count» (now (answers .entry)) «answer_count» ⌝ }
@@ -26,13 +29,16 @@ fn good_call(fluents: u64, actions: u64, calls: &[u64], i: usize) -> bool
     requires { ⌜ call-width * i + call-width ≤ length (now calls) ⌝ }
     ensures { λ b. ⌜ ((c : ℕ) → b ≡ good-call fluents actions (call-table (now (calls .entry)) c) i) ⌝ }
 {
-    let action = tables::action_of(calls, i);
+    let action = tables::action_of(calls, tables::CALL_WORDS, i);
     if action != Call::GOAL {
         if actions <= action {
             return false;
         }
     }
-    !accept::bad_state(fluents, tables::state_of(calls, i).0)
+    if accept::bad_state(fluents, tables::state_of(calls, tables::CALL_WORDS, i).0) {
+        return false;
+    }
+    tables::round_of(calls, tables::CALL_OTHERS, tables::CALL_WORDS, i) <= LAST_ROUND
 }
 
 // Whether every call record is good.

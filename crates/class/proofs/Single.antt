@@ -31,7 +31,7 @@ module _ {ask : State → Asked} where
 
   -- Start i is told what any single evaluation of it tells, in tables of these lengths and a list of the places left.
   pub start-single : {starts : List State} {before last b a : Lent} {rs : List Told} {r : Told} (i : ℕ) → i < length starts → Turns ask starts before last rs
-      → SameRoom b (handed-on (written (take i rs)) before) → Evaluated (ask (getD starts i 0)) b a r → getD rs i (told 0 0 0 0) ≡ r
+      → SameRoom b (handed-on (written (take i rs)) before) → Evaluated (ask (getD starts i 0)) b a r → getD rs i (told 0 0 0 0 0) ≡ r
   unfolding written
   start-single i l over s E = absurd (omega arith)
   start-single {before = before} {b = b} zero l (turn {start = start} F T) s E = sym (one-result (ask start) b before (s .calls) (s .answers) (s .ends) E F)
@@ -46,7 +46,7 @@ module _ {ask : State → Asked} where
 -- ---- result words
 
 -- the four words of start i
-words-at : (rs : List Told) (i : ℕ) → i < length rs → take 4 (drop (4 * i) (result-words rs)) ≡ four (getD rs i (told 0 0 0 0))
+words-at : (rs : List Told) (i : ℕ) → i < length rs → take 4 (drop (4 * i) (result-words rs)) ≡ four (getD rs i (told 0 0 0 0 0))
 unfolding result-words
 words-at [] i l = absurd (omega arith)
 words-at (r ∷ rs) zero l = refl
@@ -57,7 +57,7 @@ words-at (r ∷ rs) (suc i) l =
     ∙ words-at rs i (omega arith)
 
 -- also where other words follow
-pub words-of-start : (rs : List Told) (more : List ℕ) (i : ℕ) → i < length rs → take 4 (drop (4 * i) (result-words rs ++ more)) ≡ four (getD rs i (told 0 0 0 0))
+pub words-of-start : (rs : List Told) (more : List ℕ) (i : ℕ) → i < length rs → take 4 (drop (4 * i) (result-words rs ++ more)) ≡ four (getD rs i (told 0 0 0 0 0))
 words-of-start rs more i l =
     ap (take 4) (drop-append-le (4 * i) (result-words rs) more (omega (arith, words-long rs)))
     ∙ take-append-le 4 (drop (4 * i) (result-words rs)) more (omega (arith, words-long rs, length-drop (4 * i) (result-words rs)))

@@ -9,7 +9,7 @@ use Rattle.refusals.specs.Class.{class-refusals}
 use Rattle.steps.specs.State.{State}
 use Rattle.evaluator.specs.Evaluated.{Asked, Lent, Told, lent, Evaluated}
 
--- For each start "4 words are written": "refusal number or 0, ends, calls, answers".
+-- For each start "4 words are written": "refusal number or 0, ends, calls, answers". The rounds of R-6 have no word here.
 abbrev pub four : Told → List ℕ
 four r = r .refusal ∷ r .ends ∷ r .calls ∷ r .answers ∷ []
 

@@ -52,7 +52,7 @@ pub fn class<'a>(
 
 // How many places of the list a start has taken: none if it was refused.
 fn taken(run: Run) -> u64
-    ensures { λ n. ⌜ n ≡ places (told (run .refusal) (run .ends) (run .calls) (run .answers)) ⌝ }
+    ensures { λ n. ⌜ n ≡ places (told (run .refusal) (run .ends) (run .calls) (run .answers) (run .rounds)) ⌝ }
 {
     if run.refusal == 0 {
         return run.ends;
@@ -60,11 +60,11 @@ fn taken(run: Run) -> u64
     0
 }
 
-// Puts the four words of a start at a place.
+// Puts the four words of a start at a place; its rounds have none.
 fn put(results: &mut [u64], at: usize, run: Run)
     requires { ⌜ at + 4 ≤ length (now results) ⌝ }
     ensures { λ _. ⌜ now (results .exit)
-        ≡ take at (now (results .entry)) ++ four (told (run .refusal) (run .ends) (run .calls) (run .answers))
+        ≡ take at (now (results .entry)) ++ four (told (run .refusal) (run .ends) (run .calls) (run .answers) (run .rounds))
         ++ drop (at + 4) (now (results .entry)) ⌝ }
 {
     results[at] = run.refusal;

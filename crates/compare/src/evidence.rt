@@ -4,9 +4,12 @@ use crate::words;
 // No state.
 const NONE: u64 = 255;
 
-// The state that answer e leaves, if it stands before record x and its call is of this action at this state; else none.
+// The state that answer e leaves, if it stands before record x, came in an earlier round and its call is of this action at this state; else none.
 fn used(calls: &[u64], answers: &[u64], x: u64, e: u64, action: u64, state: u64) -> u64 {
     if x <= e {
+        return NONE;
+    }
+    if words::of_answer(answers, x, 19) <= words::of_answer(answers, e, 19) {
         return NONE;
     }
     let call = words::of_answer(answers, e, 0);

@@ -1,6 +1,7 @@
 // Compares reader, writer and evaluator with a separately written evaluator on sheets at random and in some dress: the words read, the text
-// written and what it reads to, ends, calls, answers, justifications, rooms, and a record's marks. The other evaluator works on the words of a
-// book of three fluents, from which a sheet of 64 was written.
+// written and what it reads to, ends, calls, answers, rounds, justifications, rooms, and a record's marks. The other evaluator works on the words
+// of a book of three fluents, from which a sheet of 64 was written.
+mod depth;
 mod evidence;
 mod marks;
 mod rooms;
@@ -17,7 +18,7 @@ use relation::random;
 use sheet::Sheet;
 
 // What was seen: sheets; their comment lines and lines ended by CR LF; rules that call their own action first; sheets in which two actions
-// call each other first; ends, calls and answers; sheets in which an action called has an answer; recorded steps that can run, records that
+// call each other first; ends, calls, answers and rounds; sheets in which an action called has an answer; recorded steps that can run, records that
 // are the goal's, marks. Then the sheets that differ.
 struct Tally {
     sheets: u64,
@@ -28,6 +29,7 @@ struct Tally {
     ends: u64,
     calls: u64,
     answers: u64,
+    rounds: u64,
     inner: u64,
     runs: u64,
     yes: u64,
@@ -38,6 +40,7 @@ struct Tally {
     bad_ends: u64,
     bad_calls: u64,
     bad_answers: u64,
+    bad_rounds: u64,
     bad_evidence: u64,
     bad_rooms: u64,
     bad_marks: u64,
@@ -57,6 +60,7 @@ fn plus(a: Tally, b: Tally) -> Tally {
         ends: sum(a.ends, b.ends),
         calls: sum(a.calls, b.calls),
         answers: sum(a.answers, b.answers),
+        rounds: sum(a.rounds, b.rounds),
         inner: sum(a.inner, b.inner),
         runs: sum(a.runs, b.runs),
         yes: sum(a.yes, b.yes),
@@ -67,6 +71,7 @@ fn plus(a: Tally, b: Tally) -> Tally {
         bad_ends: sum(a.bad_ends, b.bad_ends),
         bad_calls: sum(a.bad_calls, b.bad_calls),
         bad_answers: sum(a.bad_answers, b.bad_answers),
+        bad_rounds: sum(a.bad_rounds, b.bad_rounds),
         bad_evidence: sum(a.bad_evidence, b.bad_evidence),
         bad_rooms: sum(a.bad_rooms, b.bad_rooms),
         bad_marks: sum(a.bad_marks, b.bad_marks),
@@ -83,6 +88,7 @@ fn none() -> Tally {
         ends: 0,
         calls: 0,
         answers: 0,
+        rounds: 0,
         inner: 0,
         runs: 0,
         yes: 0,
@@ -93,6 +99,7 @@ fn none() -> Tally {
         bad_ends: 0,
         bad_calls: 0,
         bad_answers: 0,
+        bad_rounds: 0,
         bad_evidence: 0,
         bad_rooms: 0,
         bad_marks: 0,
@@ -163,7 +170,7 @@ fn same_calls(run: Run, found: Found, calls: &[u64], called: &[u64; 4], start: u
     if n != found.calls {
         return false;
     }
-    if !words::all_from(calls, (n % 41) as usize * 2, 0) {
+    if !words::all_from(calls, (n % 41) as usize * 3, 0) {
         return false;
     }
     tables::same_calls(calls, n, called, start)
@@ -182,10 +189,24 @@ fn same_answers(
     if m != found.answers {
         return false;
     }
-    if !words::all_from(answers, (m % 301) as usize * 19, 0) {
+    if !words::all_from(answers, (m % 301) as usize * 20, 0) {
         return false;
     }
     tables::same_answers(calls, run.calls, answers, m, rel, called, found.ends, start)
+}
+
+// Whether the rounds of a run and of its records are those of the book, and whether each answer is justified.
+struct Good {
+    rounds: bool,
+    evidence: bool,
+}
+
+fn checked(book: &[u16; 126], start: u64, run: Run, calls: &[u64], answers: &[u64]) -> Good {
+    let told = depth::compare(book, start, calls, run.calls, answers, run.answers);
+    Good {
+        rounds: told.same && told.rounds == run.rounds,
+        evidence: evidence::all_justified(book, calls, run.calls, answers, run.answers),
+    }
 }
 
 // Compares the marks of a record over what is read from the sheet.
@@ -205,8 +226,8 @@ fn evaluated(
     ends: &mut [u64],
 ) -> Run {
     let run = rooms::evaluate(read, rules, calls, answers, ends);
-    spread::put_all_back(calls, 2, 1, run.calls, base);
-    spread::put_all_back(answers, 19, 1, run.answers, base);
+    spread::put_all_back(calls, 3, 1, run.calls, base);
+    spread::put_all_back(answers, 20, 1, run.answers, base);
     spread::put_all_back(ends, 1, 0, run.ends, base);
     run
 }
@@ -221,8 +242,8 @@ fn compared(book: &[u16; 126], start: u64, dress: u64) -> Tally {
     let from = spread::state(start, base);
     let mut rules = [0u16; 108];
     let read = sheets::read(&wide, from, dress, &mut rules);
-    let mut calls = [words::MARK; 80];
-    let mut answers = [words::MARK; 5700];
+    let mut calls = [words::MARK; 120];
+    let mut answers = [words::MARK; 6000];
     let mut ends = [words::MARK; 10];
     let run = evaluated(read, &rules, base, &mut calls, &mut answers, &mut ends);
     let good_rooms = rooms::exact(read, &rules, run);
@@ -232,7 +253,7 @@ fn compared(book: &[u16; 126], start: u64, dress: u64) -> Tally {
     let good_ends = same_ends(run, found.ends, &ends);
     let good_calls = same_calls(run, found, &calls, &called, start);
     let good_answers = same_answers(run, found, &calls, &answers, &rel, &called, start);
-    let good_evidence = evidence::all_justified(book, &calls, run.calls, &answers, run.answers);
+    let records = checked(book, start, run, &calls, &answers);
     let seen = marked(book, &wide, start, base, dress);
     Tally {
         sheets: 1,
@@ -243,6 +264,7 @@ fn compared(book: &[u16; 126], start: u64, dress: u64) -> Tally {
         ends: run.ends,
         calls: run.calls,
         answers: run.answers,
+        rounds: run.rounds,
         inner: failed(run.answers == run.ends),
         runs: seen.runs,
         yes: seen.yes,
@@ -253,7 +275,8 @@ fn compared(book: &[u16; 126], start: u64, dress: u64) -> Tally {
         bad_ends: failed(good_ends),
         bad_calls: failed(good_calls),
         bad_answers: failed(good_answers),
-        bad_evidence: failed(good_evidence),
+        bad_rounds: failed(records.rounds),
+        bad_evidence: failed(records.evidence),
         bad_rooms: failed(good_rooms),
         bad_marks: failed(seen.same),
     }
@@ -297,6 +320,7 @@ fn print_seen(t: Tally) {
     line(b"ends", t.ends);
     line(b"calls", t.calls);
     line(b"answers", t.answers);
+    line(b"rounds", t.rounds);
     line(b"sheets with answers of inner calls", t.inner);
     line(b"recorded steps that can run", t.runs);
     line(b"records that are the goal's", t.yes);
@@ -310,6 +334,7 @@ fn print_differences(t: Tally) {
     line(b"sheets that differ in ends", t.bad_ends);
     line(b"sheets that differ in calls", t.bad_calls);
     line(b"sheets that differ in answers", t.bad_answers);
+    line(b"sheets that differ in rounds", t.bad_rounds);
     line(b"sheets with an answer not justified", t.bad_evidence);
     line(b"sheets refused in wrong rooms", t.bad_rooms);
     line(b"records marked otherwise", t.bad_marks);

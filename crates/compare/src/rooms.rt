@@ -19,6 +19,7 @@ fn evaluate_steps<'a>(
             ends: 0,
             calls: 0,
             answers: 0,
+            rounds: 0,
         };
     }
     evaluator::evaluate(
@@ -50,7 +51,7 @@ fn full(run: Run, calls: &[u64], answers: &[u64]) -> bool {
     if run.ends != 0 || run.calls != 0 {
         return false;
     }
-    if run.answers != 0 {
+    if run.answers != 0 || run.rounds != 0 {
         return false;
     }
     if !words::all_from(calls, 0, 0) {
@@ -78,6 +79,9 @@ fn short(run: Run, whole: Run, calls: &[u64], start: u64) -> bool {
         return false;
     }
     if run.answers != whole.answers {
+        return false;
+    }
+    if run.rounds != whole.rounds {
         return false;
     }
     holds_goal(calls, run.calls, start)
@@ -114,11 +118,11 @@ fn refusal_with(
 
 // The refusal in rooms for so many calls, answers and ends.
 fn refusal_in(read: Sheet, rules: &[u16], whole: Run, n: u64, m: u64, e: u64) -> u64 {
-    let mut calls = [words::MARK; 80];
-    let mut answers = [words::MARK; 5700];
+    let mut calls = [words::MARK; 120];
+    let mut answers = [words::MARK; 6000];
     let mut ends = [words::MARK; 10];
-    let c = 80 - (n % 41) as usize * 2;
-    let a = 5700 - (m % 301) as usize * 19;
+    let c = 120 - (n % 41) as usize * 3;
+    let a = 6000 - (m % 301) as usize * 20;
     let l = 10 - (e % 11) as usize;
     refusal_with(
         read,

@@ -12,12 +12,12 @@ pub fn word(table: &[u64], i: usize) -> u64 {
 
 // The word at k of call record i.
 pub fn of_call(calls: &[u64], i: u64, k: usize) -> u64 {
-    word(calls, (i % 65536) as usize * 2 + k % 2)
+    word(calls, (i % 65536) as usize * 3 + k % 3)
 }
 
 // The word at k of answer record x.
 pub fn of_answer(answers: &[u64], x: u64, k: usize) -> u64 {
-    word(answers, (x % 65536) as usize * 19 + k % 19)
+    word(answers, (x % 65536) as usize * 20 + k % 20)
 }
 
 // Whether every word from a place on is v.

@@ -1,5 +1,4 @@
 // A whole class in one go: drill D2's goal from several starts in turn, and what is refused. Every word lent is 9 before.
-use crate::print;
 use crate::runs;
 
 // Runs the goal from these starts with these buffers, and prints what is given and left.
@@ -38,12 +37,12 @@ fn shown<'a>(
 fn in_rooms(name: &[u8], starts: &[u64], words: usize, n: usize, m: usize, e: usize) {
     let rules = runs::book();
     let mut results = [9u64; 17];
-    let mut calls = [9u64; 16];
-    let mut answers = [9u64; 152];
+    let mut calls = [9u64; 24];
+    let mut answers = [9u64; 160];
     let mut ends = [9u64; 4];
     let w = 17 - words % 18;
-    let c = 16 - n % 9 * 2;
-    let a = 152 - m % 9 * 19;
+    let c = 24 - n % 9 * 3;
+    let a = 160 - m % 9 * 20;
     let l = 4 - e % 5;
     shown(
         name,
@@ -86,8 +85,8 @@ fn rooms() {
 fn asked(name: &[u8], fluents: u64, step: u16, starts: &[u64]) {
     let rules = runs::book();
     let mut results = [9u64; 9];
-    let mut calls = [9u64; 4];
-    let mut answers = [9u64; 76];
+    let mut calls = [9u64; 6];
+    let mut answers = [9u64; 80];
     let mut ends = [9u64; 2];
     shown(
         name,
@@ -111,8 +110,8 @@ fn books() {
 // The empty goal from many starts: what is given, the words of some starts, the word past the last of 1,024, and some of the list.
 fn many(name: &[u8], starts: &[u64]) {
     let mut results = [9u64; 4100];
-    let mut calls = [9u64; 2];
-    let mut answers = [9u64; 19];
+    let mut calls = [9u64; 3];
+    let mut answers = [9u64; 20];
     let mut ends = [9u64; 1025];
     let r = class::class(
         2,

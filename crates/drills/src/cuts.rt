@@ -1,11 +1,10 @@
 // A goal cut in two (request R-11): `!g -a !g` over the book of drill D2, whole and cut at each place.
-use crate::print;
 use crate::runs;
 
 // Evaluates from a start, and prints the ends. Every place of the list is 7 before, which is no state of two fluents.
 fn ends<'a>(name: &[u8], rules: &'a [u16], goal: &'a [u16], start: u64, list: &mut [u64; 2]) {
-    let mut calls = [7u64; 16];
-    let mut answers = [7u64; 304];
+    let mut calls = [7u64; 24];
+    let mut answers = [7u64; 320];
     let r = evaluator::evaluate(2, 1, rules, goal, start, &mut calls, &mut answers, list);
     print::text(name);
     print::number(b"from", start);

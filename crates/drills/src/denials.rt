@@ -1,12 +1,10 @@
-// Denials (request R-2): the step `~`, kind 4, in goals, rules, paths and sheets. Every word lent is 7 before.
-use crate::print;
+// Denials (request R-2): the step `~`, kind 4, in goals, rules and paths. Every word lent is 7 before.
 use crate::runs;
-use crate::sheets;
 
 // A question in rooms of 4 records, with a list of 4.
 fn asked<'a>(name: &[u8], fluents: u64, rules: &'a [u16], goal: &'a [u16], start: u64) {
-    let mut calls = [7u64; 8];
-    let mut answers = [7u64; 76];
+    let mut calls = [7u64; 12];
+    let mut answers = [7u64; 80];
     let mut ends = [7u64; 4];
     runs::shown(
         name,
@@ -80,19 +78,21 @@ fn shown(name: &[u8], evidence: u64) {
     rules[2] = 1024;
     rules[3] = 256;
     rules[4] = 1025;
-    let mut answers = [0u64; 38];
+    let mut answers = [0u64; 40];
     answers[0] = 1;
     answers[1] = 1;
     answers[3] = evidence;
-    answers[20] = 1;
-    answers[21] = 256;
+    answers[19] = 2;
+    answers[21] = 1;
+    answers[22] = 256;
+    answers[39] = 3;
     let mut states = [7u64; 4];
     let r = path::path(
         2,
         1,
         &rules,
         &[768],
-        &[64, 0, 0, 0],
+        &[64, 0, 0, 0, 0, 1],
         2,
         &answers,
         2,
@@ -111,27 +111,10 @@ fn paths() {
     shown(b"42 evidence at ~", 1);
 }
 
-fn read() {
-    sheets::drill(
-        b"read, ~b ?a",
-        b"fluent\ta\nfluent\tb\nstart\ngoal\t~b\t?a\n",
-    );
-    sheets::drill(b"16 ~ of an action", b"action\tg\nstart\ngoal\t~g\n");
-    sheets::drill(b"14 ~ alone", b"start\ngoal\t~\n");
-    sheets::drill(b"14 two marks", b"fluent\ta\nstart\ngoal\t~~a\n");
-}
-
-fn misplaced() {
-    sheets::drill(b"14 ~ in start", b"fluent\ta\nstart\t~a\n");
-    sheets::drill(b"14 ~ in a head", b"action\tg\nrule\t~g\n");
-}
-
 pub fn all() {
     goals();
     refused();
     one_of_two();
     after_itself();
     paths();
-    read();
-    misplaced();
 }

@@ -1,6 +1,6 @@
-// Paths of tables written here by hand: those of drill D9, of goals without calls, and questions that are refused. Every word of the list is 7
-// before.
-use crate::print;
+// Paths of tables written here by hand: those of drills D9 and D2, of goals without calls, and questions that are refused. Every word of the
+// list is 7 before.
+use crate::runs;
 
 // Asks for the path of a record, and prints what it gives and leaves. The rules are p: `+a -a`; q: `!p !p`.
 fn shown(
@@ -40,14 +40,18 @@ fn shown(
     print::text(b"\n");
 }
 
-// The answers. The calls are the goal, q and p in state 0; each has one answer, p's the first and the goal's the last.
-fn records() -> [u64; 57] {
-    let mut words = [0u64; 57];
+// The answers. The calls are the goal, q and p in state 0, of rounds 0 to 2; each has one answer, p's the first and the goal's the last, of
+// rounds 3 to 5.
+fn records() -> [u64; 60] {
+    let mut words = [0u64; 60];
     words[0] = 2;
-    words[19] = 1;
-    words[21] = 1;
-    words[40] = 256;
-    words[41] = 1;
+    words[19] = 3;
+    words[20] = 1;
+    words[22] = 1;
+    words[39] = 4;
+    words[42] = 256;
+    words[43] = 1;
+    words[59] = 5;
     words
 }
 
@@ -61,17 +65,17 @@ fn changed(
     answer: u64,
     record: u64,
 ) {
-    let mut calls = [64u64, 0, 1, 0, 0, 0];
+    let mut calls = [64u64, 0, 0, 1, 0, 1, 0, 0, 2];
     let mut answers = records();
-    calls[call_word % 6] = call;
-    answers[answer_word % 57] = answer;
+    calls[call_word % 9] = call;
+    answers[answer_word % 60] = answer;
     let mut states = [7u64; 6];
     shown(name, goal, &calls, 3, &answers, 3, record, &mut states);
 }
 
 // The path of a record in tables with these counts and a list of at most 6.
 fn asked(name: &[u8], call_count: u64, answer_count: u64, record: u64, room: usize) {
-    let calls = [64u64, 0, 1, 0, 0, 0];
+    let calls = [64u64, 0, 0, 1, 0, 1, 0, 0, 2];
     let answers = records();
     let mut states = [7u64; 6];
     let l = 6 - room % 7;
@@ -107,22 +111,34 @@ fn counts() {
 fn changes() {
     changed(b"not changed", 769, 1, 0, 1, 0, 2);
     changed(b"23 before 41", 770, 1, 0, 1, 0, 3);
-    changed(b"42 no such action", 769, 2, 2, 1, 0, 2);
-    changed(b"42 a bit too high", 769, 5, 2, 1, 0, 2);
-    changed(b"42 another rule", 769, 1, 0, 21, 0, 2);
-    changed(b"42 its own evidence", 769, 1, 0, 22, 1, 2);
+    changed(b"42 no such action", 769, 3, 2, 1, 0, 2);
+    changed(b"42 a bit too high", 769, 7, 2, 1, 0, 2);
+    changed(b"42 another rule", 769, 1, 0, 22, 0, 2);
+    changed(b"42 its own evidence", 769, 1, 0, 23, 1, 2);
     changed(b"42 evidence at an update", 769, 1, 0, 3, 1, 2);
     changed(b"42 another final state", 769, 1, 0, 1, 1, 2);
-    changed(b"41 before 42", 769, 2, 2, 1, 0, 3);
+    changed(b"41 before 42", 769, 3, 2, 1, 0, 3);
 }
 
 // The path of a goal without calls over one fluent, whose one answer ends in this state (request R-3).
 fn of_updates(name: &[u8], goal: &[u16], start: u64, end: u64, states: &mut [u64]) {
-    let mut answers = [0u64; 19];
+    let mut answers = [0u64; 20];
     answers[1] = end;
     answers[2] = 256;
+    answers[19] = 1;
     let none = [0u16; 0];
-    let r = path::path(1, 0, &none, goal, &[64, start], 1, &answers, 1, 0, states);
+    let r = path::path(
+        1,
+        0,
+        &none,
+        goal,
+        &[64, start, 0],
+        1,
+        &answers,
+        1,
+        0,
+        states,
+    );
     print::text(name);
     print::number(b"refusal", r.refusal);
     print::number(b"states", r.states);
@@ -144,9 +160,76 @@ fn idle_updates() {
     updates(b"a goal of no steps", &[], 1, 1, 2);
 }
 
+// The answers of drill D2. The calls are the goal and g in state 0, of rounds 0 and 1; g and the goal have the answers 1, of rounds 2 and 3, and
+// 3, of rounds 3 and 4.
+fn answers_of_d2() -> [u64; 80] {
+    let mut words = [0u64; 80];
+    words[0] = 1;
+    words[1] = 1;
+    words[2] = 1;
+    words[19] = 2;
+    words[21] = 1;
+    words[22] = 256;
+    words[39] = 3;
+    words[40] = 1;
+    words[41] = 3;
+    words[59] = 3;
+    words[61] = 3;
+    words[62] = 256;
+    words[63] = 2;
+    words[79] = 4;
+    words
+}
+
+// The path of drill D2's last answer, where one word of each table is changed.
+fn of_rounds(name: &[u8], call_word: usize, call: u64, answer_word: usize, answer: u64) {
+    let rules = runs::book();
+    let mut calls = [64u64, 0, 0, 0, 0, 1];
+    let mut answers = answers_of_d2();
+    calls[call_word % 6] = call;
+    answers[answer_word % 80] = answer;
+    let mut states = [7u64; 4];
+    let r = path::path(2, 1, &rules, &[768], &calls, 2, &answers, 4, 3, &mut states);
+    print::text(name);
+    print::number(b"refusal", r.refusal);
+    print::number(b"states", r.states);
+    print::buffer(b"list", &states);
+    print::text(b"\n");
+}
+
+// A call's round is at most 131,071; an answer's is bounded only from below, by those of its evidence.
+fn rounds() {
+    of_rounds(b"D2 last answer", 2, 0, 19, 2);
+    of_rounds(b"D2 round 131,071 of a call", 2, 131071, 19, 2);
+    of_rounds(b"42 round 131,072 of a call", 2, 131072, 19, 2);
+    of_rounds(b"42 round 131,072 of the last call", 5, 131072, 19, 2);
+    of_rounds(
+        b"any round of the last answer",
+        2,
+        0,
+        79,
+        18446744073709551615,
+    );
+}
+
+fn equal_rounds() {
+    of_rounds(b"42 evidence of an equal round", 2, 0, 59, 2);
+    of_rounds(b"42 evidence of a later round", 2, 0, 59, 1);
+    of_rounds(
+        b"42 another answer's evidence of an equal round",
+        2,
+        0,
+        39,
+        2,
+    );
+    of_rounds(b"round 0 of evidence", 2, 0, 19, 0);
+}
+
 pub fn all() {
     rooms();
     idle_updates();
     counts();
     changes();
+    rounds();
+    equal_rounds();
 }

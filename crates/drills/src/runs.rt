@@ -1,5 +1,18 @@
 // Drill D2 in several rooms, and questions that are refused. Every word lent is 7 before.
-use crate::print;
+
+// Prints what an evaluation gives and leaves.
+pub fn told(name: &[u8], r: evaluator::Run, calls: &[u64], answers: &[u64], ends: &[u64]) {
+    print::text(name);
+    print::number(b"refusal", r.refusal);
+    print::number(b"ends", r.ends);
+    print::number(b"calls", r.calls);
+    print::number(b"answers", r.answers);
+    print::number(b"rounds", r.rounds);
+    print::buffer(b"calls", calls);
+    print::buffer(b"answers", answers);
+    print::buffer(b"list", ends);
+    print::text(b"\n");
+}
 
 // Evaluates with these buffers, and prints what it gives and leaves.
 pub fn shown<'a>(
@@ -13,15 +26,7 @@ pub fn shown<'a>(
     ends: &mut [u64],
 ) {
     let r = evaluator::evaluate(fluents, 1, rules, goal, start, calls, answers, ends);
-    print::text(name);
-    print::number(b"refusal", r.refusal);
-    print::number(b"ends", r.ends);
-    print::number(b"calls", r.calls);
-    print::number(b"answers", r.answers);
-    print::buffer(b"calls", calls);
-    print::buffer(b"answers", answers);
-    print::buffer(b"list", ends);
-    print::text(b"\n");
+    told(name, r, calls, answers, ends);
 }
 
 // The book of drill D2, g: `!g ?a +b`; g: `+a`.
@@ -38,11 +43,11 @@ pub fn book() -> [u16; 36] {
 // Drill D2 in these rooms, at most 3, 5 and 3.
 fn in_rooms(name: &[u8], n: usize, m: usize, e: usize) {
     let rules = book();
-    let mut calls = [7u64; 6];
-    let mut answers = [7u64; 95];
+    let mut calls = [7u64; 9];
+    let mut answers = [7u64; 100];
     let mut ends = [7u64; 3];
-    let c = 6 - n % 4 * 2;
-    let a = 95 - m % 6 * 19;
+    let c = 9 - n % 4 * 3;
+    let a = 100 - m % 6 * 20;
     let l = 3 - e % 4;
     shown(
         name,
@@ -72,8 +77,8 @@ fn lists() {
 
 // A question in rooms 2 and 4, with a list of 2.
 fn asked<'a>(name: &[u8], fluents: u64, rules: &'a [u16], goal: &'a [u16], start: u64) {
-    let mut calls = [7u64; 4];
-    let mut answers = [7u64; 76];
+    let mut calls = [7u64; 6];
+    let mut answers = [7u64; 80];
     let mut ends = [7u64; 2];
     shown(
         name,

@@ -1,5 +1,5 @@
 -- What a request, the rooms and the list determine of an evaluation, whatever the tables held: what it tells, and the list. Assumes nothing.
-use Prim.Native.Nat.{ℕ, _≤_, zero-le}
+use Prim.Native.Nat.{ℕ, _/_, _≤_, zero-le}
 use native.Mathlib.Omega.{arith}
 use native.Mathlib.Decide.{decLt}
 use mathlib.Core.Path.{_≡_, refl, sym, ap, ap₂, subst, _∙_}
@@ -11,6 +11,9 @@ use Rattle.steps.specs.State.{State}
 use Rattle.steps.specs.Run.{Goal, Answer, End}
 use Rattle.steps.specs.Counting.{Exactly, Outnumbers, Rising, rows}
 use Rattle.steps.proofs.Counting.{pigeonhole, exactly-long, rising-unique}
+use Rattle.steps.specs.Widths.{rule-width}
+use Rattle.steps.proofs.AcceptanceLaws.{start-accepted}
+use Rattle.canonical.proofs.AfterRounds.{settled-once}
 use Rattle.steps.proofs.Rows.{rows-length, rows-many, rows-outnumber}
 use Rattle.records.specs.Records.{room, call-width, answer-width}
 use Rattle.records.specs.Full.{Full}
@@ -19,6 +22,9 @@ use Rattle.evaluator.specs.Evaluated.{Asked, Lent, Told, told, refused-w
 -- ---- what is told
 
 module _ (q : Asked) {b₁ b₂ a₁ a₂ : Lent} {r₁ r₂ : Told} (t₁ : Tabled q b₁ a₁ r₁) (t₂ : Tabled q b₂ a₂ r₂) where
+  few : length (q .rules) / rule-width ≤ 256
+  few = start-accepted (q .fluents) (q .actions) (q .rules) (q .goal) (q .start) (t₁ .accepted) .0 .few-rules
+
   same-ends : r₁ .ends ≡ r₂ .ends
   same-ends = sym (t₁ .counted) ∙ exactly-long (t₁ .exactly) (t₂ .exactly) ∙ t₂ .counted
 
@@ -26,6 +32,7 @@ module _ (q : Asked) {b₁ b₂ a₁ a₂ : Lent} {r₁ r₂ : Told} (t₁ : Tab
   same-counts e k = told (e k) (same-ends k)
       (rows-many _ _ (t₁ .finished .calls-held) _ _ (t₂ .finished .calls-held) k)
       (rows-many _ _ (t₁ .finished .answers-held) _ _ (t₂ .finished .answers-held) k)
+      (settled-once (q .rules) (q .goal) few (q .start) (t₁ .in-rounds .settled) (t₂ .in-rounds .settled) k)
 
 module _ (q : Asked) (b₁ b₂ : Lent) (calls : length (b₁ .calls) ≡ length (b₂ .calls)) (answers : length (b₁ .answers) ≡ length (b₂ .answers))
     (ends : length (b₁ .ends) ≡ length (b₂ .ends)) where
@@ -136,7 +143,7 @@ ends-answers : (q : Asked) {xs : List State} {ys : List (ℕ × State × State)}
 ends-answers q {ys = ys} e f =
     omega (arith, length-map ys final, pigeonhole (e .once) (λ D k. mem-map final (f .members (Goal, q .start, D) .1 (inl (refl, refl), e .members D .0 k))))
 
-nothing : (before : Lent) (refusal : ℕ) → InRooms before (told refusal 0 0 0)
+nothing : (before : Lent) (refusal : ℕ) → InRooms before (told refusal 0 0 0 0)
 nothing before refusal = record { calls = zero-le; answers = zero-le; ends = zero-le }
 
 module _ (q : Asked) {before after : Lent} {r : Told} where

@@ -1,5 +1,5 @@
 -- How an evaluation comes out, from what filling the tables leaves. Assumes nothing.
-use Prim.Native.Nat.{ℕ, _<_, _≤_}
+use Prim.Native.Nat.{ℕ, _+_, _<_, _≤_}
 use native.Mathlib.Omega.{arith}
 use native.Mathlib.Nat.{mul-zero}
 use native.Mathlib.Decide.{decLt}
@@ -12,16 +12,20 @@ use Rattle.steps.specs.Run.{Goal, End}
 use Rattle.steps.specs.Counting.{Exactly}
 use Rattle.steps.proofs.Counting.{exactly-map, exactly-long, rising-distinct}
 use Rattle.steps.proofs.AcceptanceLaws.{AcceptedWords, start-accepted}
-use Rattle.records.specs.Records.{bodies-of, room, call-table, answer-table, call-width, answer-width}
+use Rattle.steps.specs.State.{State}
+use Rattle.steps.proofs.EachBelow.{true-not-false}
+use Rattle.records.specs.Records.{Calls, Answers, bodies-of, room, call-table, answer-table, call-width, answer-width}
 use Rattle.records.specs.Full.{Full}
-use Rattle.records.specs.Storage.{Stored, CallAt, FindCall}
-use Rattle.records.proofs.Growth.{AnswersOnce}
+use Rattle.records.specs.Storage.{Stored, CallAt, FindCall, CallPut, call-stood, call-added, call-no-room}
+use Rattle.records.proofs.Growth.{Tables, tables, AnswersOnce}
 use Rattle.notes.proofs.MarksLaws.{zeros-at}
 use Rattle.tabling.proofs.Evidence.{Among}
 use Rattle.tabling.proofs.Closed.{Whole}
 use Rattle.loops.proofs.Going.{in-words}
 use Rattle.tabling.proofs.RunTables.{outgrown-run}
 use Rattle.loops.proofs.Filling.{Filled}
+use Rattle.canonical.proofs.Telling.{Begins, tidy-of}
+use Rattle.canonical.proofs.Sayings.{told-of}
 use Rattle.evaluator.specs.Finals.{finals-below, FinalsListed}
 use Rattle.evaluator.specs.Evaluated.{Asked, Lent, lent, told, refused-with, run-asked, Tabled, Evaluated, short-list, ends-listed}
 use Rattle.evaluator.proofs.Finishing.{finished, not-full, goal-ends, ends-exactly}
@@ -36,8 +40,18 @@ all-zero n e = e ∙ ap (λ (k : ℕ). replicate k 0) (sym (ap length e ∙ leng
 pub zero-long : {words : List ℕ} (n : ℕ) → words ≡ replicate n 0 → length words ≡ n
 zero-long n e = ap length e ∙ length-replicate {A = ℕ} n 0
 
+-- the goal's call, put into empty tables, stands alone
+pub first-begins : {start : State} (places : ℕ) (calls calls′ : Calls) (answers : Answers) (row : ℕ) (full : Bool) → CallPut places calls Goal start 0 calls′ row full → full ≡ false
+    → calls .count ≡ 0 → answers .count ≡ 0 → Begins start (tables calls′ answers)
+first-begins places calls calls′ answers row full (call-stood f l k z) e n m = absurd (omega arith)
+first-begins places calls calls′ answers row full (call-no-room f i none z) e n m = absurd (true-not-false (sym f ∙ e))
+first-begins {start} places calls calls′ answers row full (call-added f i l none p) e n m =
+    let at : CallAt calls′ 0 Goal start = rw n at (p .new) in
+    record { one = p .count ∙ ap (λ (k : ℕ). k + 1) n; none = m; action-is = at .has-action; state-is = at .has-state; round-is = rw n at (p .new-round) }
+
 module _ (q : Asked) (before : Lent) (ok : refused-with q ≡ 0) {calls₀ answers₀ : List ℕ} (cl : length calls₀ ≡ length (before .calls)) (al : length answers₀ ≡ length (before .answers))
-    {calls answers : List ℕ} {full : Bool} {n m : ℕ} (F : Filled (q .rules) (q .goal) ((Goal, q .start) ∷ []) 0 calls₀ answers₀ calls answers full n m) where
+    {calls answers : List ℕ} {full : Bool} {n m rounds : ℕ} {b₀ : Tables} (B : full ≡ false → Begins (q .start) b₀)
+    (F : Filled (q .rules) (q .goal) ((Goal, q .start) ∷ []) 0 b₀ calls₀ answers₀ calls answers full n m rounds) where
   acc : AcceptedWords (q .fluents) (q .actions) (q .rules) (q .goal)
   acc = start-accepted (q .fluents) (q .actions) (q .rules) (q .goal) (q .start) ok .0
 
@@ -53,13 +67,14 @@ module _ (q : Asked) (before : Lent) (ok : refused-with q ≡ 0) {calls₀ answe
     fits f = not-full (q .rules) (q .goal) (q .start) acc calls n answers m (F .kept) whole (rw (← cl, ← al, ← (F .calls-long), ← (F .answers-long)) at f)
 
     -- the finished tables, whatever the refusal and the list
-    tabled : (list ends : List ℕ) (refusal k : ℕ) → Exactly (End (run-asked q)) ends → length ends ≡ k → Tabled q before (lent calls answers list) (told refusal k n m)
+    tabled : (list ends : List ℕ) (refusal k : ℕ) → Exactly (End (run-asked q)) ends → length ends ≡ k → Tabled q before (lent calls answers list) (told refusal k n m rounds)
     tabled list ends refusal k x z = record {
       accepted = ok;
       fits = fits;
       calls-long = F .calls-long ∙ cl;
       answers-long = F .answers-long ∙ al;
       finished = finished (q .rules) (q .goal) (q .start) acc calls n answers m (F .kept) whole;
+      in-rounds = told-of (q .rules) (q .goal) (acc .few-rules) (q .start) calls answers n m (B e) (F .rounded e refl) (tidy-of (whole .valid));
       ends = ends;
       exactly = x;
       counted = z;
@@ -82,12 +97,12 @@ module _ (q : Asked) (before : Lent) (ok : refused-with q ≡ 0) {calls₀ answe
       exactly = ends-exactly (q .rules) (q .goal) (q .start) acc calls n answers m (F .kept) whole row (goal-row .0) (goal-row .1)
 
       -- 31
-      pub is-short : {k : ℕ} → k ≡ length finals → length (before .ends) < k → Evaluated q before (lent calls answers (before .ends)) (told (run-refusals .list-short) k n m)
+      pub is-short : {k : ℕ} → k ≡ length finals → length (before .ends) < k → Evaluated q before (lent calls answers (before .ends)) (told (run-refusals .list-short) k n m rounds)
       is-short {k} z l = short-list refl (tabled (before .ends) finals (run-refusals .list-short) k exactly (sym z)) l refl
 
       -- no refusal
       pub is-listed : {k : ℕ} {ends : List ℕ} → k ≡ length finals → k ≤ length (before .ends) → FinalsListed (answer-table answers m) row (before .ends) ends
-          → Evaluated q before (lent calls answers ends) (told 0 k n m)
+          → Evaluated q before (lent calls answers ends) (told 0 k n m rounds)
       unfolding tabled
       is-listed {k} {ends} z l L =
           let held = goal-ends (q .rules) (q .goal) (q .start) acc calls n answers m (F .kept) whole row (goal-row .0) (goal-row .1) in

@@ -12,6 +12,7 @@ use Rattle.steps.specs.Acceptance.{refusal-of}
 use Rattle.steps.specs.Counting.{Exactly, Rising}
 use Rattle.records.specs.Full.{Full}
 use Rattle.records.specs.Finished.{Finished}
+use Rattle.canonical.specs.InRounds.{InRounds}
 
 -- What is asked: the counts of fluents and actions, rule words, goal words and start.
 abbrev pub Asked : Type 0
@@ -21,9 +22,9 @@ Asked = record { fluents : ℕ; actions : ℕ; rules : List ℕ; goal : List ℕ
 abbrev pub Lent : Type 0
 Lent = record { calls : List ℕ; answers : List ℕ; ends : List ℕ }
 
--- What is given: the refusal number, 0 for none, and the counts of ends, calls and answers.
+-- What is given: the refusal number, 0 for none, the counts of ends, calls and answers, and the number of rounds that added something.
 abbrev pub Told : Type 0
-Told = record { refusal : ℕ; ends : ℕ; calls : ℕ; answers : ℕ }
+Told = record { refusal : ℕ; ends : ℕ; calls : ℕ; answers : ℕ; rounds : ℕ }
 
 abbrev pub asked : ℕ → ℕ → List ℕ → List ℕ → ℕ → Asked
 asked fluents actions rules goal start = record { fluents = fluents; actions = actions; rules = rules; goal = goal; start = start }
@@ -31,8 +32,8 @@ asked fluents actions rules goal start = record { fluents = fluents; actions = a
 abbrev pub lent : List ℕ → List ℕ → List ℕ → Lent
 lent calls answers ends = record { calls = calls; answers = answers; ends = ends }
 
-abbrev pub told : ℕ → ℕ → ℕ → ℕ → Told
-told refusal ends calls answers = record { refusal = refusal; ends = ends; calls = calls; answers = answers }
+abbrev pub told : ℕ → ℕ → ℕ → ℕ → ℕ → Told
+told refusal ends calls answers rounds = record { refusal = refusal; ends = ends; calls = calls; answers = answers; rounds = rounds }
 
 -- The refusal for bad input, 20 to 24, or 0.
 abbrev pub refused-with : Asked → ℕ
@@ -41,26 +42,29 @@ refused-with q = refusal-of (q .fluents) (q .actions) (q .rules) (q .goal) (q .s
 abbrev pub run-asked : Asked → Run
 run-asked q = run-of (q .rules) (q .goal) (q .start)
 
--- An accepted run that fits the tables lent: tables of the same lengths hold it finished, its ends are these, and the result's counts are theirs.
+-- An accepted run that fits the tables lent: tables of the same lengths hold it finished and told in rounds, its ends are these, and the result's
+-- counts are theirs.
 pub record Tabled (q : Asked) (before after : Lent) (r : Told) : Type 0 where
   pub accepted : refused-with q ≡ 0
   pub fits : ¬ Full (run-asked q) (length (before .calls)) (length (before .answers))
   pub calls-long : length (after .calls) ≡ length (before .calls)
   pub answers-long : length (after .answers) ≡ length (before .answers)
   pub finished : Finished (q .rules) (q .goal) (q .start) (after .calls) (after .answers) (r .calls) (r .answers)
+  pub in-rounds : InRounds (q .rules) (q .goal) (q .start) (after .calls) (after .answers) (r .calls) (r .answers) (r .rounds)
   pub ends : List State
   pub exactly : Exactly (End (run-asked q)) ends
   pub counted : length ends ≡ r .ends
 
 pub data Evaluated (q : Asked) (before after : Lent) (r : Told) : Type 0 where
   -- 20 to 24: the first that is met, counts 0, all buffers unchanged.
-  not-accepted : refused-with q ≢ 0 → r ≡ told (refused-with q) 0 0 0 → after ≡ before → Evaluated q before after r
+  not-accepted : refused-with q ≢ 0 → r ≡ told (refused-with q) 0 0 0 0 → after ≡ before → Evaluated q before after r
   -- 30: no room; counts 0, both tables wholly 0, the list unchanged.
-  outgrown : refused-with q ≡ 0 → Full (run-asked q) (length (before .calls)) (length (before .answers)) → r ≡ told (run-refusals .tables-full) 0 0 0
+  outgrown : refused-with q ≡ 0 → Full (run-asked q) (length (before .calls)) (length (before .answers))
+      → r ≡ told (run-refusals .tables-full) 0 0 0 0
       → after ≡ lent (replicate (length (before .calls)) 0) (replicate (length (before .answers)) 0) (before .ends) → Evaluated q before after r
-  -- 31: the list has fewer places than there are ends; finished tables and the three counts, the list unchanged.
+  -- 31: the list has fewer places than there are ends; finished tables and the four counts, the list unchanged.
   short-list : r .refusal ≡ run-refusals .list-short → Tabled q before after r → length (before .ends) < r .ends → after .ends ≡ before .ends
       → Evaluated q before after r
-  -- No refusal: finished tables, the three counts, and the ends listed in rising order, followed by what the list held.
+  -- No refusal: finished tables, the four counts, and the ends listed in rising order, followed by what the list held.
   ends-listed : r .refusal ≡ 0 → (t : Tabled q before after r) → r .ends ≤ length (before .ends) → Rising (t .ends)
       → after .ends ≡ t .ends ++ drop (r .ends) (before .ends) → Evaluated q before after r

@@ -16,7 +16,7 @@ pub fn count(answers: &[u64], m: usize, row: u64) -> u64
     let mut found: u64 = 0;
     let mut x = 0;
     while x < m {
-        if tables::call_of(answers, x) == row {
+        if tables::call_of(answers, tables::ANSWER_WORDS, x) == row {
             found += 1;
         }
         x += 1;
@@ -34,8 +34,8 @@ fn gather(answers: &[u64], m: usize, row: u64, list: &mut [u64]) -> usize
     let mut found = 0;
     let mut x = 0;
     while x < m {
-        if tables::call_of(answers, x) == row {
-            list[found] = tables::final_of(answers, x).0;
+        if tables::call_of(answers, tables::ANSWER_WORDS, x) == row {
+            list[found] = tables::final_of(answers, tables::ANSWER_WORDS, x).0;
             found += 1;
         }
         x += 1;

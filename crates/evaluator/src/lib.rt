@@ -8,21 +8,25 @@ use rounds::Counted;
 use steps::accept;
 use steps::state::Call;
 ghost use mathlib.Core.Path.{_≡_};
+ghost use mathlib.Core.Bool.{false};
 ghost use mathlib.Core.List.{[], _∷_};
 ghost use Prim.Native.Nat.{ℕ};
 ghost use lib.ListN.{length, replicate};
 ghost use Rattle.steps.specs.Run.{Goal};
 ghost use Rattle.steps.proofs.AcceptanceLaws.{AcceptedWords};
+ghost use Rattle.records.proofs.Growth.{Tables};
 ghost use Rattle.loops.proofs.Filling.{Filled};
+ghost use Rattle.canonical.proofs.Telling.{Begins};
 ghost use Rattle.evaluator.specs.Evaluated.{Evaluated, asked, lent, told};
 
-// The refusal, 0 for none, and the counts of ends, calls and answers.
+// The refusal, 0 for none, the counts of ends, calls and answers, and the number of rounds that added something.
 #[repr(C)]
 pub struct Run {
     pub refusal: u64,
     pub ends: u64,
     pub calls: u64,
     pub answers: u64,
+    pub rounds: u64,
 }
 
 // Fills tables that are wholly 0 with the calls and answers of the goal from the start.
@@ -35,17 +39,19 @@ fn tabulate<'a>(
 ) -> Counted
     requires { ⌜ ((fluents : ℕ) × (actions : ℕ) × AcceptedWords fluents actions (now rules) (now goal)) ⌝ }
     requires { ⌜ (now calls ≡ replicate (length (now calls)) 0) × (now answers ≡ replicate (length (now answers)) 0) ⌝ }
-    ensures { λ r. ⌜ Filled (now (rules .entry)) (now (goal .entry)) ((Goal, start) ∷ []) 0 (now (calls .entry)) (now (answers .entry))
-        (now (calls .exit)) (now (answers .exit)) (r .full) (r .calls) (r .answers) ⌝ }
+    ensures { λ r. ⌜ ((b : Tables) × (r .full ≡ false → Begins start b)
+        × Filled (now (rules .entry)) (now (goal .entry)) ((Goal, start) ∷ []) 0 b (now (calls .entry)) (now (answers .entry))
+        (now (calls .exit)) (now (answers .exit)) (r .full) (r .calls) (r .answers) (r .rounds)) ⌝ }
 {
     let mut call_index = [0u16; 122880];
-    let put = index::add_call(calls, 0, &mut call_index, Call::goal(start));
+    let put = index::add_call(calls, 0, &mut call_index, Call::goal(start), 0);
     let count = put.count;
     if put.full {
         return Counted {
             full: true,
             calls: count,
             answers: 0,
+            rounds: 0,
         };
     }
     let mut answer_index = [0u16; 319488];
@@ -79,7 +85,7 @@ pub fn evaluate<'a>(
 ) -> Run
     ensures { λ r. ⌜ Evaluated (asked fluents actions (now (rules .entry)) (now (goal .entry)) start)
         (lent (now (calls .entry)) (now (answers .entry)) (now (ends .entry))) (lent (now (calls .exit)) (now (answers .exit)) (now (ends .exit)))
-        (told (r .refusal) (r .ends) (r .calls) (r .answers)) ⌝ }
+        (told (r .refusal) (r .ends) (r .calls) (r .answers) (r .rounds)) ⌝ }
 {
     let refusal = accept::refusal(fluents, actions, rules, goal, start);
     if refusal != 0 {
@@ -88,6 +94,7 @@ pub fn evaluate<'a>(
             ends: 0,
             calls: 0,
             answers: 0,
+            rounds: 0,
         };
     }
     tables::clear(calls);
@@ -103,6 +110,7 @@ pub fn evaluate<'a>(
             ends: 0,
             calls: 0,
             answers: 0,
+            rounds: 0,
         };
     }
     let row = tables::find_call(calls, n, Call::goal(start)) as u64;
@@ -113,6 +121,7 @@ pub fn evaluate<'a>(
             ends: found,
             calls: n as u64,
             answers: m as u64,
+            rounds: run.rounds,
         };
     }
     ends::list(answers, m, row, ends);
@@ -121,5 +130,6 @@ pub fn evaluate<'a>(
         ends: found,
         calls: n as u64,
         answers: m as u64,
+        rounds: run.rounds,
     }
 }

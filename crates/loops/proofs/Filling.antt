@@ -16,17 +16,18 @@ use Rattle.steps.proofs.Rows.{table-full}
 use Rattle.steps.specs.Widths.{rule-width}
 use Rattle.records.specs.Records.{Calls, Answers, Bodies, room, bodies-of, answer-table, call-width, answer-width}
 use Rattle.records.specs.Storage.{CallAt, CallPut, call-stood, call-added, call-no-room}
-use Rattle.records.proofs.Growth.{tables}
+use Rattle.records.proofs.Growth.{Tables, tables}
 use Rattle.records.proofs.Justification.{Has}
 use Rattle.tabling.proofs.Evidence.{Among, Valid}
 use Rattle.notes.specs.Marks.{Stamped}
 use Rattle.records.specs.Bodies.{number-at}
 use Rattle.tabling.proofs.Adding.{Outgrown}
-use Rattle.loops.proofs.Turn.{Given, before}
+use Rattle.loops.proofs.Turn.{Begin, begin, Given, before}
 use Rattle.tabling.proofs.Moves.{Node}
 use Rattle.notes.specs.Uses.{UsesGrew, Spans, Lit, heat}
 use Rattle.loops.proofs.Rounds.{Round, Rows, Rules}
 use Rattle.tabling.proofs.Closed.{Whole}
+use Rattle.tabling.proofs.Found.{Rounded, Rounds, RoundsOver}
 use Rattle.loops.proofs.Going.{Kept, Indexed, Going, in-words}
 
 -- The words of both tables keep their lengths, they and the indexes their order, and no use is forgotten.
@@ -38,7 +39,7 @@ pub record Words (calls₀ answers₀ uses₀ calls : List ℕ) (n : ℕ) (call-
   pub uses-more : UsesGrew uses₀ uses
 
 -- Where a round begins: what the rules and goal are, and what is known of the tables for some roots.
-pub record Standing (rules goal : List ℕ) (first walked seen : ℕ) (calls : List ℕ) (n : ℕ) (call-index answers : List ℕ) (m : ℕ) (answer-index marks : List ℕ) (walk : ℕ) (uses : List ℕ) : Type 0 where
+pub record Standing (rules goal : List ℕ) (r first walked seen : ℕ) (calls : List ℕ) (n : ℕ) (call-index answers : List ℕ) (m : ℕ) (answer-index marks : List ℕ) (walk : ℕ) (uses : List ℕ) : Type 0 where
   pub fluents : ℕ
   pub actions : ℕ
   pub accepted : AcceptedWords fluents actions rules goal
@@ -47,11 +48,12 @@ pub record Standing (rules goal : List ℕ) (first walked seen : ℕ) (calls : L
   pub stamped : Stamped marks walk
   pub uses-long : length uses ≡ 327680
   pub stale : (k : ℕ) → heat uses k ≤ seen - 1
+  pub sooner : (x : ℕ) → x < m → answer-table answers m .round x < r
   pub roots : List (ℕ × State)
   pub round : Round (bodies-of rules goal) (Among roots) first walked seen (in-words calls n answers m) uses
 
 -- What it leaves: where all is closed with the answers that stood then, or there are more calls or answers than places.
-pub record Went (rules goal : List ℕ) (first walked seen : ℕ) (calls₀ : List ℕ) (n₀ : ℕ) (answers₀ : List ℕ) (m₀ : ℕ) (uses₀ : List ℕ)
+pub record Went (rules goal : List ℕ) (r first walked seen : ℕ) (calls₀ : List ℕ) (n₀ : ℕ) (answers₀ : List ℕ) (m₀ : ℕ) (uses₀ : List ℕ)
     (full : Bool) (calls : List ℕ) (n : ℕ) (call-index answers : List ℕ) (m : ℕ) (answer-index marks : List ℕ) (walk : ℕ) (uses : List ℕ) : Type 0 where
   pub calls-long : length calls ≡ length calls₀
   pub answers-long : length answers ≡ length answers₀
@@ -62,6 +64,8 @@ pub record Went (rules goal : List ℕ) (first walked seen : ℕ) (calls₀ : Li
   pub stamped : full ≡ false → Stamped marks walk
   pub uses-long : length uses ≡ length uses₀
   pub stale : (k : ℕ) → heat uses k ≤ m₀ - 1
+  pub sooner : full ≡ false → (x : ℕ) → x < m → answer-table answers m .round x < r + 1
+  pub rounded : full ≡ false → first ≡ 0 → Rounded (bodies-of rules goal) r (in-words calls₀ n₀ answers₀ m₀) (in-words calls n answers m)
   pub next : full ≡ false → (roots : List (ℕ × State)) → Round (bodies-of rules goal) (Among roots) first walked seen (in-words calls₀ n₀ answers₀ m₀) uses₀
       → Round (bodies-of rules goal) (Among roots) first n₀ m₀ (in-words calls n answers m) uses × (n + m ≡ n₀ + m₀ → Whole (bodies-of rules goal) (Among roots) first (in-words calls n answers m))
   pub outgrown : full ≡ true → (roots : List (ℕ × State)) → Round (bodies-of rules goal) (Among roots) first walked seen (in-words calls₀ n₀ answers₀ m₀) uses₀
@@ -69,7 +73,7 @@ pub record Went (rules goal : List ℕ) (first walked seen : ℕ) (calls₀ : Li
 
 module _ (rules goal : List ℕ) (first : ℕ) (calls₀ : List ℕ) (n₀ : ℕ) (answers₀ : List ℕ) (m₀ : ℕ) (uses₀ : List ℕ) where
   -- the rounds, for roots that held at first
-  pub record Rounding (walked seen : ℕ) (calls : List ℕ) (n : ℕ) (call-index answers : List ℕ) (m : ℕ) (answer-index marks : List ℕ) (walk : ℕ) (uses : List ℕ) : Type 0 where
+  pub record Rounding (rounds walked seen : ℕ) (calls : List ℕ) (n : ℕ) (call-index answers : List ℕ) (m : ℕ) (answer-index marks : List ℕ) (walk : ℕ) (uses : List ℕ) : Type 0 where
     pub calls-long : length calls ≡ length calls₀
     pub answers-long : length answers ≡ length answers₀
     pub kept : Kept calls n answers m
@@ -77,12 +81,17 @@ module _ (rules goal : List ℕ) (first : ℕ) (calls₀ : List ℕ) (n₀ : ℕ
     pub uses-long : length uses ≡ length uses₀
     pub stale : (k : ℕ) → heat uses k ≤ seen - 1
     pub stamped : Stamped marks walk
+    pub few : rounds + n₀ + m₀ ≤ n + m
+    pub sooner : (x : ℕ) → x < m → answer-table answers m .round x < rounds + 1
+    pub rounded : first ≡ 0 → Rounds (bodies-of rules goal) (in-words calls₀ n₀ answers₀ m₀) rounds (in-words calls n answers m)
     pub round : (roots : List (ℕ × State)) → Valid (bodies-of rules goal) (Among roots) (in-words calls₀ n₀ answers₀ m₀) → Round (bodies-of rules goal) (Among roots) first walked seen (in-words calls n answers m) uses
 
   -- a round whose answers to look at are noted: nothing is walked yet
-  pub record Begins (walked seen low high top old : ℕ) (warm : Bool) (rows known : ℕ) (calls : List ℕ) (n : ℕ) (call-index answers : List ℕ) (m : ℕ) (answer-index marks uses : List ℕ) (walk : ℕ) : Type 0 where
+  pub record Begins (walked seen low high top old : ℕ) (warm : Bool) (round rows known : ℕ) (calls : List ℕ) (n : ℕ) (call-index answers : List ℕ) (m : ℕ) (answer-index marks uses : List ℕ) (walk : ℕ) : Type 0 where
     pub words : Words calls₀ answers₀ uses₀ calls n call-index answers m answer-index uses
     pub stamped : Stamped marks walk
+    pub calls-same : calls ≡ calls₀
+    pub answers-same : answers ≡ answers₀
     pub rows-all : n ≡ rows
     pub known-all : m ≡ known
     pub spans : Spans (answer-table answers m) uses walked seen m n low high top
@@ -91,7 +100,7 @@ module _ (rules goal : List ℕ) (first : ℕ) (calls₀ : List ℕ) (n₀ : ℕ
         → Round (bodies-of rules goal) (Among roots) first walked seen (in-words calls n answers m) uses × ((r : ℕ) → r < old → (r < walked) × Lit (in-words calls n answers m .answers) uses seen m warm)
 
   -- the call records of a round
-  pub record RowsDone (walked seen low high top old : ℕ) (warm : Bool) (rows known row : ℕ) (calls : List ℕ) (n : ℕ) (call-index answers : List ℕ) (m : ℕ) (answer-index marks uses : List ℕ) (walk : ℕ) : Type 0 where
+  pub record RowsDone (walked seen low high top old : ℕ) (warm : Bool) (round rows known row : ℕ) (calls : List ℕ) (n : ℕ) (call-index answers : List ℕ) (m : ℕ) (answer-index marks uses : List ℕ) (walk : ℕ) : Type 0 where
     pub words : Words calls₀ answers₀ uses₀ calls n call-index answers m answer-index uses
     pub stamped : Stamped marks walk
     pub row-in : row ≤ rows
@@ -99,40 +108,42 @@ module _ (rules goal : List ℕ) (first : ℕ) (calls₀ : List ℕ) (n₀ : ℕ
     pub known-in : known ≤ m
     pub closed : (roots : List (ℕ × State)) → Round (bodies-of rules goal) (Among roots) first walked seen (in-words calls₀ n₀ answers₀ m₀) uses₀
         → ((r : ℕ) → r < old → (r < walked) × Lit (in-words calls₀ n₀ answers₀ m₀ .answers) uses₀ seen known warm)
-        → Rows (bodies-of rules goal) (Among roots) first walked seen low high top old warm rows known row uses₀ (in-words calls n answers m) uses
+        → Rows (bodies-of rules goal) (Among roots) first walked seen low high top old warm round rows known row (begin (in-words calls₀ n₀ answers₀ m₀) uses₀) (in-words calls n answers m) uses
 
   -- the rules of a call record
-  pub record RulesDone (walked seen low high top old : ℕ) (warm : Bool) (rows known row rule : ℕ) (calls : List ℕ) (n : ℕ) (call-index answers : List ℕ) (m : ℕ) (answer-index marks uses : List ℕ) (walk : ℕ) : Type 0 where
+  pub record RulesDone (walked seen low high top old : ℕ) (warm : Bool) (round rows known row rule : ℕ) (calls : List ℕ) (n : ℕ) (call-index answers : List ℕ) (m : ℕ) (answer-index marks uses : List ℕ) (walk : ℕ) : Type 0 where
     pub words : Words calls₀ answers₀ uses₀ calls n call-index answers m answer-index uses
     pub stamped : Stamped marks walk
     pub rule-in : rule ≤ length rules / rule-width + 1
     pub rows-in : rows ≤ n
     pub known-in : known ≤ m
-    pub closed : (roots : List (ℕ × State)) (notes : List ℕ) → Rows (bodies-of rules goal) (Among roots) first walked seen low high top old warm rows known row notes (in-words calls₀ n₀ answers₀ m₀) uses₀
-        → Rules (bodies-of rules goal) (Among roots) (number-at (length rules / rule-width)) first walked seen low high top old warm rows known row rule notes (in-words calls n answers m) uses
+    pub closed : (roots : List (ℕ × State)) (begun : Begin) → Rows (bodies-of rules goal) (Among roots) first walked seen low high top old warm round rows known row begun (in-words calls₀ n₀ answers₀ m₀) uses₀
+        → Rules (bodies-of rules goal) (Among roots) (number-at (length rules / rule-width)) first walked seen low high top old warm round rows known row rule begun (in-words calls n answers m) uses
 
   -- the walk of a body
-  pub record Walked (known number row walk old seen : ℕ) (warm : Bool) (body : List ℕ) (calls : List ℕ) (n : ℕ) (call-index answers : List ℕ) (m : ℕ) (answer-index marks uses chosen rest : List ℕ) (s : Node) : Type 0 where
+  pub record Walked (known number row walk old seen : ℕ) (warm : Bool) (round : ℕ) (body : List ℕ) (calls : List ℕ) (n : ℕ) (call-index answers : List ℕ) (m : ℕ) (answer-index marks uses chosen rest : List ℕ) (s : Node) : Type 0 where
     pub words : Words calls₀ answers₀ uses₀ calls n call-index answers m answer-index uses
-    pub going : (roots : List (ℕ × State)) (notes : List ℕ) → Given (bodies-of rules goal) (Among roots) (in-words calls₀ n₀ answers₀ m₀) known number row (before first old seen warm notes) body → UsesGrew notes uses₀
-        → Going (bodies-of rules goal) (Among roots) (in-words calls₀ n₀ answers₀ m₀) known number row walk (before first old seen warm notes) body (in-words calls n answers m) marks uses chosen rest s
+    pub going : (roots : List (ℕ × State)) (begun : Begin) → Given (bodies-of rules goal) (Among roots) (in-words calls₀ n₀ answers₀ m₀) known number row (before first old seen warm round begun) body → UsesGrew (begun .notes) uses₀
+        → Going (bodies-of rules goal) (Among roots) (in-words calls₀ n₀ answers₀ m₀) known number row walk (before first old seen warm round begun) body (in-words calls n answers m) marks uses chosen rest s
 
--- Every record from `first` on is closed under all answers, or there are more calls or answers than places.
-pub record Filled (rules goal : List ℕ) (roots : List (ℕ × State)) (first : ℕ) (calls answers calls′ answers′ : List ℕ) (full : Bool) (n m : ℕ) : Type 0 where
+-- Every record from `first` on is closed under all answers, after so many rounds from b₀ on that added something, or there are more calls or answers
+-- than places.
+pub record Filled (rules goal : List ℕ) (roots : List (ℕ × State)) (first : ℕ) (b₀ : Tables) (calls answers calls′ answers′ : List ℕ) (full : Bool) (n m rounds : ℕ) : Type 0 where
   pub calls-long : length calls′ ≡ length calls
   pub answers-long : length answers′ ≡ length answers
   pub kept : Kept calls′ n answers′ m
   pub closed : full ≡ false → Whole (bodies-of rules goal) (Among roots) first (in-words calls′ n answers′ m)
+  pub rounded : full ≡ false → first ≡ 0 → RoundsOver (bodies-of rules goal) b₀ rounds (in-words calls′ n answers′ m)
   pub outgrown : full ≡ true → Outgrown (bodies-of rules goal) (Among roots) (room call-width (length calls)) (room answer-width (length answers))
 
 -- ---- the first table: the root's call alone
 
 module _ (bodies : Bodies) (a : ℕ) (D : State) where
-  pub first-valid : (places : ℕ) (calls calls′ : Calls) (answers : Answers) (row : ℕ) (full : Bool) → CallPut places calls a D calls′ row full → full ≡ false → calls .count ≡ 0 → answers .count ≡ 0
+  pub first-valid : (places r : ℕ) (calls calls′ : Calls) (answers : Answers) (row : ℕ) (full : Bool) → CallPut places calls a D r calls′ row full → full ≡ false → calls .count ≡ 0 → answers .count ≡ 0
       → Valid bodies (Among ((a, D) ∷ [])) (tables calls′ answers)
-  first-valid places calls calls′ answers row full (call-stood f l k z) e n m = absurd (omega arith)
-  first-valid places calls calls′ answers row full (call-no-room f i none z) e n m = absurd (true-not-false (sym f ∙ e))
-  first-valid places calls calls′ answers row full (call-added f i l none p) e n m =
+  first-valid places r calls calls′ answers row full (call-stood f l k z) e n m = absurd (omega arith)
+  first-valid places r calls calls′ answers row full (call-no-room f i none z) e n m = absurd (true-not-false (sym f ∙ e))
+  first-valid places r calls calls′ answers row full (call-added f i l none p) e n m =
       let at : CallAt calls′ 0 a D = rw n at (p .new) in
       record {
         roots = λ b E r. (let z = List·Memᴰ·eq-of-singleton r in
@@ -144,9 +155,9 @@ module _ (bodies : Bodies) (a : ℕ) (D : State) where
       }
 
   -- no room for it
-  pub first-full : (places : ℕ) (calls calls′ : Calls) (row : ℕ) (full : Bool) (answer-places : ℕ) → CallPut places calls a D calls′ row full → full ≡ true → calls .count ≡ 0 → Outgrown bodies (Among ((a, D) ∷ [])) places answer-places
-  first-full places calls calls′ row full m (call-stood f l k z) e n = absurd (omega arith)
-  first-full places calls calls′ row full m (call-added f i l none p) e n = absurd (true-not-false (sym e ∙ f))
-  first-full places calls calls′ row full m (call-no-room f i none z) e n =
+  pub first-full : (places r : ℕ) (calls calls′ : Calls) (row : ℕ) (full : Bool) (answer-places : ℕ) → CallPut places calls a D r calls′ row full → full ≡ true → calls .count ≡ 0 → Outgrown bodies (Among ((a, D) ∷ [])) places answer-places
+  first-full places r calls calls′ row full m (call-stood f l k z) e n = absurd (omega arith)
+  first-full places r calls calls′ row full m (call-added f i l none p) e n = absurd (true-not-false (sym e ∙ f))
+  first-full places r calls calls′ row full m (call-no-room f i none z) e n =
       let z : places ≡ 0 = omega arith in
       inl (rw z (table-full (λ (i : ℕ). (a, D)) (λ (c : ℕ × State). Reached Does (Has bodies) (Among ((a, D) ∷ [])) (c .0) (c .1)) 0 (λ i j l k. absurd (omega arith)) (λ i l. absurd (omega arith)) (a, D) (inl (List·Memᴰ·head refl)) (λ i l. absurd (omega arith))))

@@ -2,7 +2,7 @@
 use Prim.Native.Nat.{ℕ, _+_, _<_, _≤_}
 use native.Mathlib.Omega.{arith}
 use native.Mathlib.Decide.{decLt}
-use mathlib.Core.Path.{_≡_, sym, ap, _∙_}
+use mathlib.Core.Path.{_≡_, refl, sym, ap, _∙_}
 use mathlib.Core.Bool.{Bool, true}
 use mathlib.Core.List.{List}
 use mathlib.Core.Logic.{_⊎_, inl, inr, ⊎-elim}
@@ -20,7 +20,8 @@ use Rattle.tabling.proofs.Graph as graph
 use Rattle.tabling.proofs.Moves.{Of, final, move, EdgeT, Node, step-at, of-at, final-at, EdgeN, GoodN}
 use Rattle.loops.proofs.Cold.{Past}
 use Rattle.tabling.proofs.Closed.{Whole, ClosedAt, C, A}
-use Rattle.loops.proofs.Turn.{Before, Over}
+use Rattle.tabling.proofs.Found.{Made, made-start, Rounded}
+use Rattle.loops.proofs.Turn.{Begin, begin, Before, Since, Over}
 
 -- and the calls that they come to are noted
 abbrev pub NotedAt : List ℕ → Tables → List ℕ → ℕ → ℕ → Type 0
@@ -116,21 +117,26 @@ module _ (bodies : Bodies) (Root : ℕ → State → Type 0) where
     pub earlier : (r : ℕ) → first ≤ r → r < walked → (i : ℕ) → Closing t uses seen r i
 
   -- In it: the records from `first` up to `row`, and those that are passed, are closed under every rule, with the answers below `known`.
-  pub record Rows (first walked seen low high top old : ℕ) (warm : Bool) (rows known row : ℕ) (notes : List ℕ) (t : Tables) (uses : List ℕ) : Type 0 where
-    pub before : Round first walked seen t notes
-    pub lit : (r : ℕ) → r < old → (r < walked) × Lit (t .answers) notes seen known warm
-    pub noted : UsesGrew notes uses
+  pub record Rows (first walked seen low high top old : ℕ) (warm : Bool) (round rows known row : ℕ) (begun : Begin) (t : Tables) (uses : List ℕ) : Type 0 where
+    pub before : Round first walked seen t (begun .notes)
+    pub lit : (r : ℕ) → r < old → (r < walked) × Lit (t .answers) (begun .notes) seen known warm
+    pub noted : UsesGrew (begun .notes) uses
+    pub base-rows : rows ≡ begun .tables .calls .count
+    pub since : Since bodies Root round (begun .tables) known t
     pub rows-in : rows ≤ t .calls .count
     pub known-in : known ≤ t .answers .count
     pub closed : (r : ℕ) → first ≤ r → r < rows → (r < row) ⊎ Passed low high top walked r → (i : ℕ) → Closing t uses known r i
+
+  since-up : {round known : ℕ} {base b u : Tables} → Since bodies Root round base known b → Made bodies round base u → Since bodies Root round base known u
+  since-up S m = record { base-valid = S .base-valid; all-known = S .all-known; sooner = S .sooner; made = m }
 
   closing-up : {b u : Tables} {uses uses′ : List ℕ} {known : ℕ} → Grew b u → UsesKept uses uses′ → known ≤ b .answers .count → Inside b (b .answers .count) → (row i : ℕ) → row < b .calls .count
       → Closing b uses known row i → Closing u uses′ known row i
   closing-up {known = known} g w enough inside row i l c e = noted-up g known enough inside (bodies .words i) w row l (c (rw (g .action-same l) at e))
 
-  rows-up : {first walked seen low high top old rows known row : ℕ} {warm : Bool} {notes : List ℕ} {b u : Tables} {uses uses′ : List ℕ} → Grew b u → UsesGrew uses uses′ → Valid bodies Root u → row ≤ rows
-      → Rows first walked seen low high top old warm rows known row notes b uses → Rows first walked seen low high top old warm rows known row notes u uses′
-  rows-up {notes = notes} g w v l R =
+  rows-up : {first walked seen low high top old round rows known row : ℕ} {warm : Bool} {begun : Begin} {b u : Tables} {uses uses′ : List ℕ} → Grew b u → UsesGrew uses uses′ → Valid bodies Root u → Made bodies round (begun .tables) u → row ≤ rows
+      → Rows first walked seen low high top old warm round rows known row begun b uses → Rows first walked seen low high top old warm round rows known row begun u uses′
+  rows-up {begun = begun} g w v m l R =
       let S = R .before in
       let inside = inside-of (S .valid) in
       record {
@@ -138,10 +144,12 @@ module _ (bodies : Bodies) (Root : ℕ → State → Type 0) where
           valid = v;
           walked-in = omega (arith, S .walked-in, g .calls-more);
           seen-in = omega (arith, S .seen-in, g .answers-more);
-          earlier = λ r f h i. closing-up g (kept-of (uses-refl notes)) (S .seen-in) inside r i (omega (arith, S .walked-in)) (S .earlier r f h i);
+          earlier = λ r f h i. closing-up g (kept-of (uses-refl (begun .notes))) (S .seen-in) inside r i (omega (arith, S .walked-in)) (S .earlier r f h i);
         };
         lit = λ r h. (let (l, k) = R .lit r h in (l, lit-up g (R .known-in) k));
         noted = uses-trans (R .noted) w;
+        base-rows = R .base-rows;
+        since = since-up (R .since) m;
         rows-in = omega (arith, R .rows-in, g .calls-more);
         known-in = omega (arith, R .known-in, g .answers-more);
         closed = λ r f h p i. closing-up g (kept-of w) (R .known-in) inside r i (omega (arith, R .rows-in)) (R .closed r f h p i);
@@ -160,28 +168,32 @@ module _ (bodies : Bodies) (Root : ℕ → State → Type 0) where
     earlier = λ r f h i. closing-up (grew-refl t) w (S .seen-in) (inside-of (S .valid)) r i (omega (arith, S .walked-in)) (S .earlier r f h i);
   }
 
-  pub rows-start : {first walked seen low high top old : ℕ} {warm : Bool} {t : Tables} {uses : List ℕ} → Round first walked seen t uses → Spans (t .answers) uses walked seen (t .answers .count) (t .calls .count) low high top
+  pub rows-start : {first walked seen low high top old : ℕ} {warm : Bool} (round : ℕ) {t : Tables} {uses : List ℕ} → Round first walked seen t uses → ((x : ℕ) → x < t .answers .count → t .answers .round x < round) → Spans (t .answers) uses walked seen (t .answers .count) (t .calls .count) low high top
       → ((r : ℕ) → r < old → (r < walked) × Lit (t .answers) uses seen (t .answers .count) warm)
-      → Rows first walked seen low high top old warm (t .calls .count) (t .answers .count) low uses t uses
-  rows-start {first} {walked} {seen} {low} {high} {top} {t = t} {uses} S P W = record {
+      → Rows first walked seen low high top old warm round (t .calls .count) (t .answers .count) low (begin t uses) t uses
+  rows-start {first} {walked} {seen} {low} {high} {top} round {t} {uses} S sooner P W = record {
     before = S;
     lit = W;
     noted = uses-refl uses;
+    base-rows = refl;
+    since = record { base-valid = S .valid; all-known = refl; sooner = sooner; made = made-start t };
     rows-in = omega arith;
     known-in = omega arith;
     closed = λ r f h p i e. (let q = P .quiet r h (⊎-elim inl (λ z. z) p) in noted-later (S .valid) uses seen (t .answers .count) r (omega arith) (q .none) (bodies .words i) (S .earlier r f (q .old) i e));
   }
 
   -- after a round
-  pub rows-round : {first walked seen low high top old rows known row : ℕ} {warm : Bool} {notes : List ℕ} {t : Tables} {uses : List ℕ} → Rows first walked seen low high top old warm rows known row notes t uses → top ≤ row → Round first rows known t uses
+  pub rows-round : {first walked seen low high top old round rows known row : ℕ} {warm : Bool} {begun : Begin} {t : Tables} {uses : List ℕ} → Rows first walked seen low high top old warm round rows known row begun t uses → top ≤ row → Round first rows known t uses
   rows-round {row = row} R h = record { valid = R .before .valid; walked-in = R .rows-in; seen-in = R .known-in; earlier = λ r f l i. R .closed r f l (done-or h r) i }
 
   -- a record that is passed
-  pub rows-passed : {first walked seen low high top old rows known row : ℕ} {warm : Bool} {notes : List ℕ} {t : Tables} {uses : List ℕ} → Rows first walked seen low high top old warm rows known row notes t uses → high ≤ row → row < walked → Rows first walked seen low high top old warm rows known (row + 1) notes t uses
+  pub rows-passed : {first walked seen low high top old round rows known row : ℕ} {warm : Bool} {begun : Begin} {t : Tables} {uses : List ℕ} → Rows first walked seen low high top old warm round rows known row begun t uses → high ≤ row → row < walked → Rows first walked seen low high top old warm round rows known (row + 1) begun t uses
   rows-passed {row = row} R h l = record {
     before = R .before;
     lit = R .lit;
     noted = R .noted;
+    base-rows = R .base-rows;
+    since = R .since;
     rows-in = R .rows-in;
     known-in = R .known-in;
     closed = λ r f g p i. R .closed r f g (⊎-elim (λ k. ⊎-elim inl (λ (z : r ≡ row). inr (inr (inl (omega arith, omega arith)))) (last-one k)) inr p) i;
@@ -189,38 +201,40 @@ module _ (bodies : Bodies) (Root : ℕ → State → Type 0) where
 
   module _ (number : ℕ → ℕ) where
     -- And record `row` is under the rules below `rule`.
-    pub record Rules (first walked seen low high top old : ℕ) (warm : Bool) (rows known row rule : ℕ) (notes : List ℕ) (t : Tables) (uses : List ℕ) : Type 0 where
-      pub rows-closed : Rows first walked seen low high top old warm rows known row notes t uses
+    pub record Rules (first walked seen low high top old : ℕ) (warm : Bool) (round rows known row rule : ℕ) (begun : Begin) (t : Tables) (uses : List ℕ) : Type 0 where
+      pub rows-closed : Rows first walked seen low high top old warm round rows known row begun t uses
       pub rules-closed : (k : ℕ) → k < rule → Closing t uses known row (number k)
 
-    pub rules-start : {first walked seen low high top old rows known row : ℕ} {warm : Bool} {notes : List ℕ} {t : Tables} {uses : List ℕ} → Rows first walked seen low high top old warm rows known row notes t uses → Rules first walked seen low high top old warm rows known row 0 notes t uses
+    pub rules-start : {first walked seen low high top old round rows known row : ℕ} {warm : Bool} {begun : Begin} {t : Tables} {uses : List ℕ} → Rows first walked seen low high top old warm round rows known row begun t uses → Rules first walked seen low high top old warm round rows known row 0 begun t uses
     rules-start R = record { rows-closed = R; rules-closed = λ k h. absurd (omega arith) }
 
     -- a rule of another action
-    pub rules-skip : {first walked seen low high top old rows known row rule : ℕ} {warm : Bool} {notes : List ℕ} {t : Tables} {uses : List ℕ} → Rules first walked seen low high top old warm rows known row rule notes t uses → (bodies .fits (number rule) (t .calls .action row) ≡ true → ⊥)
-        → Rules first walked seen low high top old warm rows known row (rule + 1) notes t uses
+    pub rules-skip : {first walked seen low high top old round rows known row rule : ℕ} {warm : Bool} {begun : Begin} {t : Tables} {uses : List ℕ} → Rules first walked seen low high top old warm round rows known row rule begun t uses → (bodies .fits (number rule) (t .calls .action row) ≡ true → ⊥)
+        → Rules first walked seen low high top old warm round rows known row (rule + 1) begun t uses
     rules-skip {rule = rule} R n = record { rows-closed = R .rows-closed; rules-closed = λ k h. ⊎-elim (λ l. R .rules-closed k l) (λ (z : k ≡ rule). λ e. absurd (n (rw z at e))) (last-one h) }
 
     -- a walk that is over
-    pub rules-next : {first walked seen low high top old rows known row rule walk i : ℕ} {warm : Bool} {notes : List ℕ} {b u : Tables} {P : Before} {body marks uses uses′ : List ℕ} → Rules first walked seen low high top old warm rows known row rule notes b uses → row < rows → i ≡ number rule → body ≡ bodies .words i
-        → UsesGrew uses uses′ → Over bodies Root b known i row walk P body u marks uses′ → Rules first walked seen low high top old warm rows known row (rule + 1) notes u uses′
-    rules-next {known = known} {row} {rule} {b = b} {u} {body} R l e w g o =
+    pub rules-next : {first walked seen low high top old round rows known row rule walk i : ℕ} {warm : Bool} {begun : Begin} {b u : Tables} {P : Before} {body marks uses uses′ : List ℕ} → Rules first walked seen low high top old warm round rows known row rule begun b uses → row < rows → i ≡ number rule → body ≡ bodies .words i
+        → UsesGrew uses uses′ → Made bodies round (begun .tables) u → Over bodies Root b known i row walk P body u marks uses′ → Rules first walked seen low high top old warm round rows known row (rule + 1) begun u uses′
+    rules-next {known = known} {row} {rule} {b = b} {u} {body} R l e w g m o =
         let S = R .rows-closed in
         let i = inside-of (S .before .valid) in
         let h : row < b .calls .count = omega (arith, S .rows-in) in
         record {
-          rows-closed = rows-up (o .grew) g (o .valid) (omega arith) S;
+          rows-closed = rows-up (o .grew) g (o .valid) m (omega arith) S;
           rules-closed = λ k j. ⊎-elim (λ m. closing-up (o .grew) (kept-of g) (S .known-in) i row (number k) h (R .rules-closed k m))
               (λ (z : k ≡ rule). λ f. rw (z, ← e, ← w) (noted-over (o .grew) known (S .known-in) i body h o)) (last-one j);
         }
 
     -- all rules have been walked
-    pub rows-next : {first walked seen low high top old rows known row rule : ℕ} {warm : Bool} {notes : List ℕ} {t : Tables} {uses : List ℕ} → ((i a : ℕ) → bodies .fits i a ≡ true → (k : ℕ) × (k < rule) × (number k ≡ i)) → Rules first walked seen low high top old warm rows known row rule notes t uses
-        → Rows first walked seen low high top old warm rows known (row + 1) notes t uses
+    pub rows-next : {first walked seen low high top old round rows known row rule : ℕ} {warm : Bool} {begun : Begin} {t : Tables} {uses : List ℕ} → ((i a : ℕ) → bodies .fits i a ≡ true → (k : ℕ) × (k < rule) × (number k ≡ i)) → Rules first walked seen low high top old warm round rows known row rule begun t uses
+        → Rows first walked seen low high top old warm round rows known (row + 1) begun t uses
     rows-next {known = known} {row} {rule} {t} {uses} all R = record {
       before = R .rows-closed .before;
       lit = R .rows-closed .lit;
       noted = R .rows-closed .noted;
+      base-rows = R .rows-closed .base-rows;
+      since = R .rows-closed .since;
       rows-in = R .rows-closed .rows-in;
       known-in = R .rows-closed .known-in;
       closed = λ r f l p i. ⊎-elim (λ k. ⊎-elim (λ m. R .rows-closed .closed r f l (inl m) i) (λ (z : r ≡ row). rw z (last i)) (last-one k)) (λ q. R .rows-closed .closed r f l (inr q) i) p;
@@ -230,12 +244,32 @@ module _ (bodies : Bodies) (Root : ℕ → State → Type 0) where
         last i e = let (k, l, z) = all i (t .calls .action row) e in rw z at (R .rules-closed k l (rw z e))
 
   -- what an earlier walk of the record left
-  pub rows-past : {first walked seen low high top old rows known row : ℕ} {warm : Bool} {notes : List ℕ} {t : Tables} {uses : List ℕ} → Rows first walked seen low high top old warm rows known row notes t uses → (i : ℕ) → bodies .fits i (t .calls .action row) ≡ true
-      → first ≤ row → row < old → Past t notes seen known warm row (bodies .words i)
+  pub rows-past : {first walked seen low high top old round rows known row : ℕ} {warm : Bool} {begun : Begin} {t : Tables} {uses : List ℕ} → Rows first walked seen low high top old warm round rows known row begun t uses → (i : ℕ) → bodies .fits i (t .calls .action row) ≡ true
+      → first ≤ row → row < old → Past t (begun .notes) seen known warm row (bodies .words i)
   rows-past {row = row} R i e f h = let (l, k) = R .lit row h in record { swept = R .before .earlier row f l i e; lit = k }
 
   -- a round that added nothing
-  pub rows-finished : {first walked seen low high top old rows known row : ℕ} {warm : Bool} {notes : List ℕ} {t : Tables} {uses : List ℕ} → Rows first walked seen low high top old warm rows known row notes t uses → top ≤ row → t .calls .count + t .answers .count ≡ rows + known → Whole bodies Root first t
+  pub rows-finished : {first walked seen low high top old round rows known row : ℕ} {warm : Bool} {begun : Begin} {t : Tables} {uses : List ℕ} → Rows first walked seen low high top old warm round rows known row begun t uses → top ≤ row → t .calls .count + t .answers .count ≡ rows + known → Whole bodies Root first t
   rows-finished {first} {rows = rows} {known} {row} {t} {uses} R h e =
       let b : known ≡ t .answers .count = omega (arith, R .rows-in, R .known-in) in
       record { valid = R .before .valid; closed = λ r f l i z. noted-closed (bodies .words i) t uses (t .answers .count) r (rw b at (R .closed r f (omega (arith, R .rows-in, R .known-in)) (done-or h r) i z)) }
+
+  -- A round that walked all records is one of the definition's kind, and leaves only answers of rounds up to its own.
+  pub rows-rounded : {walked seen low high top old round rows known row : ℕ} {warm : Bool} {begun : Begin} {t : Tables} {uses : List ℕ} → Rows 0 walked seen low high top old warm round rows known row begun t uses → top ≤ row → Rounded bodies round (begun .tables) t
+  rows-rounded {known = known} {row} {begun = begun} {t} {uses} R h =
+      let S = R .since in
+      record {
+        made = S .made;
+        closed = λ r i l e.
+            (let f : bodies .fits i (t .calls .action r) ≡ true = rw (S .made .grew .action-same l) e in
+            rw (S .all-known) at (noted-closed (bodies .words i) t uses known r (R .closed r (omega arith) (omega (arith, R .base-rows)) (done-or h r) i f)));
+      }
+
+  pub rows-sooner : {first walked seen low high top old round rows known row : ℕ} {warm : Bool} {begun : Begin} {t : Tables} {uses : List ℕ} → Rows first walked seen low high top old warm round rows known row begun t uses
+      → (x : ℕ) → x < t .answers .count → t .answers .round x < round + 1
+  rows-sooner {begun = begun} {t} R x l =
+      let S = R .since in
+      elim (decLt x (begun .tables .answers .count)) [
+        | yes h ↦ omega (arith, S .sooner x (omega (arith, S .all-known)), S .made .grew .answer-round h)
+        | no n ↦ omega (arith, S .made .answer-found x (omega arith) l .1)
+      ]

@@ -24,11 +24,12 @@ use Rattle.notes.proofs.UsesLaws.{kept-of, uses-refl, uses-trans, held-used-up}
 use Rattle.records.proofs.Justification.{Has, Proper, Justified}
 use Rattle.tabling.proofs.Evidence.{Valid, inside-of, come-reached, way-ends, way-follows}
 use Rattle.tabling.proofs.Adding.{valid-call, valid-answer, full-calls, full-answers, Outgrown}
+use Rattle.tabling.proofs.Found.{FoundCall, FoundAnswer, Made, made-call, made-answer, reach-down}
 use Rattle.loops.proofs.Cold.{Past, Last, upto-cold, upto-last}
 use Rattle.tabling.proofs.Sweep.{Swept, Upto, upto-up, Reach, reach-append, Way, way-reach}
 use Rattle.tabling.proofs.Graph.{Front, goes, calls, numbered, Leads}
 use Rattle.tabling.proofs.Graph as graph
-use Rattle.tabling.proofs.Moves.{Of, call-of, NoneIn, Retreat, Chosen, EdgeT, Node, of-at, final-at, at-call, move, step-at, EdgeN, GoodN}
+use Rattle.tabling.proofs.Moves.{Of, call-of, NoneIn, Retreat, Chosen, EdgeT, Node, of-at, final-at, at-call, move, move-call, step-at, EdgeN, GoodN}
 use Rattle.loops.proofs.Walking.{Walking, walk-start, walk-forward, walk-way, plain-way, last-known, good-up, chosen-of, Done, done-end, done-stuck, done-seen, done-call, mark-done, take-first, back-over, back-take, walking-up}
 use Rattle.notes.specs.Marks.{Mark, Stamped, with-mark}
 use Rattle.notes.proofs.MarksLaws.{mark-new, mark-stamped}
@@ -80,17 +81,35 @@ module _ {bodies : Bodies} {Root : ℕ → State → Type 0} {b t : Tables} {kno
   }
 
 -- ---- the invariant
+-- What a round began with: the tables, and what was noted then.
+pub record Begin : Type 0 where
+  pub tables : Tables
+  pub notes : List ℕ
+
+abbrev pub begin : Tables → List ℕ → Begin
+begin tables notes = record { tables = tables; notes = notes }
+
 -- What was before a round: the records from `first` up to `old` were walked with the answers below `seen`, and what their walks came to is
--- noted; and whether all that the round has to look at again is.
+-- noted; whether all that the round has to look at again is; the round's number and the tables that it began with.
 pub record Before : Type 0 where
   pub first : ℕ
   pub old : ℕ
   pub seen : ℕ
   pub warm : Bool
+  pub round : ℕ
+  pub base : Tables
   pub notes : List ℕ
 
-abbrev pub before : ℕ → ℕ → ℕ → Bool → List ℕ → Before
-before first old seen warm notes = record { first = first; old = old; seen = seen; warm = warm; notes = notes }
+abbrev pub before : ℕ → ℕ → ℕ → Bool → ℕ → Begin → Before
+before first old seen warm round begun =
+    record { first = first; old = old; seen = seen; warm = warm; round = round; base = begun .tables; notes = begun .notes }
+
+-- In round r, which began with `base`: its answers, those below `known`, are of earlier rounds, and all that b has more was found in this one.
+pub record Since (bodies : Bodies) (Root : ℕ → State → Type 0) (r : ℕ) (base : Tables) (known : ℕ) (b : Tables) : Type 0 where
+  pub base-valid : Valid bodies Root base
+  pub all-known : known ≡ base .answers .count
+  pub sooner : (x : ℕ) → x < known → base .answers .round x < r
+  pub made : Made bodies r base b
 
 abbrev pub Old : Before → ℕ → Type 0
 Old P row = (P .first ≤ row) × (row < P .old)
@@ -104,6 +123,8 @@ pub record Given (bodies : Bodies) (Root : ℕ → State → Type 0) (b : Tables
   pub fits : bodies .fits rule (b .calls .action row) ≡ true
   pub words : body ≡ bodies .words rule
   pub past : Old P row → Past b (P .notes) (P .seen) known (P .warm) row body
+  pub row-old : row < P .base .calls .count
+  pub since : Since bodies Root (P .round) (P .base) known b
 
 -- The answer that a walk takes first: the first of all; or, where a record walked before is walked again by old answers, the first that is
 -- looked at, or at the last call of a body the first that is new.
@@ -127,6 +148,7 @@ module _ (bodies : Bodies) (Root : ℕ → State → Type 0) (b : Tables) (known
     pub given : Given bodies Root b known rule row P body
     pub valid : Valid bodies Root t
     pub grew : Grew b t
+    pub made : Made bodies (P .round) (P .base) t
     pub noted : UsesGrew (P .notes) uses
     pub stamped : Stamped marks walk
     pub chosen-long : length chosen ≡ 16
@@ -142,6 +164,7 @@ module _ (bodies : Bodies) (Root : ℕ → State → Type 0) (b : Tables) (known
   pub record Over (t : Tables) (marks uses : List ℕ) : Type 0 where
     pub valid : Valid bodies Root t
     pub grew : Grew b t
+    pub made : Made bodies (P .round) (P .base) t
     pub stamped : Stamped marks walk
     pub swept : Swept (EdgeN b known body) (GoodN b known body (HeldUsed t uses row) (Held t row)) 0 from
 
@@ -151,11 +174,12 @@ module _ (bodies : Bodies) (Root : ℕ → State → Type 0) (b : Tables) (known
   pub body-short : Given bodies Root b known rule row P body → length body ≤ 16
   body-short G = rw (G .words) (G .proper .short rule _ (G .fits))
 
-  turning-up : {t u : Tables} {marks uses uses′ chosen : List ℕ} {at : ℕ} {s : Node} → Turning t marks uses chosen at s → Grew t u → UsesGrew uses uses′ → Valid bodies Root u → Turning u marks uses′ chosen at s
-  turning-up T g w v = record {
+  turning-up : {t u : Tables} {marks uses uses′ chosen : List ℕ} {at : ℕ} {s : Node} → Turning t marks uses chosen at s → Grew t u → UsesGrew uses uses′ → Valid bodies Root u → Made bodies (P .round) (P .base) u → Turning u marks uses′ chosen at s
+  turning-up T g w v m = record {
     given = T .given;
     valid = v;
     grew = grew-trans (T .grew) g;
+    made = m;
     noted = uses-trans (T .noted) w;
     stamped = T .stamped;
     chosen-long = T .chosen-long;
@@ -170,6 +194,7 @@ module _ (bodies : Bodies) (Root : ℕ → State → Type 0) (b : Tables) (known
     given = G;
     valid = G .valid;
     grew = grew-refl b;
+    made = G .since .made;
     noted = w;
     stamped = s;
     chosen-long = long;
@@ -193,6 +218,7 @@ module _ (bodies : Bodies) (Root : ℕ → State → Type 0) (b : Tables) (known
       given = T .given;
       valid = T .valid;
       grew = T .grew;
+      made = T .made;
       noted = T .noted;
       stamped = T .stamped;
       chosen-long = simp length-set (T .chosen-long);
@@ -203,6 +229,15 @@ module _ (bodies : Bodies) (Root : ℕ → State → Type 0) (b : Tables) (known
     pub turn-stuck : at < length body → is-call (getD body at 0) ≡ false → elementary (step-of (getD body at 0)) (s .0) ≡ stuck → Turned t marks uses chosen at s
     turn-stuck h l e = record { turning = T; done = done-stuck body b known walk (HeldUsed t uses row) (Held t row) from (T .walking) h l e }
 
+    -- a way of the walk is one in the tables that the round began with
+    base-reach : (p : ℕ) (u : State) → Reach (EdgeT b known body) 0 (from .0) p u → Reach (EdgeT (P .base) (P .base .answers .count) (bodies .words rule)) 0 (P .base .calls .state row) p u
+    base-reach p u r =
+        let G = T .given in
+        let S = G .since in
+        let e : known ≤ P .base .answers .count = omega (arith, S .all-known) in
+        let r′ = reach-down (S .made .grew) known e (λ x l. inside-of (S .base-valid) x (omega arith)) body r in
+        rw (S .all-known, S .made .grew .state-same (G .row-old), G .words) at r′
+
     -- ---- a call
     module _ (h : at < length body) (e : is-call (getD body at 0) ≡ true) where
       -- it is reached
@@ -211,22 +246,41 @@ module _ (bodies : Bodies) (Root : ℕ → State → Type 0) (b : Tables) (known
           let G = T .given in
           come-reached b known body (G .valid) (G .enough) (G .valid .reached row (G .row-in)) (has-body G) h e (plain-way body b known walk (HeldUsed t uses row) (Held t row) from (T .walking))
 
+      -- the round finds it
+      found : FoundCall bodies (P .base) (P .base .answers .count) (getD body at 0 % 256, s .0)
+      found =
+          let G = T .given in
+          let S = G .since in
+          let W = plain-way body b known walk (HeldUsed t uses row) (Held t row) from (T .walking) in
+          let r = base-reach at (s .0) (way-reach {Edge′ = EdgeT b known body} W (λ q l. W .edges q l)) in
+          record {
+            row = row;
+            row-in = G .row-old;
+            rule = rule;
+            fits = rw (S .made .grew .action-same (G .row-old)) at (G .fits);
+            place = at;
+            state = s .0;
+            way = r;
+            inside = rw (G .words) at h;
+            comes = subst (λ (ws : List ℕ). move (getD ws at 0) (s .0) ≡ calls (getD body at 0 % 256, s .0)) (G .words) (move-call (getD body at 0) (s .0) e);
+          }
+
       -- it stands in the table
-      pub turn-called : {calls′ : Calls} {r places : ℕ} {full : Bool} → CallPut places (t .calls) (getD body at 0 % 256) (s .0) calls′ r full → full ≡ false
+      pub turn-called : {calls′ : Calls} {r places : ℕ} {full : Bool} → CallPut places (t .calls) (getD body at 0 % 256) (s .0) (P .round) calls′ r full → full ≡ false
           → Turning (tables calls′ (t .answers)) marks uses chosen at s × (r < calls′ .count) × CallAt calls′ r (getD body at 0 % 256) (s .0)
       turn-called (call-stood f l k z) n = rw z (T, l, k)
-      turn-called (call-added f i l none p) n = (turning-up T (grew-call t p) (uses-refl uses) (valid-call (T .valid) (T .given .proper) p none came), omega (arith, p .count), rw i (p .new))
+      turn-called (call-added f i l none p) n = (turning-up T (grew-call t p) (uses-refl uses) (valid-call (T .valid) (T .given .proper) p none came) (made-call (T .made) p found), omega (arith, p .count), rw i (p .new))
       turn-called (call-no-room f i none z) n = absurd (true-not-false (sym f ∙ n))
 
       -- or there is no room for it
-      pub turn-calls-full : {calls′ : Calls} {r places : ℕ} {full : Bool} (answer-places : ℕ) → CallPut places (t .calls) (getD body at 0 % 256) (s .0) calls′ r full → full ≡ true → Outgrown bodies Root places answer-places
+      pub turn-calls-full : {calls′ : Calls} {r places : ℕ} {full : Bool} (answer-places : ℕ) → CallPut places (t .calls) (getD body at 0 % 256) (s .0) (P .round) calls′ r full → full ≡ true → Outgrown bodies Root places answer-places
       turn-calls-full m (call-stood f l k z) n = absurd (true-not-false (sym n ∙ f))
       turn-calls-full m (call-added f i l none p) n = absurd (true-not-false (sym n ∙ f))
       turn-calls-full m (call-no-room f i none z) n = inl (rw i at (full-calls (T .valid) none came))
 
       -- and is noted
       pub turn-noted : {uses′ : List ℕ} {r : ℕ} → Noted uses uses′ row (s .1) r → Turning t marks uses′ chosen at s
-      turn-noted w = turning-up T (grew-refl t) (w .grew) (T .valid)
+      turn-noted w = turning-up T (grew-refl t) (w .grew) (T .valid) (T .made)
 
       -- a way by old answers is one of the earlier walk
       old-way : ((q : ℕ) → q < at → getD chosen q 0 < P .seen) → Reach (EdgeN b (P .seen) body) 0 from at s
@@ -313,6 +367,7 @@ module _ (bodies : Bodies) (Root : ℕ → State → Type 0) (b : Tables) (known
                 given = T .given;
                 valid = T .valid;
                 grew = T .grew;
+                made = T .made;
                 noted = T .noted;
                 stamped = mark-stamped marks walk at r (place-low h) long free (T .stamped);
                 chosen-long = T .chosen-long;
@@ -340,6 +395,7 @@ module _ (bodies : Bodies) (Root : ℕ → State → Type 0) (b : Tables) (known
               given = G;
               valid = T .valid;
               grew = T .grew;
+              made = T .made;
               noted = T .noted;
               stamped = mark-stamped marks walk at r (place-low h) long free (T .stamped);
               chosen-long = simp length-set (T .chosen-long);
@@ -360,12 +416,27 @@ module _ (bodies : Bodies) (Root : ℕ → State → Type 0) (b : Tables) (known
           let G = T .given in
           rw (T .grew .action-same (G .row-in), T .grew .state-same (G .row-in)) (way-ends b known body (G .valid) (G .enough) (has-body G) end-way)
 
-      end-justified : {answers′ : Answers} → AnswerAdded (t .answers) row (s .0) rule chosen answers′ → Justified bodies (tables (t .calls) answers′) (t .answers .count)
+      end-found : FoundAnswer bodies (P .base) (P .base .answers .count) row (s .0)
+      end-found =
+          let G = T .given in
+          let S = G .since in
+          let r = base-reach (length body) (s .0) (way-reach {Edge′ = EdgeT b known body} end-way (λ q l. end-way .edges q l)) in
+          record { row-in = G .row-old; rule = rule; fits = rw (S .made .grew .action-same (G .row-old)) at (G .fits); way = rw (G .words) at r }
+
+      -- the answers chosen are of earlier rounds
+      end-sooner : {answers′ : Answers} → AnswerAdded (t .answers) row (s .0) rule chosen (P .round) answers′ → (x : ℕ) → x < known → answers′ .round x < answers′ .round (t .answers .count)
+      end-sooner p x l =
+          let S = T .given .since in
+          let i : x < P .base .answers .count = omega (arith, S .all-known) in
+          let k : x < t .answers .count = omega (arith, T .made .grew .answers-more) in
+          omega (arith, S .sooner x l, T .made .grew .answer-round i, p .round-kept x k, p .new-round)
+
+      end-justified : {answers′ : Answers} → AnswerAdded (t .answers) row (s .0) rule chosen (P .round) answers′ → Justified bodies (tables (t .calls) answers′) (t .answers .count)
       end-justified {answers′} p =
           let G = T .given in
           let u : Tables = tables (t .calls) answers′ in
           let up : Grew b u = grew-trans (T .grew) (grew-answer t p) in
-          let w = way-follows b known up (inside-of (G .valid)) (G .enough) (t .answers .count) (omega (arith, G .enough, T .grew .answers-more)) body (body-short G)
+          let w = way-follows b known up (inside-of (G .valid)) (G .enough) (t .answers .count) (omega (arith, G .enough, T .grew .answers-more)) (end-sooner p) body (body-short G)
           (p .new-evidence) (T .unused) (sym (p .new .has-final)) end-way in
           record {
             exists = rw (p .new .has-call) (omega (arith, G .row-in, T .grew .calls-more));
@@ -373,15 +444,15 @@ module _ (bodies : Bodies) (Root : ℕ → State → Type 0) (b : Tables) (known
             followed = rw (p .new-rule, p .new .has-call, T .grew .state-same (G .row-in), ← (G .words)) w;
           }
 
-      pub turn-ended : {answers′ : Answers} {places : ℕ} {full : Bool} → AnswerPut places (t .answers) row (s .0) rule chosen answers′ full → full ≡ false → Turned (tables (t .calls) answers′) marks uses chosen at s
+      pub turn-ended : {answers′ : Answers} {places : ℕ} {full : Bool} → AnswerPut places (t .answers) row (s .0) rule chosen (P .round) answers′ full → full ≡ false → Turned (tables (t .calls) answers′) marks uses chosen at s
       turn-ended (answer-stood f k z) n = rw z (record { turning = T; done = done-end body b known walk (HeldUsed t uses row) (Held t row) from (T .walking) h k })
       turn-ended {answers′} (answer-added f l none p) n =
           let u : Tables = tables (t .calls) answers′ in
-          let w : Turning u marks uses chosen at s = turning-up T (grew-answer t p) (uses-refl uses) (valid-answer (T .valid) (T .given .proper) p none (end-justified p)) in
+          let w : Turning u marks uses chosen at s = turning-up T (grew-answer t p) (uses-refl uses) (valid-answer (T .valid) (T .given .proper) p none (end-justified p)) (made-answer (T .made) p end-found) in
           record { turning = w; done = done-end body b known walk (HeldUsed u uses row) (Held u row) from (w .walking) h (t .answers .count, omega (arith, p .count), p .new) }
       turn-ended (answer-no-room f i none z) n = absurd (true-not-false (sym f ∙ n))
 
-      pub turn-answers-full : {answers′ : Answers} {places : ℕ} {full : Bool} (call-places : ℕ) → AnswerPut places (t .answers) row (s .0) rule chosen answers′ full → full ≡ true → Outgrown bodies Root call-places places
+      pub turn-answers-full : {answers′ : Answers} {places : ℕ} {full : Bool} (call-places : ℕ) → AnswerPut places (t .answers) row (s .0) rule chosen (P .round) answers′ full → full ≡ true → Outgrown bodies Root call-places places
       turn-answers-full c (answer-stood f k z) n = absurd (true-not-false (sym n ∙ f))
       turn-answers-full c (answer-added f l none p) n = absurd (true-not-false (sym n ∙ f))
       turn-answers-full c (answer-no-room f i none z) n = inr (rw i at (full-answers (T .valid) (omega (arith, T .given .row-in, T .grew .calls-more)) none end-final))
@@ -396,7 +467,7 @@ module _ (bodies : Bodies) (Root : ℕ → State → Type 0) (b : Tables) (known
     pub turned-over : {j : ℕ} → RetreatRow body (t .answers) known chosen at 0 j → Over t marks uses
     turned-over R =
         let U = T .turning in
-        record { valid = U .valid; grew = U .grew; stamped = U .stamped; swept = back-over body b known walk (HeldUsed t uses row) (Held t row) from (U .walking) (T .done) (old R) }
+        record { valid = U .valid; grew = U .grew; made = U .made; stamped = U .stamped; swept = back-over body b known walk (HeldUsed t uses row) (Held t row) from (U .walking) (T .done) (old R) }
 
     pub turned-take : {j : ℕ} (p : ℕ) → RetreatRow body (t .answers) known chosen at (p + 1) j → Turning t marks uses (set chosen p j) (p + 1) (t .answers .final j, j + 1)
     turned-take {j} p R =
@@ -409,6 +480,7 @@ module _ (bodies : Bodies) (Root : ℕ → State → Type 0) (b : Tables) (known
           given = G;
           valid = U .valid;
           grew = U .grew;
+          made = U .made;
           noted = U .noted;
           stamped = U .stamped;
           chosen-long = simp length-set (U .chosen-long);

@@ -236,9 +236,9 @@ module _ (index : List ℕ) (k n : ℕ) (small : k < 57344) (long : 57344 + n < 
   unfolding noted
   noted-other i d e = getD-set-other (set index (57344 + n) (getD index k 0)) k i n 0 d ∙ getD-set-other index (57344 + n) i (getD index k 0) 0 e
 
-pub call-index-more : {calls calls′ : Calls} {a k : ℕ} {D : State} {index index′ : List ℕ} → CallIndex calls index → CallAdded calls a D calls′ → calls .count < 65536
+pub call-index-more : {calls calls′ : Calls} {a k r : ℕ} {D : State} {index index′ : List ℕ} → CallIndex calls index → CallAdded calls a D r calls′ → calls .count < 65536
     → k ≡ bucket a D → index′ ≡ noted index k (calls .count) → CallIndex calls′ index′
-call-index-more {calls} {calls′} {a} {k} {D} {index} {index′} c p few e z =
+call-index-more {calls} {calls′} {a} {k} {D = D} {index} {index′} c p few e z =
     let n = calls .count in
     let s : k < 57344 = omega (arith, bucket-small a D) in
     let inside : 57344 + n < length index = omega (arith, c .long) in
@@ -296,8 +296,8 @@ module _ {index : List ℕ} {k m place row : ℕ} (w : Placed index k m place ro
   both-last : getD (joined (noted index k m) place row m) (188416 + row) 0 ≡ m
   both-last = joined-last (noted index k m) place row m (omega (arith, noted-long index k m))
 
-module _ {answers answers′ : Answers} {row rule k place : ℕ} {f : State} {evidence index : List ℕ} (c : AnswerIndex answers index)
-    (p : AnswerAdded answers row f rule evidence answers′) (few : answers .count < 65536) (small : row < 65536) (e : k ≡ bucket row f) where
+module _ {answers answers′ : Answers} {row rule r k place : ℕ} {f : State} {evidence index : List ℕ} (c : AnswerIndex answers index)
+    (p : AnswerAdded answers row f rule evidence r answers′) (few : answers .count < 65536) (small : row < 65536) (e : k ≡ bucket row f) where
   covers-both : Placed index k (answers .count) place row → Covers (λ x. bucket (answers′ .call x) (answers′ .final x)) (answers .count + 1)
       (λ i. getD (joined (noted index k (answers .count)) place row (answers .count)) i 0) (λ x. getD (joined (noted index k (answers .count)) place row (answers .count)) (57344 + x) 0)
   covers-both w =

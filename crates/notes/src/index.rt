@@ -79,10 +79,10 @@ fn note(index: &mut [u16], k: usize, n: usize)
     index[k] = n as u16;
 }
 
-// The record of the call, which is added to the table and noted in the index if there is none.
-pub fn add_call(calls: &mut [u64], n: usize, index: &mut [u16], call: Call) -> Put
+// The record of the call, which is added to the table with its round and noted in the index if there is none.
+pub fn add_call(calls: &mut [u64], n: usize, index: &mut [u16], call: Call, round: u64) -> Put
     requires { ⌜ Stored call-width (now calls) n × CallIndex (call-table (now calls) n) (now index) ⌝ }
-    ensures { λ r. ⌜ CallStored call-width (now (calls .entry)) n (call .action) (call .state .0) (now (calls .exit))
+    ensures { λ r. ⌜ CallStored call-width (now (calls .entry)) n (call .action) (call .state .0) round (now (calls .exit))
         (r .row) (r .count) (r .full) ⌝ }
     ensures { λ r. ⌜ CallIndex (call-table (now (calls .exit)) (r .count)) (now (index .exit)) ⌝ }
 {
@@ -96,7 +96,7 @@ pub fn add_call(calls: &mut [u64], n: usize, index: &mut [u16], call: Call) -> P
     }
     if n < tables::room_of(calls.len(), tables::CALL_WORDS) {
         note(index, bucket(call.action, call.state.0), n);
-        tables::put_call(calls, n, call);
+        tables::put_call(calls, tables::CALL_WORDS, n, call, round);
         return Put {
             row: n,
             count: n + 1,
@@ -124,7 +124,7 @@ fn is_answer(answers: &[u64], known: usize, x: usize, row: u64) -> bool
     ensures { λ r. ⌜ OfRow (answer-table (now (answers .entry)) known) x row r ⌝ }
 {
     if x < known {
-        if tables::call_of(answers, x) == row {
+        if tables::call_of(answers, tables::ANSWER_WORDS, x) == row {
             return true;
         }
     }
@@ -150,7 +150,7 @@ pub fn later_answer(answers: &[u64], known: usize, index: &[u16], x: usize) -> u
     requires { ⌜ ((m : ℕ) × (known ≤ m) × (answer-width * m ≤ length (now answers)) × AnswerIndex (answer-table (now answers) m) (now index)) ⌝ }
     ensures { λ r. ⌜ NextAnswer (answer-table (now (answers .entry)) known) known (getD (now (answers .entry)) (answer-width * x) 0) (x + 1) r ⌝ }
 {
-    let row = tables::call_of(answers, x);
+    let row = tables::call_of(answers, tables::ANSWER_WORDS, x);
     let later = index[NEXTS + x] as usize;
     if later <= x {
         return known;
@@ -185,8 +185,8 @@ fn join(index: &mut [u16], place: usize, row: usize, m: usize)
 // Notes answer m of this call record and final state, which is about to be written.
 fn note_answer(answers: &[u64], m: usize, index: &mut [u16], row: usize, last: State)
     requires { ⌜ (answer-width * m ≤ length (now answers)) × (m < 65536) × (row < 65536) × AnswerIndex (answer-table (now answers) m) (now index) ⌝ }
-    ensures { λ _. ⌜ ((rule : ℕ) (evidence : List ℕ) (after : Answers)
-        → AnswerAdded (answer-table (now (answers .entry)) m) row (last .0) rule evidence after
+    ensures { λ _. ⌜ ((rule : ℕ) (evidence : List ℕ) (r : ℕ) (after : Answers)
+        → AnswerAdded (answer-table (now (answers .entry)) m) row (last .0) rule evidence r after
         → AnswerIndex after (now (index .exit))) ⌝ }
 {
     let place = tail(answers, m, index, row);
@@ -194,7 +194,7 @@ fn note_answer(answers: &[u64], m: usize, index: &mut [u16], row: usize, last: S
     join(index, place, row, m);
 }
 
-// The record of the answer, which is added with its rule and evidence and noted in the index if there is none.
+// The record of the answer, which is added with its rule, evidence and round and noted in the index if there is none.
 pub fn add_answer(
     answers: &mut [u64],
     m: usize,
@@ -203,10 +203,11 @@ pub fn add_answer(
     last: State,
     rule: u64,
     evidence: &[u64; 16],
+    round: u64,
 ) -> Put
     requires { ⌜ Stored answer-width (now answers) m × AnswerIndex (answer-table (now answers) m) (now index) × (row < 65536) ⌝ }
-    ensures { λ r. ⌜ AnswerStored answer-width (now (answers .entry)) m row (last .0) rule (now (evidence .entry)) (now (answers .exit)) (r .count)
-        (r .full) ⌝ }
+    ensures { λ r. ⌜ AnswerStored answer-width (now (answers .entry)) m row (last .0) rule (now (evidence .entry)) round (now (answers .exit))
+        (r .count) (r .full) ⌝ }
     ensures { λ r. ⌜ AnswerIndex (answer-table (now (answers .exit)) (r .count)) (now (index .exit)) ⌝ }
 {
     let x = find_answer(answers, m, index, row, last);
@@ -219,7 +220,16 @@ pub fn add_answer(
     }
     if m < tables::room_of(answers.len(), tables::ANSWER_WORDS) {
         note_answer(answers, m, index, row, last);
-        tables::put_answer(answers, m, row, last, rule, evidence);
+        tables::put_answer(
+            answers,
+            tables::ANSWER_WORDS,
+            m,
+            row,
+            last,
+            rule,
+            evidence,
+            round,
+        );
         return Put {
             row: m,
             count: m + 1,

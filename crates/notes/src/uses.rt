@@ -202,7 +202,7 @@ fn look_at_new(
     let mut x = known;
     while seen < x {
         x -= 1;
-        let k = tables::call_of(answers, x) as usize;
+        let k = tables::call_of(answers, tables::ANSWER_WORDS, x) as usize;
         low = lesser(low, least_of(uses, k));
         high = greater(high, greatest_of(uses, k) + 1);
         put_start(uses, k, x, x);
@@ -230,7 +230,7 @@ fn look_before(uses: &mut [u16], answers: &[u64], seen: usize, known: usize, x: 
         → Looked (answer-table (now (answers .entry)) known) uses₀ (now (uses .exit)) seen known (x + 1) r)
         × (length (now (uses .exit)) ≡ length (now (uses .entry))) ⌝ }
 {
-    let first = tables::call_of(answers, x) as usize;
+    let first = tables::call_of(answers, tables::ANSWER_WORDS, x) as usize;
     if heat_of(uses, first) != x {
         return true;
     }
@@ -245,7 +245,7 @@ fn look_before(uses: &mut [u16], answers: &[u64], seen: usize, known: usize, x: 
             return false;
         }
         let y = via - 1;
-        let k = tables::call_of(answers, y) as usize;
+        let k = tables::call_of(answers, tables::ANSWER_WORDS, y) as usize;
         let heat = heat_of(uses, k);
         if seen <= heat {
             let start = lesser(start_of(uses, k), y);
@@ -299,7 +299,7 @@ pub fn first_looked(
     }
     let x = start_of(uses, row);
     if x < known {
-        if tables::call_of(answers, x) == row as u64 {
+        if tables::call_of(answers, tables::ANSWER_WORDS, x) == row as u64 {
             return x;
         }
     }
@@ -316,7 +316,7 @@ pub fn first_new(uses: &[u16], answers: &[u64], seen: usize, known: usize, row: 
         return known;
     }
     if x < known {
-        if tables::call_of(answers, x) == row as u64 {
+        if tables::call_of(answers, tables::ANSWER_WORDS, x) == row as u64 {
             return x;
         }
     }

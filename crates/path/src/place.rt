@@ -43,7 +43,7 @@ fn place<'a>(
     let mut q = 0;
     while q < steps.len() {
         let step = steps[q];
-        let used = tables::evidence_of(answers, n, q);
+        let used = tables::evidence_of(answers, tables::ANSWER_WORDS, n, q);
         let t = take_step(step, state, used, n, calls, answers, sizes);
         note(step, used, at, offsets);
         at += t.size;

@@ -40,7 +40,7 @@ fn size<'a>(
         let t = take_step(
             steps[q],
             state,
-            tables::evidence_of(answers, n, q),
+            tables::evidence_of(answers, tables::ANSWER_WORDS, n, q),
             n,
             calls,
             answers,

@@ -26,7 +26,11 @@ pub fn start(calls: &[u64], answers: &[u64], n: usize) -> u64
     requires { ⌜ Readable (now calls) (now answers) (n + 1) ⌝ }
     ensures { λ s. ⌜ s ≡ start-at (now (calls .entry)) (now (answers .entry)) n ⌝ }
 {
-    tables::state_of(calls, tables::call_of(answers, n) as usize).0
+    tables::state_of(
+        calls,
+        tables::CALL_WORDS,
+        tables::call_of(answers, tables::ANSWER_WORDS, n) as usize,
+    ).0
 }
 
 // The step words of record n.
@@ -34,7 +38,11 @@ pub fn steps_of<'a>(rules: &'a [u16], goal: &'a [u16], answers: &[u64], n: usize
     requires { ⌜ ((calls : List ℕ) × Checked (now rules) (now goal) calls (now answers) (n + 1)) ⌝ }
     ensures { λ b. ⌜ (now b ≡ words-at (now (rules .entry)) (now (goal .entry)) (now (answers .entry)) n) × (length (now b) ≤ 16) ⌝ }
 {
-    bodies::steps_of(rules, goal, tables::rule_of(answers, n))
+    bodies::steps_of(
+        rules,
+        goal,
+        tables::rule_of(answers, tables::ANSWER_WORDS, n),
+    )
 }
 
 // How many states an elementary step adds: an insert and a delete one each, any other none.
@@ -47,7 +55,7 @@ fn shown(step: u16) -> usize
 
 // The state after a step of record n that goes on.
 fn after(step: u16, state: u64, evidence: u64, n: usize, calls: &[u64], answers: &[u64]) -> u64
-    requires { ⌜ Readable (now calls) (now answers) n × ((t : ℕ) × LeadsTo (now calls) (now answers) n step state evidence t) ⌝ }
+    requires { ⌜ Readable (now calls) (now answers) (n + 1) × ((t : ℕ) × LeadsTo (now calls) (now answers) n step state evidence t) ⌝ }
     ensures { λ t. ⌜ LeadsTo (now (calls .entry)) (now (answers .entry)) n step state evidence t ⌝ }
 {
     let next = follow(step, State::of(state), evidence, n, calls, answers);
@@ -67,7 +75,7 @@ pub fn take_step(
     answers: &[u64],
     sizes: &[usize],
 ) -> Turn
-    requires { ⌜ Readable (now calls) (now answers) n × (n ≤ length (now sizes))
+    requires { ⌜ Readable (now calls) (now answers) (n + 1) × (n ≤ length (now sizes))
         × ((t : ℕ) × LeadsTo (now calls) (now answers) n step state evidence t) ⌝ }
     ensures { λ r. ⌜ Turned (now (calls .entry)) (now (answers .entry)) (now (sizes .entry)) n step state evidence (r .state) (r .size) ⌝ }
 {

@@ -63,7 +63,7 @@ fn write<'a>(
     let mut q = 0;
     while q < steps.len() {
         let step = steps[q];
-        let used = tables::evidence_of(answers, n, q);
+        let used = tables::evidence_of(answers, tables::ANSWER_WORDS, n, q);
         let t = take_step(step, state, used, n, calls, answers, sizes);
         write_step(step, offsets[used as usize], at, t.size, t.state, list);
         at += t.size;

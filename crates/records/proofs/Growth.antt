@@ -27,10 +27,12 @@ pub record Grew (t u : Tables) : Type 0 where
   pub answers-more : t .answers .count ≤ u .answers .count
   pub action-same : {i : ℕ} → i < t .calls .count → u .calls .action i ≡ t .calls .action i
   pub state-same : {i : ℕ} → i < t .calls .count → u .calls .state i ≡ t .calls .state i
+  pub call-round : {i : ℕ} → i < t .calls .count → u .calls .round i ≡ t .calls .round i
   pub call-same : {x : ℕ} → x < t .answers .count → u .answers .call x ≡ t .answers .call x
   pub final-same : {x : ℕ} → x < t .answers .count → u .answers .final x ≡ t .answers .final x
   pub rule-same : {x : ℕ} → x < t .answers .count → u .answers .rule x ≡ t .answers .rule x
   pub evidence-same : {x : ℕ} (q : ℕ) → x < t .answers .count → q < 16 → u .answers .evidence x q ≡ t .answers .evidence x q
+  pub answer-round : {x : ℕ} → x < t .answers .count → u .answers .round x ≡ t .answers .round x
 
 pub grew-refl : (t : Tables) → Grew t t
 grew-refl t = record {
@@ -38,10 +40,12 @@ grew-refl t = record {
   answers-more = omega arith;
   action-same = λ l. refl;
   state-same = λ l. refl;
+  call-round = λ l. refl;
   call-same = λ l. refl;
   final-same = λ l. refl;
   rule-same = λ l. refl;
   evidence-same = λ q l h. refl;
+  answer-round = λ l. refl;
 }
 
 pub grew-trans : {t u v : Tables} → Grew t u → Grew u v → Grew t v
@@ -50,34 +54,40 @@ grew-trans g h = record {
   answers-more = omega (arith, g .answers-more, h .answers-more);
   action-same = λ l. h .action-same (omega (arith, g .calls-more)) ∙ g .action-same l;
   state-same = λ l. h .state-same (omega (arith, g .calls-more)) ∙ g .state-same l;
+  call-round = λ l. h .call-round (omega (arith, g .calls-more)) ∙ g .call-round l;
   call-same = λ l. h .call-same (omega (arith, g .answers-more)) ∙ g .call-same l;
   final-same = λ l. h .final-same (omega (arith, g .answers-more)) ∙ g .final-same l;
   rule-same = λ l. h .rule-same (omega (arith, g .answers-more)) ∙ g .rule-same l;
   evidence-same = λ q l k. h .evidence-same q (omega (arith, g .answers-more)) k ∙ g .evidence-same q l k;
+  answer-round = λ l. h .answer-round (omega (arith, g .answers-more)) ∙ g .answer-round l;
 }
 
-pub grew-call : (t : Tables) {a : ℕ} {D : State} {calls′ : Calls} → CallAdded (t .calls) a D calls′ → Grew t (tables calls′ (t .answers))
+pub grew-call : (t : Tables) {a : ℕ} {D : State} {r : ℕ} {calls′ : Calls} → CallAdded (t .calls) a D r calls′ → Grew t (tables calls′ (t .answers))
 grew-call t p = record {
   calls-more = omega (arith, p .count);
   answers-more = omega arith;
   action-same = λ {i} l. p .action-kept i l;
   state-same = λ {i} l. p .state-kept i l;
+  call-round = λ {i} l. p .round-kept i l;
   call-same = λ l. refl;
   final-same = λ l. refl;
   rule-same = λ l. refl;
   evidence-same = λ q l h. refl;
+  answer-round = λ l. refl;
 }
 
-pub grew-answer : (t : Tables) {row f rule : ℕ} {evidence : _} {answers′ : Answers} → AnswerAdded (t .answers) row f rule evidence answers′ → Grew t (tables (t .calls) answers′)
+pub grew-answer : (t : Tables) {row f rule : ℕ} {evidence : _} {r : ℕ} {answers′ : Answers} → AnswerAdded (t .answers) row f rule evidence r answers′ → Grew t (tables (t .calls) answers′)
 grew-answer t p = record {
   calls-more = omega arith;
   answers-more = omega (arith, p .count);
   action-same = λ l. refl;
   state-same = λ l. refl;
+  call-round = λ l. refl;
   call-same = λ {x} l. p .call-kept x l;
   final-same = λ {x} l. p .final-kept x l;
   rule-same = λ {x} l. p .rule-kept x l;
   evidence-same = λ {x} q l h. p .evidence-kept x q l h;
+  answer-round = λ {x} l. p .round-kept x l;
 }
 
 module _ {t u : Tables} (g : Grew t u) where

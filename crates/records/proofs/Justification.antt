@@ -16,7 +16,7 @@ use Rattle.steps.proofs.WordLaws.{Low, elementary-does, does-elementary, not-on
 use Rattle.steps.proofs.Deductions.{Does, asks, adds, drops, lacks}
 use Rattle.steps.proofs.Execution.{Ends}
 use Rattle.steps.proofs.Tables.{Walk, stands, walks, takes, justified-ends}
-use Rattle.records.specs.Records.{Bodies, follow, follows, justified}
+use Rattle.records.specs.Records.{Bodies, earlier, follow, follows, justified}
 use Rattle.records.proofs.Growth.{Tables, Grew, Inside}
 
 -- The bodies of an action: those of the rule numbers that go with it.
@@ -31,7 +31,7 @@ pub record Proper (bodies : Bodies) : Type 0 where
 module _ (t : Tables) (n : ℕ) where
   -- Step x of record n leads from s to s′ with evidence e.
   pub data Follow : Step → State → ℕ → State → Type 0 where
-    names : {a e : ℕ} {s : State} → e < n → t .calls .action (t .answers .call e) ≡ a → t .calls .state (t .answers .call e) ≡ s → Follow (call a) s e (t .answers .final e)
+    names : {a e : ℕ} {s : State} → e < n → t .answers .round e < t .answers .round n → t .calls .action (t .answers .call e) ≡ a → t .calls .state (t .answers .call e) ≡ s → Follow (call a) s e (t .answers .final e)
     steps : {x : Step} {s s′ : State} → Does x s s′ → Follow x s 0 s′
 
   -- Record n's evidence walks the steps from place q on, from s to its final state.
@@ -49,18 +49,19 @@ module _ (t : Tables) (n : ℕ) where
   follow-out (insert p) s e s′ h = elementary-follow (insert p) s e s′ (eqb e 0) refl h
   follow-out (delete p) s e s′ h = elementary-follow (delete p) s e s′ (eqb e 0) refl h
   follow-out (deny p) s e s′ h = elementary-follow (deny p) s e s′ (eqb e 0) refl h
-  follow-out (call a) s e s′ h = by (ltb e n && (eqb (t .calls .action (t .answers .call e)) a && eqb (t .calls .state (t .answers .call e)) s)) refl h
+  follow-out (call a) s e s′ h = by (earlier (t .calls) (t .answers) n e && (eqb (t .calls .action (t .answers .call e)) a && eqb (t .calls .state (t .answers .call e)) s)) refl h
     where
-      by : (b : Bool) → (ltb e n && (eqb (t .calls .action (t .answers .call e)) a && eqb (t .calls .state (t .answers .call e)) s)) ≡ b → cond b (on (t .answers .final e)) stuck ≡ on s′ → Follow (call a) s e s′
+      by : (b : Bool) → (earlier (t .calls) (t .answers) n e && (eqb (t .calls .action (t .answers .call e)) a && eqb (t .calls .state (t .answers .call e)) s)) ≡ b → cond b (on (t .answers .final e)) stuck ≡ on s′ → Follow (call a) s e s′
       by true z k =
-          let (l, r) = both (ltb e n) _ z in
+          let (l, r) = both (earlier (t .calls) (t .answers) n e) _ z in
+          let (p, q) = both (ltb e n) _ l in
           let (f, g) = both (eqb (t .calls .action (t .answers .call e)) a) _ r in
-          subst (Follow (call a) s e) (on-same k) (names (ltb-true e n l) (eqb-true _ a f) (eqb-true _ s g))
+          subst (Follow (call a) s e) (on-same k) (names (ltb-true e n p) (ltb-true _ _ q) (eqb-true _ a f) (eqb-true _ s g))
       by false z k = absurd (not-on k)
 
   follow-in : {x : Step} {s : State} {e : ℕ} {s′ : State} → Low x → Follow x s e s′ → follow (t .calls) (t .answers) n x s e ≡ on s′
   unfolding follow
-  follow-in l (names {a} {e} {s} h f g) = rw (lt-ltb e n h, eq-eqb _ a f, eq-eqb _ s g) refl
+  follow-in l (names {a} {e} {s} h k f g) = rw (lt-ltb e n h, lt-ltb _ _ k, eq-eqb _ a f, eq-eqb _ s g) refl
   follow-in l (steps {s = s} {s′} (asks {p} h)) = does-elementary (query p) s s′ l (asks h)
   follow-in l (steps {s = s} {s′} (adds {p})) = does-elementary (insert p) s s′ l adds
   follow-in l (steps {s = s} {s′} (drops {p})) = does-elementary (delete p) s s′ l drops
@@ -109,10 +110,11 @@ module _ {bodies : Bodies} {t : Tables} {n : ℕ} where
 -- ---- records of grown tables stay justified
 module _ {t u : Tables} (g : Grew t u) (inside : Inside t (t .answers .count)) {n : ℕ} (l : n < t .answers .count) where
   follow-up : {x : Step} {s s′ : State} {e : ℕ} → Follow t n x s e s′ → Follow u n x s e s′
-  follow-up {s′ = s′} (names {a} {e} {s} h f k) =
+  follow-up {s′ = s′} (names {a} {e} {s} h r f k) =
       let b : e < t .answers .count = omega arith in
+      let r′ : u .answers .round e < u .answers .round n = omega (arith, g .answer-round b, g .answer-round l) in
       let i : t .answers .call e < t .calls .count = inside e b in
-      subst (Follow u n (call a) s e) (g .final-same b) (names h (ap (u .calls .action) (g .call-same b) ∙ g .action-same i ∙ f) (ap (u .calls .state) (g .call-same b) ∙ g .state-same i ∙ k))
+      subst (Follow u n (call a) s e) (g .final-same b) (names h r′ (ap (u .calls .action) (g .call-same b) ∙ g .action-same i ∙ f) (ap (u .calls .state) (g .call-same b) ∙ g .state-same i ∙ k))
   follow-up (steps d) = steps d
 
   follows-up : {xs : Body} {q : ℕ} {s : State} → q + length xs ≤ 16 → Follows t n xs q s → Follows u n xs q s
@@ -141,7 +143,7 @@ module _ {bodies : Bodies} {t : Tables} (all : (n : ℕ) → n < t .answers .cou
   Below n b E E′ = (m : ℕ) × (m < n) × Row m b E E′
 
   follow-walk : {n e : ℕ} {x : Step} {rest : Body} {s s′ f : State} → n < t .answers .count → Follow t n x s e s′ → Walk Does (Below n) s′ rest f [] → Walk Does (Below n) s (x ∷ rest) f []
-  follow-walk l (names {e = e} h a k) w = takes (e, h, (omega arith, a, k, refl)) w
+  follow-walk l (names {e = e} h r a k) w = takes (e, h, (omega arith, a, k, refl)) w
   follow-walk l (steps d) w = walks d w
 
   follows-walk : {n : ℕ} {xs : Body} {q : ℕ} {s : State} → n < t .answers .count → Follows t n xs q s → Walk Does (Below n) s xs (t .answers .final n) []

@@ -12,29 +12,38 @@ use Rattle.steps.specs.Widths.{rule-width}
 use Rattle.steps.specs.Acceptance.{each-below}
 use Rattle.steps.specs.Elementary.{Onward, on, stuck, elementary}
 
--- A table of call records: how many there are, and of each its action and its state.
+-- A table of call records: how many there are, and of each its action, its state and the round it came in.
 abbrev pub Calls : Type 0
-Calls = record { count : ℕ; action : ℕ → ℕ; state : ℕ → State }
+Calls = record { count : ℕ; action : ℕ → ℕ; state : ℕ → State; round : ℕ → ℕ }
 
--- A table of answer records: how many there are, and of each its call record number, final state, rule number and evidence at each place.
+-- A table of answer records: how many there are, and of each its call record number, final state, rule number, evidence at each place, and the
+-- round it came in.
 abbrev pub Answers : Type 0
-Answers = record { count : ℕ; call : ℕ → ℕ; final : ℕ → State; rule : ℕ → ℕ; evidence : ℕ → ℕ → ℕ }
+Answers = record { count : ℕ; call : ℕ → ℕ; final : ℕ → State; rule : ℕ → ℕ; evidence : ℕ → ℕ → ℕ; round : ℕ → ℕ }
 
--- A call record has 2 words, an answer record 19.
+-- A call record has 3 words, an answer record 20.
 abbrev pub call-width : ℕ
-call-width = 2
+call-width = 3
 
 abbrev pub answer-width : ℕ
-answer-width = 19
+answer-width = 20
 
--- Call record: action, state. The first n records in the words of a table.
+-- Call record: action, state, round. The first n records in the words of a table.
 abbrev pub call-table : List ℕ → ℕ → Calls
-call-table words n = record { count = n; action = λ i. getD words (call-width * i) 0; state = λ i. getD words (call-width * i + 1) 0 }
+call-table words n = let w = call-width in let at : ℕ → ℕ = λ i. getD words i 0 in
+    record { count = n; action = λ i. at (w * i); state = λ i. at (w * i + 1); round = λ i. at (w * i + 2) }
 
--- Answer record: call record number; final state; rule number; then 16 evidence words. The first n records in the words of a table.
+-- Answer record: call record number; final state; rule number; then 16 evidence words; round. The first n records in the words of a table.
 abbrev pub answer-table : List ℕ → ℕ → Answers
 answer-table words n = let w = answer-width in let at : ℕ → ℕ = λ i. getD words i 0 in
-    record { count = n; call = λ x. at (w * x); final = λ x. at (w * x + 1); rule = λ x. at (w * x + 2); evidence = λ x q. at (w * x + 3 + q) }
+    record {
+      count = n;
+      call = λ x. at (w * x);
+      final = λ x. at (w * x + 1);
+      rule = λ x. at (w * x + 2);
+      evidence = λ x q. at (w * x + 3 + q);
+      round = λ x. at (w * x + 19);
+    }
 
 -- Room of a table: its length divided by the record's width, rounded down, at most 65,536.
 abbrev pub room : ℕ → ℕ → ℕ
@@ -54,12 +63,16 @@ bodies-of rules goal = let words : ℕ → List ℕ = λ i. cond (eqb i goal-rul
     record { fits = λ i a. cond (eqb i goal-rule) (eqb a Goal) (ltb i (length rules / rule-width) && eqb (head-of rules i) a); words = words }
 
 module _ (calls : Calls) (answers : Answers) (n : ℕ) where
-  -- Where step x of record n leads from state s with evidence e. A call takes the named answer: its number is smaller than n, and
+  -- The answer e comes before record n: its number is smaller, and so is its round.
+  abbrev pub earlier : ℕ → Bool
+  earlier e = ltb e n && ltb (answers .round e) (answers .round n)
+
+  -- Where step x of record n leads from state s with evidence e. A call takes the named answer: it comes before record n, and
   -- its call is this step's action at s (that its call record exists is asked of the named answer's own record). Any other step is done, and
   -- its evidence is 0.
   unfoldable pub follow : Step → State → ℕ → Onward
   follow (call a) s e =
-      cond (ltb e n && (eqb (calls .action (answers .call e)) a && eqb (calls .state (answers .call e)) s)) (on (answers .final e)) stuck
+      cond (earlier e && (eqb (calls .action (answers .call e)) a && eqb (calls .state (answers .call e)) s)) (on (answers .final e)) stuck
   follow (query p) s e = cond (eqb e 0) (elementary (query p) s) stuck
   follow (insert p) s e = cond (eqb e 0) (elementary (insert p) s) stuck
   follow (delete p) s e = cond (eqb e 0) (elementary (delete p) s) stuck

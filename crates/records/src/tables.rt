@@ -5,14 +5,20 @@ use steps::state::State;
 ghost use mathlib.Core.Path.{_≡_};
 ghost use Prim.Native.Nat.{_+_, _*_, _<_, _≤_};
 ghost use lib.ListN.{length, getD, replicate};
-ghost use Rattle.records.specs.Records.{room, call-table, call-width, answer-width};
-ghost use Rattle.records.specs.Storage.{FindCall, PutCall, PutAnswer};
+ghost use Rattle.records.specs.Records.{room, call-table, call-width};
+ghost use Rattle.records.specs.Storage.{round-in, FindCall, PutCall, PutAnswer};
 
-// Call record: action, state.
-pub const CALL_WORDS: usize = 2;
+// Call record: action, state, round.
+pub const CALL_WORDS: usize = 3;
 
-// Answer record: call record number, final state, rule number, 16 evidence words.
-pub const ANSWER_WORDS: usize = 19;
+// The words of a call record before its round.
+pub const CALL_OTHERS: usize = 2;
+
+// Answer record: call record number, final state, rule number, 16 evidence words, round.
+pub const ANSWER_WORDS: usize = 20;
+
+// The words of an answer record before its round.
+pub const ANSWER_OTHERS: usize = 19;
 
 // How many records of this width a table of this length holds, at most 65,536.
 pub fn room_of(len: usize, width: usize) -> usize
@@ -37,52 +43,63 @@ pub fn clear(words: &mut [u64])
     }
 }
 
-// The action of call record i.
-pub fn action_of(calls: &[u64], i: usize) -> u64
-    requires { ⌜ call-width * i + call-width ≤ length (now calls) ⌝ }
-    ensures { λ r. ⌜ r ≡ getD (now (calls .entry)) (call-width * i) 0 ⌝ }
+// The action of call record i, of `width` words.
+pub fn action_of(calls: &[u64], width: usize, i: usize) -> u64
+    requires { ⌜ width * i + 2 ≤ length (now calls) ⌝ }
+    ensures { λ r. ⌜ r ≡ getD (now (calls .entry)) (width * i) 0 ⌝ }
 {
-    calls[CALL_WORDS * i]
+    calls[width * i]
 }
 
 // The state of call record i.
-pub fn state_of(calls: &[u64], i: usize) -> State
-    requires { ⌜ call-width * i + call-width ≤ length (now calls) ⌝ }
-    ensures { λ r. ⌜ r .0 ≡ getD (now (calls .entry)) (call-width * i + 1) 0 ⌝ }
+pub fn state_of(calls: &[u64], width: usize, i: usize) -> State
+    requires { ⌜ width * i + 2 ≤ length (now calls) ⌝ }
+    ensures { λ r. ⌜ r .0 ≡ getD (now (calls .entry)) (width * i + 1) 0 ⌝ }
 {
-    State::of(calls[CALL_WORDS * i + 1])
+    State::of(calls[width * i + 1])
 }
 
-// The number of the call record that answer record x is of.
-pub fn call_of(answers: &[u64], x: usize) -> u64
-    requires { ⌜ answer-width * x + answer-width ≤ length (now answers) ⌝ }
-    ensures { λ r. ⌜ r ≡ getD (now (answers .entry)) (answer-width * x) 0 ⌝ }
+// The round of record i, which stands in the word after its `others`; where it has no such word, its number.
+pub fn round_of(words: &[u64], others: usize, width: usize, i: usize) -> u64
+    requires { ⌜ width * i + width ≤ length (now words) ⌝ }
+    ensures { λ r. ⌜ r ≡ round-in others width (now (words .entry)) i ⌝ }
 {
-    answers[ANSWER_WORDS * x]
+    if others < width {
+        return words[width * i + others];
+    }
+    i as u64
+}
+
+// The number of the call record that answer record x, of `width` words, is of.
+pub fn call_of(answers: &[u64], width: usize, x: usize) -> u64
+    requires { ⌜ width * x + 19 ≤ length (now answers) ⌝ }
+    ensures { λ r. ⌜ r ≡ getD (now (answers .entry)) (width * x) 0 ⌝ }
+{
+    answers[width * x]
 }
 
 // The final state of answer record x.
-pub fn final_of(answers: &[u64], x: usize) -> State
-    requires { ⌜ answer-width * x + answer-width ≤ length (now answers) ⌝ }
-    ensures { λ r. ⌜ r .0 ≡ getD (now (answers .entry)) (answer-width * x + 1) 0 ⌝ }
+pub fn final_of(answers: &[u64], width: usize, x: usize) -> State
+    requires { ⌜ width * x + 19 ≤ length (now answers) ⌝ }
+    ensures { λ r. ⌜ r .0 ≡ getD (now (answers .entry)) (width * x + 1) 0 ⌝ }
 {
-    State::of(answers[ANSWER_WORDS * x + 1])
+    State::of(answers[width * x + 1])
 }
 
 // The rule number of answer record x.
-pub fn rule_of(answers: &[u64], x: usize) -> u64
-    requires { ⌜ answer-width * x + answer-width ≤ length (now answers) ⌝ }
-    ensures { λ r. ⌜ r ≡ getD (now (answers .entry)) (answer-width * x + 2) 0 ⌝ }
+pub fn rule_of(answers: &[u64], width: usize, x: usize) -> u64
+    requires { ⌜ width * x + 19 ≤ length (now answers) ⌝ }
+    ensures { λ r. ⌜ r ≡ getD (now (answers .entry)) (width * x + 2) 0 ⌝ }
 {
-    answers[ANSWER_WORDS * x + 2]
+    answers[width * x + 2]
 }
 
 // The evidence of answer record x at place q.
-pub fn evidence_of(answers: &[u64], x: usize, q: usize) -> u64
-    requires { ⌜ (answer-width * x + answer-width ≤ length (now answers)) × (q < 16) ⌝ }
-    ensures { λ r. ⌜ r ≡ getD (now (answers .entry)) (answer-width * x + 3 + q) 0 ⌝ }
+pub fn evidence_of(answers: &[u64], width: usize, x: usize, q: usize) -> u64
+    requires { ⌜ (width * x + 19 ≤ length (now answers)) × (q < 16) ⌝ }
+    ensures { λ r. ⌜ r ≡ getD (now (answers .entry)) (width * x + 3 + q) 0 ⌝ }
 {
-    answers[ANSWER_WORDS * x + 3 + q]
+    answers[width * x + 3 + q]
 }
 
 // The record of the call among the first n, or n.
@@ -104,34 +121,44 @@ pub fn find_call(calls: &[u64], n: usize, call: Call) -> usize
     n
 }
 
-// Writes call record n.
-pub fn put_call(calls: &mut [u64], n: usize, call: Call)
-    requires { ⌜ (call-width * n + call-width ≤ length (now calls)) × (n ≤ 65536) ⌝ }
-    ensures { λ _. ⌜ PutCall (now (calls .entry)) n (call .action) (call .state .0) (now (calls .exit)) ⌝ }
+// Writes call record n, of 2 words or of 3 with its round.
+pub fn put_call(calls: &mut [u64], width: usize, n: usize, call: Call, round: u64)
+    requires { ⌜ (2 ≤ width) × (width ≤ 3) × (width * n + width ≤ length (now calls)) ⌝ }
+    ensures { λ _. ⌜ PutCall width (now (calls .entry)) n (call .action) (call .state .0) round (now (calls .exit)) ⌝ }
 {
-    calls[CALL_WORDS * n] = call.action;
-    calls[CALL_WORDS * n + 1] = call.state.0;
+    let at = width * n;
+    calls[at] = call.action;
+    calls[at + 1] = call.state.0;
+    if CALL_OTHERS < width {
+        calls[at + CALL_OTHERS] = round;
+    }
 }
 
-// Writes answer record m.
+// Writes answer record m, of 19 words or of 20 with its round.
 pub fn put_answer(
     answers: &mut [u64],
+    width: usize,
     m: usize,
     row: usize,
     last: State,
     rule: u64,
     evidence: &[u64; 16],
+    round: u64,
 )
-    requires { ⌜ (answer-width * m + answer-width ≤ length (now answers)) × (m ≤ 65536) ⌝ }
-    ensures { λ _. ⌜ PutAnswer (now (answers .entry)) m row (last .0) rule (now (evidence .entry)) (now (answers .exit)) ⌝ }
+    requires { ⌜ (19 ≤ width) × (width ≤ 20) × (width * m + width ≤ length (now answers)) ⌝ }
+    ensures { λ _. ⌜ PutAnswer width (now (answers .entry)) m row (last .0) rule (now (evidence .entry)) round (now (answers .exit)) ⌝ }
 {
-    answers[ANSWER_WORDS * m] = row as u64;
-    answers[ANSWER_WORDS * m + 1] = last.0;
-    answers[ANSWER_WORDS * m + 2] = rule;
+    let at = width * m;
+    answers[at] = row as u64;
+    answers[at + 1] = last.0;
+    answers[at + 2] = rule;
     let mut q = 0;
     while q < 16 {
-        answers[ANSWER_WORDS * m + 3 + q] = evidence[q];
+        answers[at + 3 + q] = evidence[q];
         q += 1;
+    }
+    if ANSWER_OTHERS < width {
+        answers[at + ANSWER_OTHERS] = round;
     }
 }
 

@@ -10,7 +10,7 @@ use Rattle.rehearsal.specs.declared.Rehearsal.{Rehearsal}
 
 -- A refusal of the reader: its number and line, counts of 0.
 abbrev pub refusal : ℕ → ℕ → Rehearsal
-refusal number line = record { refusal = number; line = line; ends = 0; calls = 0; answers = 0 }
+refusal number line = record { refusal = number; line = line; ends = 0; calls = 0; answers = 0; rounds = 0 }
 
 -- What a book asks of the evaluator.
 abbrev pub asked-by : Book → Asked
@@ -21,6 +21,6 @@ pub data Rehearsed (sheet before after : List ℕ) (r : Rehearsal) : Type 0 wher
   not-read : (number line : ℕ) → read-sheet sheet ≡ refused number line → r ≡ refusal number line → after ≡ before → Rehearsed sheet before after r
   -- The book's goal evaluated in rooms of 512 calls and 256 answers, both tables 0 at first; no line.
   evaluated : (b : Book) (calls answers : List ℕ) → read-sheet sheet ≡ written b → r .line ≡ 0
-      → Evaluated (asked-by b) (lent (replicate 1024 0) (replicate 4864 0) before) (lent calls answers after)
-      (told (r .refusal) (r .ends) (r .calls) (r .answers))
+      → Evaluated (asked-by b) (lent (replicate 1536 0) (replicate 5120 0) before) (lent calls answers after)
+      (told (r .refusal) (r .ends) (r .calls) (r .answers) (r .rounds))
       → Rehearsed sheet before after r

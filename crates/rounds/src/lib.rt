@@ -14,31 +14,33 @@ use walk::Leave;
 use walk::Spot;
 ghost use mathlib.Core.Path.{_≡_};
 ghost use mathlib.Core.List.{List};
-ghost use Prim.Native.Nat.{ℕ, _≤_};
+ghost use Prim.Native.Nat.{ℕ, _<_, _≤_};
 ghost use lib.ListN.{length};
 ghost use Rattle.steps.proofs.AcceptanceLaws.{AcceptedWords};
-ghost use Rattle.records.specs.Records.{bodies-of};
+ghost use Rattle.records.specs.Records.{bodies-of, answer-table};
 ghost use Rattle.tabling.proofs.Evidence.{Among, Valid};
 ghost use Rattle.notes.specs.Marks.{Stamped};
 ghost use Rattle.notes.specs.Uses.{heat};
 ghost use Rattle.loops.proofs.Going.{Kept, Indexed, in-words};
 ghost use Rattle.loops.proofs.Filling.{Standing, Went, Filled};
 
-// How many records the tables hold, or that a table is full.
+// How many records the tables hold and how many rounds added some, or that a table is full.
 pub struct Counted {
     pub full: bool,
     pub calls: usize,
     pub answers: usize,
+    pub rounds: u64,
 }
 
-// How far the rounds have come: how many records the tables hold, up to which call record and with which answers records were walked, and the
-// number of the last walk.
+// How far the rounds have come: how many records the tables hold, up to which call record and with which answers records were walked, the
+// number of the last walk, and that of the round which is now.
 pub struct Stage {
     pub calls: usize,
     pub answers: usize,
     pub walked: usize,
     pub seen: usize,
     pub walk: u64,
+    pub round: u64,
 }
 
 // What a round leaves: how many records there are then, or that a table is full, and the number of its last walk.
@@ -63,18 +65,19 @@ fn round<'a>(
     marks: &mut [u32],
     uses: &mut [u16],
 ) -> Rounded
-    requires { ⌜ Standing (now rules) (now goal) first (stage .walked) (stage .seen) (now calls) (stage .calls) (now «call_index»)
+    requires { ⌜ Standing (now rules) (now goal) (stage .round) first (stage .walked) (stage .seen) (now calls) (stage .calls) (now «call_index»)
         (now answers) (stage .answers) (now «answer_index») (now marks) (stage .walk) (now uses) ⌝ }
-    ensures { λ r. ⌜ Went (now (rules .entry)) (now (goal .entry)) first (stage .walked) (stage .seen) (now (calls .entry)) (stage .calls)
-        (now (answers .entry)) (stage .answers) (now (uses .entry)) (r .full) (now (calls .exit)) (r .calls) (now («call_index» .exit))
-        (now (answers .exit)) (r .answers)
-        (now («answer_index» .exit)) (now (marks .exit)) (r .walk) (now (uses .exit)) ⌝ }
+    ensures { λ r. ⌜ Went (now (rules .entry)) (now (goal .entry)) (stage .round) first (stage .walked) (stage .seen) (now (calls .entry))
+        (stage .calls) (now (answers .entry)) (stage .answers) (now (uses .entry)) (r .full) (now (calls .exit)) (r .calls)
+        (now («call_index» .exit)) (now (answers .exit)) (r .answers) (now («answer_index» .exit)) (now (marks .exit)) (r .walk)
+        (now (uses .exit)) ⌝ }
 {
     let count = rules.len() / steps::word::RULE_WORDS;
     let rows = stage.calls;
     let known = stage.answers;
     let walked = stage.walked;
     let seen = stage.seen;
+    let round = stage.round;
     let span = uses::span_of(uses, answers, seen, known, walked, rows);
     let low = span.low;
     let high = span.high;
@@ -91,7 +94,11 @@ fn round<'a>(
                 }
             }
             for rule in 0..count + 1 {
-                if !bodies::is_at(rules, rule, tables::action_of(calls, row)) {
+                if !bodies::is_at(
+                    rules,
+                    rule,
+                    tables::action_of(calls, tables::CALL_WORDS, row),
+                ) {
                     continue;
                 }
                 let number = bodies::number_of(rule, count);
@@ -105,12 +112,13 @@ fn round<'a>(
                     old: span.old,
                     seen: seen,
                     warm: span.warm,
+                    round: round,
                 };
                 let body = bodies::steps_of(rules, goal, number);
                 let mut chosen = [0u64; 16];
                 let mut rest = body;
                 let mut spot = Spot {
-                    state: tables::state_of(calls, row),
+                    state: tables::state_of(calls, tables::CALL_WORDS, row),
                     last: 0,
                 };
                 loop {
@@ -167,7 +175,8 @@ fn round<'a>(
 }
 
 // Rounds over the call records from `first` on until one adds nothing, under the rules and the goal, or until a table is full. The tables hold
-// n0 call records and m0 answers at first; what they can hold is fixed by the lengths of the lent words.
+// n0 call records and m0 answers at first, which have come in no round; what they can hold is fixed by the lengths of the lent words. The rounds
+// are counted from 1, and each record gets the number of the round that adds it.
 pub fn fill<'a>(
     rules: &'a [u16],
     goal: &'a [u16],
@@ -182,19 +191,21 @@ pub fn fill<'a>(
     uses: &mut [u16],
 ) -> Counted
     requires { ⌜ Kept (now calls) n0 (now answers) m0 × Indexed (now calls) n0 (now «call_index») (now answers) m0 (now «answer_index»)
-        × Stamped (now marks) 0 × (first ≤ n0) × (length (now uses) ≡ 327680) × ((k : ℕ) → heat (now uses) k ≡ 0) ⌝ }
+        × Stamped (now marks) 0 × (first ≤ n0) × (length (now uses) ≡ 327680) × ((k : ℕ) → heat (now uses) k ≡ 0)
+        × ((x : ℕ) → x < m0 → answer-table (now answers) m0 .round x ≡ 0) ⌝ }
     requires { ⌜ ((fluents : ℕ) × (actions : ℕ) × AcceptedWords fluents actions (now rules) (now goal)) ⌝ }
     requires { ⌜ ((roots : List (ℕ × ℕ)) × Valid (bodies-of (now rules) (now goal)) (Among roots) (in-words (now calls) n0 (now answers) m0)) ⌝ }
     ensures { λ r. ⌜ ((roots : List (ℕ × ℕ)) → Valid (bodies-of (now (rules .entry)) (now (goal .entry))) (Among roots)
         (in-words (now (calls .entry)) n0 (now (answers .entry)) m0)
-        → Filled (now (rules .entry)) (now (goal .entry)) roots first (now (calls .entry)) (now (answers .entry)) (now (calls .exit))
-        (now (answers .exit)) (r .full) (r .calls) (r .answers)) ⌝ }
+        → Filled (now (rules .entry)) (now (goal .entry)) roots first (in-words (now (calls .entry)) n0 (now (answers .entry)) m0)
+        (now (calls .entry)) (now (answers .entry)) (now (calls .exit)) (now (answers .exit)) (r .full) (r .calls) (r .answers) (r .rounds)) ⌝ }
 {
     let mut n = n0;
     let mut m = m0;
     let mut walked = first;
     let mut seen = 0;
     let mut walk: u64 = 0;
+    let mut rounds: u64 = 0;
     loop {
         let stage = Stage {
             calls: n,
@@ -202,6 +213,7 @@ pub fn fill<'a>(
             walked: walked,
             seen: seen,
             walk: walk,
+            round: rounds + 1,
         };
         let done = round(
             rules,
@@ -222,6 +234,7 @@ pub fn fill<'a>(
                 full: true,
                 calls: rows,
                 answers: known,
+                rounds: rounds,
             };
         }
         if rows + known == n + m {
@@ -229,6 +242,7 @@ pub fn fill<'a>(
                 full: false,
                 calls: rows,
                 answers: known,
+                rounds: rounds,
             };
         }
         walked = n;
@@ -236,5 +250,6 @@ pub fn fill<'a>(
         n = rows;
         m = known;
         walk = done.walk;
+        rounds += 1;
     }
 }

@@ -14,9 +14,10 @@ use Rattle.steps.specs.Elementary.{elementary}
 use Rattle.steps.specs.Counting.{rows}
 use Rattle.records.specs.Records.{follow, follows, justified}
 use Rattle.checks.specs.Checks.{over-room, good-call, good-calls, all-justified, bad-records}
+use Rattle.checks.proofs.RecordLaws.{rounds-right}
 use Rattle.unfolding.specs.Path.{shown, adds, walked, below, path-of}
 use Rattle.unfolding.specs.States.{states}
-use Rattle.path.specs.Answered.{Handed, fault, call-records, answer-records, states-of, too-short, path-refusal, state-count, list-after}
+use Rattle.path.specs.Answered.{Handed, fault, call-records, answer-records, bodies as bodies-handed, states-of, too-short, path-refusal, state-count, list-after}
 use Rattle.path.proofs.OutcomeLaws.{sane, path-executed}
 use Rattle.path.proofs.FinishedLaws.{finished-sound}
 use Rattle.starred.specs.Drills.{DrillPath, Drill, run, handed-of, GoalAnswer, Shows, word, _⟵_, drill, path, drills, denials}
@@ -96,7 +97,14 @@ module _ (d : Drill) (p : DrillPath) where
         let g : T (call-row asked-call (Goal, d .start)) = search (both-l, both-r) depth 8 in
         let e = call-same asked-call (Goal, d .start) g in
         let s = sane own (p .asked) own-sound in
-        record { finished = finished d p f; fits = s .in-room; below = s .in-table; action = λ i. e i .0; state = λ i. e i .1 }
+        record {
+          finished = finished d p f;
+          fits = s .in-room;
+          rounds = rounds-right (d .fluents) (d .actions) (bodies-handed own) (call-records own) (answer-records own) (s .right);
+          below = s .in-table;
+          action = λ i. e i .0;
+          state = λ i. e i .1;
+        }
 
     -- any other tables of the run
     module _ (ok : accepting.refusal-of (d .fluents) (d .actions) (d .rules) (d .goal) (d .start) ≡ 0) {calls answers : List ℕ} {x : ℕ} (h : GoalAnswer d calls answers x) where
@@ -104,7 +112,7 @@ module _ (d : Drill) (p : DrillPath) where
       other = handed-of d calls answers
 
       sound : fault other x ≡ 0
-      sound = finished-sound other (d .start) ok (h .finished) (h .fits) x (h .below)
+      sound = finished-sound other (d .start) ok (h .finished) (h .rounds) (h .fits) x (h .below)
 
       -- its path is the states of a deduction of the goal from the start, and there are no others
       states-are : states-of other x ≡ states-of own (p .asked)

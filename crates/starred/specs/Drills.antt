@@ -1,6 +1,6 @@
 -- The starred drills D1 to D10 of document 01, ten rows of one table, rows for request R-2 beside them, and what a row says of its run and its
 -- paths. Assumes nothing.
-use Prim.Native.Nat.{ℕ, _+_, _-_, _<_}
+use Prim.Native.Nat.{ℕ, _+_, _-_, _<_, _≤_}
 use mathlib.Core.Path.{_≡_}
 use mathlib.Core.Bool.{false}
 use mathlib.Core.List.{List, [], _∷_, _++_, map, List·Memᴰ}
@@ -12,7 +12,7 @@ use Rattle.steps.specs.Counting.{Exactly, Rising}
 use Rattle.steps.specs.Words.{run-of}
 use Rattle.steps.specs.Acceptance.{refusal-of}
 use Rattle.records.specs.Finished.{Finished}
-use Rattle.checks.specs.Checks.{over-room}
+use Rattle.checks.specs.Checks.{last-round, over-room}
 use Rattle.path.specs.Answered.{Handed, call-records, answer-records, fault, path-refusal, state-count, list-after}
 
 -- A path of a row: words of both tables, the answer record asked for and the list lent; then the refusal, the count of states and the list
@@ -55,10 +55,12 @@ handed-of d calls answers = record {
   answer-count = d .answers;
 }
 
--- Tables of a finished run of the row, their counts not over their rooms, and the number in them of an answer of the goal at the start.
+-- Tables of a finished run of the row, their counts not over their rooms and their calls' rounds not over the last that there can be, and the
+-- number in them of an answer of the goal at the start.
 pub record GoalAnswer (d : Drill) (calls answers : List ℕ) (x : ℕ) : Type 0 where
   pub finished : Finished (d .rules) (d .goal) (d .start) calls answers (d .calls) (d .answers)
   pub fits : over-room calls (d .calls) answers (d .answers) ≡ false
+  pub rounds : (i : ℕ) → i < d .calls → call-records (handed-of d calls answers) .round i ≤ last-round
   pub below : x < d .answers
   pub action : call-records (handed-of d calls answers) .action (answer-records (handed-of d calls answers) .call x) ≡ Goal
   pub state : call-records (handed-of d calls answers) .state (answer-records (handed-of d calls answers) .call x) ≡ d .start
@@ -105,22 +107,22 @@ drill f a r s g e c m p = record { fluents = f; actions = a; rules = r; start = 
 
 -- ---- records in their words
 
--- a call record, and an answer record with its first evidence words
-abbrev called : ℕ → State → List ℕ
-called action state = action ∷ state ∷ []
+-- a call record, and an answer record with its first evidence words; each with its round last
+abbrev pub called : ℕ → State → ℕ → List ℕ
+called action state round = action ∷ state ∷ round ∷ []
 
-abbrev answered : ℕ → State → ℕ → List ℕ → List ℕ
-answered row final rule evidence = row ∷ final ∷ rule ∷ evidence ++ replicate (16 - length evidence) 0
+abbrev pub answered : ℕ → State → ℕ → List ℕ → ℕ → List ℕ
+answered row final rule evidence round = row ∷ final ∷ rule ∷ evidence ++ replicate (16 - length evidence) 0 ++ round ∷ []
 
 unfoldable pub path : List ℕ → List ℕ → ℕ → List ℕ → ℕ → ℕ → List ℕ → DrillPath
 path c m x l r n a = record { calls = c; answers = m; asked = x; list = l; refusal = r; count = n; after = a }
 
 -- the tables of D9: the calls are the goal, q and p, the answers those of p, q and the goal
 abbrev calls-9 : List ℕ
-calls-9 = called 64 0 ++ called 1 0 ++ called 0 0
+calls-9 = called 64 0 0 ++ called 1 0 1 ++ called 0 0 2
 
 abbrev answers-9 : List ℕ
-answers-9 = answered 2 0 0 [] ++ answered 1 0 1 (0 ∷ 0 ∷ []) ++ answered 0 0 256 (1 ∷ [])
+answers-9 = answered 2 0 0 [] 3 ++ answered 1 0 1 (0 ∷ 0 ∷ []) 4 ++ answered 0 0 256 (1 ∷ []) 5
 
 -- Counts of fluents and actions, rules, start and goal; then ends, calls, answers and paths. Fluents a and b are 0 and 1; actions are numbered
 -- from 0. Each list is lent with words of 9.
@@ -129,7 +131,7 @@ unfolding _⟵_ drill path
 drills =
     -- D1: purge is 0, light is 1; open is 0, lit is 1; the calls are the goal, light and purge, the answers those of purge, light and the goal
     drill 2 2 ((0 ⟵ insert 0 ∷ []) ++ (1 ⟵ call 0 ∷ query 0 ∷ insert 1 ∷ delete 0 ∷ [])) 0 (call 1 ∷ []) (2 ∷ []) 3 3
-    (path (called 64 0 ++ called 1 0 ++ called 0 0) (answered 2 1 0 [] ++ answered 1 2 1 (0 ∷ []) ++ answered 0 2 256 (1 ∷ []))
+    (path (called 64 0 0 ++ called 1 0 1 ++ called 0 0 2) (answered 2 1 0 [] 3 ++ answered 1 2 1 (0 ∷ []) 4 ++ answered 0 2 256 (1 ∷ []) 5)
     2 (replicate 5 9) 0 4 (0 ∷ 1 ∷ 3 ∷ 2 ∷ 9 ∷ []) ∷ [])
     -- D2: a rule that calls itself first
     ∷ drill 2 1 ((0 ⟵ call 0 ∷ query 0 ∷ insert 1 ∷ []) ++ (0 ⟵ insert 0 ∷ [])) 0 (call 0 ∷ []) (1 ∷ 3 ∷ []) 2 4 []
@@ -139,8 +141,8 @@ drills =
     ∷ drill 2 0 [] 2 [] (2 ∷ []) 1 1 []
     -- D5: an insert of what holds, start 1; its path has two states, and room 1 is 43
     ∷ drill 2 0 [] 1 (insert 0 ∷ []) (1 ∷ []) 1 1
-    (path (called 64 1) (answered 0 1 256 []) 0 (replicate 2 9) 0 2 (1 ∷ 1 ∷ [])
-    ∷ path (called 64 1) (answered 0 1 256 []) 0 (replicate 1 9) 43 0 (replicate 1 9)
+    (path (called 64 1 0) (answered 0 1 256 [] 1) 0 (replicate 2 9) 0 2 (1 ∷ 1 ∷ [])
+    ∷ path (called 64 1 0) (answered 0 1 256 [] 1) 0 (replicate 1 9) 43 0 (replicate 1 9)
     ∷ [])
     -- D6: a delete of what does not hold
     ∷ drill 2 0 [] 0 (delete 0 ∷ []) (0 ∷ []) 1 1 []
@@ -166,7 +168,7 @@ denials =
     ∷ drill 2 1 ((0 ⟵ call 0 ∷ deny 0 ∷ insert 0 ∷ []) ++ (0 ⟵ insert 1 ∷ [])) 0 (call 0 ∷ []) (2 ∷ 3 ∷ []) 2 4 []
     -- D16: it adds no state to a path
     ∷ drill 2 1 (0 ⟵ deny 0 ∷ insert 0 ∷ deny 1 ∷ []) 0 (call 0 ∷ []) (1 ∷ []) 2 2
-    (path (called 64 0 ++ called 0 0) (answered 1 1 0 [] ++ answered 0 1 256 (0 ∷ [])) 1 (replicate 3 9) 0 2 (0 ∷ 1 ∷ 9 ∷ []) ∷ [])
+    (path (called 64 0 0 ++ called 0 0 1) (answered 1 1 0 [] 2 ++ answered 0 1 256 (0 ∷ []) 3) 1 (replicate 3 9) 0 2 (0 ∷ 1 ∷ 9 ∷ []) ∷ [])
     ∷ []
 
 -- The statement: ten rows, and each holds.

@@ -30,8 +30,8 @@ module _ {bodies : Bodies} {Root : ℕ → State → Type 0} {t : Tables} (v : V
 
   -- ---- one more
   module _ (proper : Proper bodies) where
-    pub valid-call : {a : ℕ} {D : State} {calls′ : Calls} → CallAdded (t .calls) a D calls′ → NoCall (t .calls) a D → Reached Does (Has bodies) Root a D → Valid bodies Root (tables calls′ (t .answers))
-    valid-call {a} {D} {calls′} p none r =
+    pub valid-call : {a r : ℕ} {D : State} {calls′ : Calls} → CallAdded (t .calls) a D r calls′ → NoCall (t .calls) a D → Reached Does (Has bodies) Root a D → Valid bodies Root (tables calls′ (t .answers))
+    valid-call {a} {D = D} {calls′} p none r =
         let g : Grew t (tables calls′ (t .answers)) = grew-call t p in
         let new = p .new in
         record {
@@ -46,7 +46,7 @@ module _ {bodies : Bodies} {Root : ℕ → State → Type 0} {t : Tables} (v : V
           justified = λ x h. justified-up g (inside-of v) h proper (v .justified x h);
         }
 
-    pub valid-answer : {row rule : ℕ} {f : State} {evidence : List ℕ} {answers′ : Answers} → AnswerAdded (t .answers) row f rule evidence answers′ → NoAnswer (t .answers) row f
+    pub valid-answer : {row rule r : ℕ} {f : State} {evidence : List ℕ} {answers′ : Answers} → AnswerAdded (t .answers) row f rule evidence r answers′ → NoAnswer (t .answers) row f
         → Justified bodies (tables (t .calls) answers′) (t .answers .count) → Valid bodies Root (tables (t .calls) answers′)
     valid-answer {answers′ = answers′} p none j =
         let g : Grew t (tables (t .calls) answers′) = grew-answer t p in

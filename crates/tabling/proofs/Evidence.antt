@@ -95,13 +95,14 @@ module _ (b : Tables) (known : ℕ) where
           (body-of body, o, walk-runs Does (Has bodies) Root serves-ends w)
 
   -- a way to the end is evidence, in any tables that have grown from b
-  module _ {u : Tables} (g : Grew b u) (inside : Inside b (b .answers .count)) (enough : known ≤ b .answers .count) (n : ℕ) (after : known ≤ n) where
+  module _ {u : Tables} (g : Grew b u) (inside : Inside b (b .answers .count)) (enough : known ≤ b .answers .count) (n : ℕ) (after : known ≤ n)
+      (sooner : (e : ℕ) → e < known → u .answers .round e < u .answers .round n) where
     took-follow : {x : Step} {s t : State} {e : ℕ} → Took x s e t → Follow u n x s e t
     took-follow {x} {s} {t} {e} (inl (a, z, o, f)) =
         let i : e < b .answers .count = omega (arith, o .below) in
         let j : b .answers .call e < b .calls .count = inside e i in
         let w : Follow u n (call a) s e t = subst (Follow u n (call a) s e) (g .final-same i ∙ f)
-        (names (omega (arith, o .below)) (ap (u .calls .action) (g .call-same i) ∙ g .action-same j ∙ o .action) (ap (u .calls .state) (g .call-same i) ∙ g .state-same j ∙ o .state)) in
+        (names (omega (arith, o .below)) (sooner e (o .below)) (ap (u .calls .action) (g .call-same i) ∙ g .action-same j ∙ o .action) (ap (u .calls .state) (g .call-same i) ∙ g .state-same j ∙ o .state)) in
         rw z w
     took-follow (inr (z, d)) = rw z (steps d)
 

@@ -6,4 +6,5 @@ pub mod Moves
 pub mod Evidence
 pub mod Adding
 pub mod Closed
+pub mod Found
 pub mod RunTables

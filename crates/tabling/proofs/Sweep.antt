@@ -20,6 +20,10 @@ first-or {q} {p} h = elim (decLt q p) [ yes l ↦ inl l | no m ↦ inr (omega ar
 pub from-here : (P : ℕ → Type 0) {at p : ℕ} → ((q : ℕ) → p < q → q < at → P q) → P p → (q : ℕ) → p ≤ q → q < at → P q
 from-here P k s q a b = ⊎-elim (λ l. k q l b) (λ z. subst P z s) (first-or a)
 
+-- ev is less than ev′ at the first of n places where they differ
+abbrev pub Less : (ℕ → ℕ) → (ℕ → ℕ) → ℕ → Type 0
+Less ev ev′ n = (q : ℕ) × (q < n) × (ev q < ev′ q) × ((p : ℕ) → p < q → ev p ≡ ev′ p)
+
 -- the states of f up to place k, and those of g after it
 module _ {St : Type 0} (f g : ℕ → St) (k : ℕ) where
   choose : (q : ℕ) → Dec (k < q) → St
@@ -189,9 +193,34 @@ module _ {St : Type 0} (Edge : ℕ → St → ℕ → St → Type 0) where
     pub passed : {Good : ℕ → St → Type 0} {q x : ℕ} {s t : St} → Link Good q s x t → Swept Good (suc q) t → Upto Good q s (suc x)
     passed {Good} {q} {x} {s} {t} l k = upto-suc Good (l .upto) (λ t′ e. subst (Swept Good (suc q)) (leads q s x t t′ (l .edge) e) k)
 
+    -- ---- the labels in order: of all ways to a state that is not good yet, the search comes along the least
+    module _ {Good : ℕ → St → Type 0} {D s s′ : St} {mark : ℕ → St → Type 0} {ev ev′ : ℕ → ℕ} {top n : ℕ}
+        (S : Search Good D mark ev top n s) (W : Way ev′ D n s′) where
+      abbrev Same : ℕ → Type 0
+      Same k = ((q : ℕ) → q < k → ev q ≡ ev′ q) × (S .st k ≡ W .st k)
+
+      abbrev Order : ℕ → Type 0
+      Order k = (Same k ⊎ Less ev ev′ k) ⊎ Swept Good k (W .st k)
+
+      order-same : (k : ℕ) → k < n → Same k → Dec (ev′ k < ev k) → Dec (ev k < ev′ k) → Order (suc k)
+      order-same k h (same, e) (yes l) d = inr (S .links k h .upto (ev′ k) (W .st (suc k)) l (rw e (W .edges k h)))
+      order-same k h (same, e) (no m) (yes l) = inl (inr (k, omega arith, l, same))
+      order-same k h (same, e) (no m) (no m′) =
+          let f : ev k ≡ ev′ k = omega arith in
+          inl (inl (λ q l. ⊎-elim (same q) (λ z. rw z f) (last-or l), leads k (S .st k) (ev k) _ _ (S .links k h .edge) (rw (e, f) (W .edges k h))))
+
+      order : (k : ℕ) → k ≤ n → Order k
+      order zero h = inl (inl (λ q l. absurd (omega arith), S .from ∙ sym (W .from)))
+      order (suc k) h =
+          ⊎-elim (⊎-elim (λ same. order-same k h same (decLt (ev′ k) (ev k)) (decLt (ev k) (ev′ k))) (λ (q, l, a, b). inl (inr (q, omega arith, a, b))))
+          (λ w. inr (λ p t r. w p t (more (W .edges k h) r))) (order k (omega arith))
+
+      pub least : ¬ Good n s → s′ ≡ s → ((q : ℕ) → q < n → ev q ≡ ev′ q) ⊎ Less ev ev′ n
+      least new e = ⊎-elim (⊎-elim (λ same. inl (same .0)) inr) (λ w. absurd (new (rw (← e, ← (W .now)) (w n (W .st n) here)))) (order n (omega arith))
+
 -- another graph with no more edges
 module _ {St : Type 0} {Edge Edge′ : ℕ → St → ℕ → St → Type 0} (back : (q : ℕ) (s : St) (x : ℕ) (t : St) → Edge′ q s x t → Edge q s x t) where
-  reach-back : {q p : ℕ} {s t : St} → Reach Edge′ q s p t → Reach Edge q s p t
+  pub reach-back : {q p : ℕ} {s t : St} → Reach Edge′ q s p t → Reach Edge q s p t
   reach-back here = here
   reach-back (more {q = q} {x = x} {s = s} {u = u} e r) = more (back q s x u e) (reach-back r)
 

@@ -4,25 +4,26 @@ use native.Mathlib.Omega.{arith}
 use mathlib.Core.Path.{_≡_, refl, sym, ap, subst, _∙_}
 use mathlib.Core.Bool.{Bool, true, false, cond, _&&_}
 use mathlib.Core.List.{List, [], _∷_, _++_}
-use lib.Dec.{eqb, ltb}
-use borrow.Author.Tests.{eq-eqb, ne-eqb, eqb-true, eqb-false, ltb-true}
+use lib.Dec.{eqb}
+use borrow.Author.Tests.{eq-eqb, ne-eqb, eqb-true, eqb-false}
 use Rattle.steps.specs.State.{State}
 use Rattle.steps.specs.Step.{Step, query, insert, delete, call, deny, Body}
 use Rattle.steps.specs.Words.{body-of}
 use Rattle.steps.specs.Elementary.{Onward, on, stuck}
 use Rattle.steps.proofs.EachBelow.{both}
 use Rattle.steps.proofs.WordLaws.{not-on}
-use Rattle.records.specs.Records.{Calls, Answers, Bodies, follow, follows, call-table, answer-table}
+use Rattle.records.specs.Records.{Calls, Answers, Bodies, earlier, follow, follows, call-table, answer-table}
+use Rattle.checks.proofs.FollowLaws.{earlier-below}
 use Rattle.unfolding.specs.Path.{adds, walked, below, states-added, path-of}
 
 -- a call goes on only by a record of smaller number
 pub call-below : (calls : Calls) (answers : Answers) (n a : ℕ) (s t : State) (e : ℕ) → follow calls answers n (call a) s e ≡ on t → e < n
 unfolding follow
 call-below calls answers n a s t e h =
-    by (ltb e n && (eqb (calls .action (answers .call e)) a && eqb (calls .state (answers .call e)) s)) refl h
+    by (earlier calls answers n e && (eqb (calls .action (answers .call e)) a && eqb (calls .state (answers .call e)) s)) refl h
   where
-    by : (b : Bool) → (ltb e n && (eqb (calls .action (answers .call e)) a && eqb (calls .state (answers .call e)) s)) ≡ b → cond b (on (answers .final e)) stuck ≡ on t → e < n
-    by true z k = ltb-true e n (both (ltb e n) _ z .0)
+    by : (b : Bool) → (earlier calls answers n e && (eqb (calls .action (answers .call e)) a && eqb (calls .state (answers .call e)) s)) ≡ b → cond b (on (answers .final e)) stuck ≡ on t → e < n
+    by true z k = earlier-below calls answers n e (both (earlier calls answers n e) _ z .0)
     by false z k = absurd (not-on k)
 
 module _ (calls : Calls) (answers : Answers) (n : ℕ) (f g : ℕ → List State) (same : (e : ℕ) → e < n → f e ≡ g e) where

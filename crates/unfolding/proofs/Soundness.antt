@@ -6,8 +6,8 @@ use mathlib.Core.Bool.{Bool, true, false, cond, _&&_}
 use mathlib.Core.List.{List, [], _∷_, _++_, append-nil, List·Memᴰ, List·Memᴰ·head, List·Memᴰ·tail}
 use mathlib.Core.Logic.{_≢_}
 use lib.ListN.{length}
-use lib.Dec.{eqb, ltb}
-use borrow.Author.Tests.{eqb-true, eqb-false, ne-eqb, ltb-true}
+use lib.Dec.{eqb}
+use borrow.Author.Tests.{eqb-true, eqb-false, ne-eqb}
 use Rattle.steps.specs.State.{State}
 use Rattle.steps.specs.Step.{Step, query, insert, delete, call, deny, Body, Rule, Book}
 use Rattle.steps.specs.Deduction.{_⊢_, queries, inserts, deletes, calls as replaces, denies, Deduction, done, move, Final}
@@ -20,8 +20,9 @@ use Rattle.steps.proofs.WordLaws.{elementary-does, not-on, on-same, rule-member
 use Rattle.steps.proofs.Deductions.{Does, asks, adds, drops, lacks}
 use Rattle.steps.proofs.Exactness.{Apart, Separate}
 use Rattle.steps.proofs.AcceptanceLaws.{AcceptedWords, separate}
-use Rattle.records.specs.Records.{Calls, Answers, Bodies, bodies-of, follow, follows, justified, goal-rule}
+use Rattle.records.specs.Records.{Calls, Answers, Bodies, bodies-of, earlier, follow, follows, justified, goal-rule}
 use Rattle.records.proofs.BodyLaws.{fits-rule, fits-goal}
+use Rattle.checks.proofs.FollowLaws.{earlier-below}
 use Rattle.unfolding.specs.Path as path
 use Rattle.unfolding.specs.Path.{shown, walked, path-of}
 use Rattle.unfolding.specs.States.{move-states, states, updates, Chain}
@@ -74,7 +75,7 @@ module _ (rules goal : List ℕ) (calls : Calls) (answers : Answers) (apart : Se
         let (d₃, e₃) = joined d₁ d₂ in
         (move (replaces (rule-of rules i) (rule-member rules i l) h) d₃, e₃ ∙ ap (λ (l : List State). l ++ states d₂) e₁)
 
-  module _ (n : ℕ) (fitted : (e : ℕ) → e < n → bodies .fits (answers .rule e) (calls .action (answers .call e)) ≡ true) (earlier : (e : ℕ) → e < n → Deduced e) where
+  module _ (n : ℕ) (fitted : (e : ℕ) → e < n → bodies .fits (answers .rule e) (calls .action (answers .call e)) ≡ true) (deduced : (e : ℕ) → e < n → Deduced e) where
     -- one step more in front
     step : (x : Step) (rest : Body) (s t : State) (e : ℕ) → ((b : ℕ) → x ≡ call b → b ≢ Goal) → follow calls answers n x s e ≡ on t
         → (d : Final book t rest (answers .final n)) → (d′ : Final book s (x ∷ rest) (answers .final n)) × (path.adds (path.states-added calls answers bodies) x t e ++ states d ≡ states d′)
@@ -83,17 +84,17 @@ module _ (rules goal : List ℕ) (calls : Calls) (answers : Answers) (apart : Se
     step (insert p) rest s t e ne h d = done-step (insert p) (eqb e 0) h d
     step (delete p) rest s t e ne h d = done-step (delete p) (eqb e 0) h d
     step (deny p) rest s t e ne h d = done-step (deny p) (eqb e 0) h d
-    step (call a) rest s t e ne h d = by (ltb e n && (eqb (calls .action (answers .call e)) a && eqb (calls .state (answers .call e)) s)) refl h
+    step (call a) rest s t e ne h d = by (earlier calls answers n e && (eqb (calls .action (answers .call e)) a && eqb (calls .state (answers .call e)) s)) refl h
       where
-        by : (b : Bool) → (ltb e n && (eqb (calls .action (answers .call e)) a && eqb (calls .state (answers .call e)) s)) ≡ b → cond b (on (answers .final e)) stuck ≡ on t
+        by : (b : Bool) → (earlier calls answers n e && (eqb (calls .action (answers .call e)) a && eqb (calls .state (answers .call e)) s)) ≡ b → cond b (on (answers .final e)) stuck ≡ on t
             → (d′ : Final book s (call a ∷ rest) (answers .final n)) × (path.states-added calls answers bodies e ++ states d ≡ states d′)
         by false z k = absurd (not-on k)
         by true z k =
-            let (l, r) = both (ltb e n) _ z in
+            let (l, r) = both (earlier calls answers n e) _ z in
             let (f, g) = both (eqb (calls .action (answers .call e)) a) _ r in
-            let lt = ltb-true e n l in
+            let lt = earlier-below calls answers n e l in
             let fit : bodies .fits (answers .rule e) a ≡ true = rw (eqb-true _ a f) at (fitted e lt) in
-            let (dₑ, eₑ) = earlier e lt in
+            let (dₑ, eₑ) = deduced e lt in
             let (d₁, e₁) = subst (λ (D : State). (d₁ : Final book D (body e) (answers .final e)) × (states d₁ ≡ states dₑ)) (eqb-true _ s g) (dₑ, refl) in
             let (d₂, e₂) = subst (λ (E : State). (d₂ : Final book s (body e) E) × (states d₂ ≡ states dₑ)) (on-same k) (d₁, e₁) in
             let (d′, e′) = by-rule (answers .rule e) a fit (ne a refl) rest d₂ d in

@@ -8,7 +8,7 @@ use Rattle.records.specs.Records.{Bodies, room, call-width, answer-width}
 use Rattle.records.proofs.Growth.{Tables}
 use Rattle.tabling.proofs.Measure.{left}
 use Rattle.notes.specs.Uses.{UsesGrew}
-use Rattle.loops.proofs.Turn.{Before, before, Turning, Turned, Over}
+use Rattle.loops.proofs.Turn.{Begin, Before, before, Turning, Turned, Over}
 use Rattle.tabling.proofs.Adding.{Outgrown}
 use Rattle.tabling.proofs.Moves.{Node}
 use Rattle.loops.proofs.Going.{Kept, Indexed}
@@ -32,30 +32,30 @@ abbrev pub spot-of : Spot → Node
 spot-of spot = (spot .state .0, spot .last)
 
 -- What was before the round of a job.
-abbrev pub past-of : Job → List ℕ → Before
-past-of job notes = before (job .first) (job .old) (job .seen) (job .warm) notes
+abbrev pub past-of : Job → Begin → Before
+past-of job begun = before (job .first) (job .old) (job .seen) (job .warm) (job .round) begun
 
 -- A step forward from place `at` in state s: the invariant one place on, nothing left here, or more records than places.
-abbrev pub Stepped : Front → Bodies → (ℕ → State → Type 0) → Tables → List ℕ → Job → List ℕ → ℕ → ℕ → List ℕ → ℕ → Node → Tables → List ℕ → List ℕ
+abbrev pub Stepped : Front → Bodies → (ℕ → State → Type 0) → Tables → Begin → Job → List ℕ → ℕ → ℕ → List ℕ → ℕ → Node → Tables → List ℕ → List ℕ
     → List ℕ → Type 0
-Stepped (front.On s′) bodies Root b notes job body cw aw chosen at s t marks uses chosen′ =
-    Turning bodies Root b (job .known) (job .rule) (job .row) (job .walk) (past-of job notes) body t marks uses chosen′ (at + 1) (spot-of s′)
+Stepped (front.On s′) bodies Root b begun job body cw aw chosen at s t marks uses chosen′ =
+    Turning bodies Root b (job .known) (job .rule) (job .row) (job .walk) (past-of job begun) body t marks uses chosen′ (at + 1) (spot-of s′)
     × (left (job .known) chosen′ (at + 1) < left (job .known) chosen at)
-Stepped front.Spent bodies Root b notes job body cw aw chosen at s t marks uses chosen′ =
-    Turned bodies Root b (job .known) (job .rule) (job .row) (job .walk) (past-of job notes) body t marks uses chosen′ at s × (chosen′ ≡ chosen)
-Stepped front.Full bodies Root b notes job body cw aw chosen at s t marks uses chosen′ = Outgrown bodies Root (room call-width cw)
+Stepped front.Spent bodies Root b begun job body cw aw chosen at s t marks uses chosen′ =
+    Turned bodies Root b (job .known) (job .rule) (job .row) (job .walk) (past-of job begun) body t marks uses chosen′ at s × (chosen′ ≡ chosen)
+Stepped front.Full bodies Root b begun job body cw aw chosen at s t marks uses chosen′ = Outgrown bodies Root (room call-width cw)
     (room answer-width aw)
 
 -- A whole turn: as above, or back at place p with another answer, or the walk is over.
-abbrev pub Leaving : Leave → Bodies → (ℕ → State → Type 0) → Tables → List ℕ → Job → List ℕ → ℕ → ℕ → List ℕ → ℕ → Tables → List ℕ → List ℕ
+abbrev pub Leaving : Leave → Bodies → (ℕ → State → Type 0) → Tables → Begin → Job → List ℕ → ℕ → ℕ → List ℕ → ℕ → Tables → List ℕ → List ℕ
     → List ℕ → Type 0
-Leaving (leave.On s′) bodies Root b notes job body cw aw chosen at t marks uses chosen′ =
-    Turning bodies Root b (job .known) (job .rule) (job .row) (job .walk) (past-of job notes) body t marks uses chosen′ (at + 1) (spot-of s′)
+Leaving (leave.On s′) bodies Root b begun job body cw aw chosen at t marks uses chosen′ =
+    Turning bodies Root b (job .known) (job .rule) (job .row) (job .walk) (past-of job begun) body t marks uses chosen′ (at + 1) (spot-of s′)
     × (left (job .known) chosen′ (at + 1) < left (job .known) chosen at)
-Leaving (leave.Back p s′) bodies Root b notes job body cw aw chosen at t marks uses chosen′ =
-    Turning bodies Root b (job .known) (job .rule) (job .row) (job .walk) (past-of job notes) body t marks uses chosen′ p (spot-of s′)
+Leaving (leave.Back p s′) bodies Root b begun job body cw aw chosen at t marks uses chosen′ =
+    Turning bodies Root b (job .known) (job .rule) (job .row) (job .walk) (past-of job begun) body t marks uses chosen′ p (spot-of s′)
     × (left (job .known) chosen′ p < left (job .known) chosen at)
-Leaving leave.Done bodies Root b notes job body cw aw chosen at t marks uses chosen′ =
-    Over bodies Root b (job .known) (job .rule) (job .row) (job .walk) (past-of job notes) body t marks uses
-Leaving leave.Full bodies Root b notes job body cw aw chosen at t marks uses chosen′ = Outgrown bodies Root (room call-width cw)
+Leaving leave.Done bodies Root b begun job body cw aw chosen at t marks uses chosen′ =
+    Over bodies Root b (job .known) (job .rule) (job .row) (job .walk) (past-of job begun) body t marks uses
+Leaving leave.Full bodies Root b begun job body cw aw chosen at t marks uses chosen′ = Outgrown bodies Root (room call-width cw)
     (room answer-width aw)

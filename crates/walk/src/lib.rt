@@ -25,13 +25,13 @@ ghost use Rattle.notes.specs.Uses.{UsesGrew};
 ghost use Rattle.notes.specs.Index.{CallIndex, AnswerIndex};
 ghost use Rattle.tabling.proofs.Moves.{Chosen};
 ghost use Rattle.tabling.proofs.Evidence.{Among};
-ghost use Rattle.loops.proofs.Turn.{RetreatRow, Turning, Picked};
+ghost use Rattle.loops.proofs.Turn.{Begin, RetreatRow, Turning, Picked};
 ghost use Rattle.loops.proofs.Going.{Kept, Indexed, WentBack, Going, in-words};
 ghost use Rattle.walk.specs.Leaving.{spot-of, past-of, Stepped, Leaving, Stays};
 
 // What does not change while a body is walked: its rule's number, the call record that it is of, how many answers may serve, and the
-// walk's own number; the records from `first` up to `old` were walked before, with the answers below `seen`; and whether the round has noted
-// all that it has to look at again.
+// walk's own number; the records from `first` up to `old` were walked before, with the answers below `seen`; whether the round has noted all
+// that it has to look at again; and the round's number.
 pub struct Job {
     pub rule: u64,
     pub row: usize,
@@ -41,6 +41,7 @@ pub struct Job {
     pub old: usize,
     pub seen: usize,
     pub warm: bool,
+    pub round: u64,
 }
 
 // Where a walk is: a state, and one more than the number of the answer taken last, or 0.
@@ -77,11 +78,11 @@ fn finish(
     ensures { λ r. ⌜ (length (now (answers .exit)) ≡ length (now (answers .entry))) × Stored answer-width (now (answers .exit)) (r .answers)
         × (r .calls ≡ n) ⌝ }
     ensures { λ r. ⌜ AnswerIndex (answer-table (now (answers .exit)) (r .answers)) (now («answer_index» .exit)) ⌝ }
-    ensures { λ r. ⌜ ((bodies : Bodies) (roots : List (ℕ × ℕ)) (b : Tables) (notes : List ℕ) (body calls marks uses : List ℕ) (at : ℕ)
+    ensures { λ r. ⌜ ((bodies : Bodies) (roots : List (ℕ × ℕ)) (b : Tables) (begun : Begin) (body calls marks uses : List ℕ) (at : ℕ)
         → length body ≤ at
-        → Turning bodies (Among roots) b (job .known) (job .rule) (job .row) (job .walk) (past-of job notes) body
+        → Turning bodies (Among roots) b (job .known) (job .rule) (job .row) (job .walk) (past-of job begun) body
         (in-words calls n (now (answers .entry)) m) marks uses (now (chosen .entry)) at (spot-of spot)
-        → Stepped (r .front) bodies (Among roots) b notes job body (length calls) (length (now (answers .entry))) (now (chosen .entry)) at
+        → Stepped (r .front) bodies (Among roots) b begun job body (length calls) (length (now (answers .entry))) (now (chosen .entry)) at
         (spot-of spot)
         (in-words calls n (now (answers .exit)) (r .answers)) marks uses (now (chosen .entry))) ⌝ }
 {
@@ -93,6 +94,7 @@ fn finish(
         spot.state,
         job.rule,
         chosen,
+        job.round,
     );
     if put.full {
         return Advanced {
@@ -153,8 +155,8 @@ fn first_of(
     requires { ⌜ ((m : ℕ) × (job .known ≤ m) × (answer-width * m ≤ length (now answers))
         × AnswerIndex (answer-table (now answers) m) (now «answer_index»))
         ⌝ }
-    ensures { λ r. ⌜ (r ≤ job .known) × ((notes body : List ℕ) → now (rest .entry) ≡ drop at body
-        → Picked (answer-table (now (answers .entry)) (job .known)) (now (uses .entry)) (job .known) (job .row) (past-of job notes) body
+    ensures { λ r. ⌜ (r ≤ job .known) × ((begun : Begin) (body : List ℕ) → now (rest .entry) ≡ drop at body
+        → Picked (answer-table (now (answers .entry)) (job .known)) (now (uses .entry)) (job .known) (job .row) (past-of job begun) body
         (now (chosen .entry)) at row r) ⌝ }
 {
     if job.row < job.old {
@@ -203,11 +205,11 @@ fn enter(
     ensures { λ r. ⌜ (length (now (calls .exit)) ≡ length (now (calls .entry))) × Stored call-width (now (calls .exit)) (r .calls) × (r .answers ≡ m)
         × UsesGrew (now (uses .entry)) (now (uses .exit)) ⌝ }
     ensures { λ r. ⌜ CallIndex (call-table (now (calls .exit)) (r .calls)) (now («call_index» .exit)) ⌝ }
-    ensures { λ r. ⌜ ((bodies : Bodies) (roots : List (ℕ × ℕ)) (b : Tables) (notes : List ℕ) (body : List ℕ) → at < length body
+    ensures { λ r. ⌜ ((bodies : Bodies) (roots : List (ℕ × ℕ)) (b : Tables) (begun : Begin) (body : List ℕ) → at < length body
         → is-call (getD body at 0) ≡ true → getD body at 0 ≡ step → now (rest .entry) ≡ drop at body
-        → Turning bodies (Among roots) b (job .known) (job .rule) (job .row) (job .walk) (past-of job notes) body
+        → Turning bodies (Among roots) b (job .known) (job .rule) (job .row) (job .walk) (past-of job begun) body
         (in-words (now (calls .entry)) n (now (answers .entry)) m) (now (marks .entry)) (now (uses .entry)) (now (chosen .entry)) at (spot-of spot)
-        → Stepped (r .front) bodies (Among roots) b notes job body (length (now (calls .entry))) (length (now (answers .entry)))
+        → Stepped (r .front) bodies (Among roots) b begun job body (length (now (calls .entry))) (length (now (answers .entry)))
         (now (chosen .entry)) at (spot-of spot)
         (in-words (now (calls .exit)) (r .calls) (now (answers .entry)) m) (now (marks .exit)) (now (uses .exit)) (now (chosen .exit))) ⌝ }
 {
@@ -216,7 +218,7 @@ fn enter(
         action: word::index(step),
         state: state,
     };
-    let put = index::add_call(calls, n, call_index, call);
+    let put = index::add_call(calls, n, call_index, call, job.round);
     let row = put.row;
     let count = put.count;
     if put.full {
@@ -245,7 +247,7 @@ fn enter(
     }
     chosen[at] = first as u64;
     let after = Spot {
-        state: tables::final_of(answers, first),
+        state: tables::final_of(answers, tables::ANSWER_WORDS, first),
         last: first + 1,
     };
     Advanced {
@@ -276,10 +278,10 @@ fn advance(
     requires { ⌜ Indexed (now calls) n (now «call_index») (now answers) m (now «answer_index») ⌝ }
     ensures { λ r. ⌜ Stays (now (calls .entry)) (now (answers .entry)) (now (uses .entry)) (now (calls .exit)) (r .calls)
         (now («call_index» .exit)) (now (answers .exit)) (r .answers) (now («answer_index» .exit)) (now (uses .exit)) ⌝ }
-    ensures { λ r. ⌜ ((bodies : Bodies) (roots : List (ℕ × ℕ)) (b : Tables) (notes : List ℕ) (body : List ℕ) → now (rest .entry) ≡ drop at body
-        → Turning bodies (Among roots) b (job .known) (job .rule) (job .row) (job .walk) (past-of job notes) body
+    ensures { λ r. ⌜ ((bodies : Bodies) (roots : List (ℕ × ℕ)) (b : Tables) (begun : Begin) (body : List ℕ) → now (rest .entry) ≡ drop at body
+        → Turning bodies (Among roots) b (job .known) (job .rule) (job .row) (job .walk) (past-of job begun) body
         (in-words (now (calls .entry)) n (now (answers .entry)) m) (now (marks .entry)) (now (uses .entry)) (now (chosen .entry)) at (spot-of spot)
-        → Stepped (r .front) bodies (Among roots) b notes job body (length (now (calls .entry))) (length (now (answers .entry)))
+        → Stepped (r .front) bodies (Among roots) b begun job body (length (now (calls .entry))) (length (now (answers .entry)))
         (now (chosen .entry)) at (spot-of spot)
         (in-words (now (calls .exit)) (r .calls) (now (answers .exit)) (r .answers)) (now (marks .exit)) (now (uses .exit)) (now (chosen .exit)))
         ⌝ }
@@ -402,7 +404,7 @@ fn go_back(
     Went {
         at: after,
         spot: Spot {
-            state: tables::final_of(answers, answer),
+            state: tables::final_of(answers, tables::ANSWER_WORDS, answer),
             last: answer + 1,
         },
     }
@@ -441,16 +443,16 @@ pub fn turn(
 ) -> Moved
     requires { ⌜ Kept (now calls) n (now answers) m × Indexed (now calls) n (now «call_index») (now answers) m (now «answer_index»)
         × (length (now uses) ≡ 327680) ⌝ }
-    requires { ⌜ ((bodies : Bodies) × (roots : List (ℕ × ℕ)) × (b : Tables) × (notes : List ℕ)
-        × Going bodies (Among roots) b (job .known) (job .rule) (job .row) (job .walk) (past-of job notes) (now body)
+    requires { ⌜ ((bodies : Bodies) × (roots : List (ℕ × ℕ)) × (b : Tables) × (begun : Begin)
+        × Going bodies (Among roots) b (job .known) (job .rule) (job .row) (job .walk) (past-of job begun) (now body)
         (in-words (now calls) n (now answers) m) (now marks) (now uses) (now chosen) (now rest) (spot-of spot)) ⌝ }
     ensures { λ r. ⌜ Stays (now (calls .entry)) (now (answers .entry)) (now (uses .entry)) (now (calls .exit)) (r .calls)
         (now («call_index» .exit)) (now (answers .exit)) (r .answers) (now («answer_index» .exit)) (now (uses .exit)) ⌝ }
-    ensures { λ r. ⌜ ((bodies : Bodies) (roots : List (ℕ × ℕ)) (b : Tables) (notes : List ℕ)
-        → Going bodies (Among roots) b (job .known) (job .rule) (job .row) (job .walk) (past-of job notes) (now (body .entry))
+    ensures { λ r. ⌜ ((bodies : Bodies) (roots : List (ℕ × ℕ)) (b : Tables) (begun : Begin)
+        → Going bodies (Among roots) b (job .known) (job .rule) (job .row) (job .walk) (past-of job begun) (now (body .entry))
         (in-words (now (calls .entry)) n (now (answers .entry)) m) (now (marks .entry)) (now (uses .entry)) (now (chosen .entry))
         (now (rest .entry)) (spot-of spot)
-        → Leaving (r .leave) bodies (Among roots) b notes job (now (body .entry)) (length (now (calls .entry))) (length (now (answers .entry)))
+        → Leaving (r .leave) bodies (Among roots) b begun job (now (body .entry)) (length (now (calls .entry))) (length (now (answers .entry)))
         (now (chosen .entry)) (length (now (body .entry)) - length (now (rest .entry)))
         (in-words (now (calls .exit)) (r .calls) (now (answers .exit)) (r .answers)) (now (marks .exit)) (now (uses .exit)) (now (chosen .exit)))
         ⌝ }

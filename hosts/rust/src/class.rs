@@ -1,17 +1,32 @@
 //! A whole class in one go: one book and goal from many starts.
 
 use crate::refusal::accepted;
-use crate::{ffi, Buffers, Question, Refusal, Run, Unrun};
+use crate::{ffi, Buffers, Question, Refusal};
 
 /// Starts of a class at most.
 pub const MOST_STARTS: usize = 1_024;
 /// Result words of a start: refusal number or 0, ends, calls, answers.
 pub const START_WORDS: usize = 4;
 
+/// What a class tells of a start: the counts of ends, of call records and of answer records. It tells no rounds.
+#[derive(Clone, Copy, Debug, Default, PartialEq, Eq)]
+pub struct Counts {
+    pub ends: usize,
+    pub calls: usize,
+    pub answers: usize,
+}
+
+/// A refused start: why, and its counts, which are 0 but for refusal 31.
+#[derive(Clone, Copy, Debug, PartialEq, Eq)]
+pub struct Uncounted {
+    pub refusal: Refusal,
+    pub counts: Counts,
+}
+
 /// What one start of a class was told, and its ends in rising order; none where it was refused.
 #[derive(Clone, Copy, Debug, PartialEq, Eq)]
 pub struct Outcome<'a> {
-    pub told: Result<Run, Unrun>,
+    pub told: Result<Counts, Uncounted>,
     pub ends: &'a [u64],
 }
 
@@ -26,7 +41,7 @@ pub struct Outcome<'a> {
 /// let text = b"fluent\ta\nfluent\tb\naction\tg\nrule\tg\t!g\t?a\t+b\nrule\tg\t+a\nstart\ngoal\t!g\n";
 /// let mut rules = [0; 4608];
 /// let sheet = lawhemuri::read(text, &mut rules).unwrap();
-/// let (mut calls, mut answers, mut ends, mut results) = ([0; 2 * 8], [0; 19 * 8], [0; 8], [0; 4 * 2]);
+/// let (mut calls, mut answers, mut ends, mut results) = ([0; 3 * 8], [0; 20 * 8], [0; 8], [0; 4 * 2]);
 /// let mut buffers = lawhemuri::Buffers { calls: &mut calls, answers: &mut answers, ends: &mut ends };
 /// lawhemuri::class(&sheet.question(&rules), &[0, 2], &mut results, &mut buffers).unwrap();
 /// let listed: Vec<&[u64]> = lawhemuri::outcomes(&results, &ends).map(|outcome| outcome.ends).collect();
@@ -64,9 +79,9 @@ pub fn class(question: &Question<'_>, starts: &[u64], results: &mut [u64], lent:
 pub fn outcomes<'a>(results: &'a [u64], ends: &'a [u64]) -> impl Iterator<Item = Outcome<'a>> + 'a {
     let mut left = ends;
     results.chunks_exact(START_WORDS).map(move |words| {
-        let run = Run { ends: words[1] as usize, calls: words[2] as usize, answers: words[3] as usize };
-        let told = accepted(words[0]).map(|()| run).map_err(|refusal| Unrun { refusal, run });
-        let (ends, later) = left.split_at(told.map_or(0, |run| run.ends));
+        let counts = Counts { ends: words[1] as usize, calls: words[2] as usize, answers: words[3] as usize };
+        let told = accepted(words[0]).map(|()| counts).map_err(|refusal| Uncounted { refusal, counts });
+        let (ends, later) = left.split_at(told.map_or(0, |counts| counts.ends));
         left = later;
         Outcome { told, ends }
     })

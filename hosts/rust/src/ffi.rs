@@ -46,6 +46,7 @@ pub struct Run {
     pub ends: u64,
     pub calls: u64,
     pub answers: u64,
+    pub rounds: u64,
 }
 
 #[repr(C)]

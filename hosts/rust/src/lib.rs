@@ -22,10 +22,10 @@
 //! let text = b"fluent\ta\nfluent\tb\naction\tg\nrule\tg\t!g\t?a\t+b\nrule\tg\t+a\nstart\ngoal\t!g\n";
 //! let mut rules = [0; 4608];
 //! let sheet = lawhemuri::read(text, &mut rules).unwrap();
-//! let (mut calls, mut answers, mut ends) = ([0; 2 * 512], [0; 19 * 256], [0; 256]);
+//! let (mut calls, mut answers, mut ends) = ([0; 3 * 512], [0; 20 * 256], [0; 256]);
 //! let mut buffers = lawhemuri::Buffers { calls: &mut calls, answers: &mut answers, ends: &mut ends };
 //! let run = lawhemuri::evaluate(&sheet.question(&rules), &mut buffers).unwrap();
-//! assert_eq!((run.ends, run.calls, run.answers), (2, 2, 4));
+//! assert_eq!((run.ends, run.calls, run.answers, run.rounds), (2, 2, 4, 4));
 //! assert_eq!(&ends[..2], [1, 3]);
 //! ```
 
@@ -39,7 +39,7 @@ mod rehearsal;
 mod report;
 pub mod unfolding;
 
-pub use class::{class, outcomes, Outcome, MOST_STARTS, START_WORDS};
+pub use class::{class, outcomes, Counts, Outcome, Uncounted, MOST_STARTS, START_WORDS};
 use refusal::accepted;
 pub use refusal::Refusal;
 pub use rehearsal::{class_of, OfStart, Rehearsal, Trouble, Way, MOST_EVENTS, MOST_RECORDS, STACK_EVALUATE, STACK_PATH};
@@ -47,10 +47,12 @@ pub use report::{report, report_of, report_words, Figures, Fraction, Report};
 
 /// Words of one rule: head, step count, 16 step words.
 pub const RULE_WORDS: usize = 18;
-/// Words of one call record: action, state.
-pub const CALL_WORDS: usize = 2;
-/// Words of one answer record: call record number, final state, rule number, 16 evidence words.
-pub const ANSWER_WORDS: usize = 19;
+/// Words of one call record: action, state, round.
+pub const CALL_WORDS: usize = 3;
+/// Words of one answer record: call record number, final state, rule number, 16 evidence words, round.
+pub const ANSWER_WORDS: usize = 20;
+/// The highest round that a call record may have where [`path`] shows it.
+pub const MOST_CALL_ROUND: u64 = 131_071;
 /// Fluents that a book has at most.
 pub const MOST_FLUENTS: u64 = 64;
 /// Actions that a book has at most.
@@ -153,12 +155,14 @@ pub struct Buffers<'a> {
     pub ends: &'a mut [u64],
 }
 
-/// The counts of ends, of call records and of answer records.
+/// The counts of ends, of call records and of answer records, and how many rounds added something.
 #[derive(Clone, Copy, Debug, Default, PartialEq, Eq)]
 pub struct Run {
     pub ends: usize,
     pub calls: usize,
     pub answers: usize,
+    /// Each round walks every body of every call found before with the answers found before; see [`CALL_WORDS`] and [`ANSWER_WORDS`].
+    pub rounds: usize,
 }
 
 /// A refused run: why, and the counts, which are 0 but for refusal 31.
@@ -249,7 +253,7 @@ pub fn fluent_name(sheet: &[u8], fluent: u64) -> &[u8] {
 
 /// Evaluates a goal from a start (refusals 20 to 31).
 ///
-/// * No refusal: both tables hold the run's calls and answers, each once, and 0 past
+/// * No refusal: both tables hold the run's calls and answers, each once and with its round, and 0 past
 ///   them; the list begins with the ends in rising order and is unchanged past them.
 /// * 20 to 24: the buffers are unchanged.
 /// * 30: both tables are 0 throughout, the list is unchanged.
@@ -274,7 +278,7 @@ pub fn evaluate(question: &Question<'_>, lent: &mut Buffers<'_>) -> Result<Run, 
             lent.ends.len(),
         )
     };
-    let run = Run { ends: r.ends as usize, calls: r.calls as usize, answers: r.answers as usize };
+    let run = Run { ends: r.ends as usize, calls: r.calls as usize, answers: r.answers as usize, rounds: r.rounds as usize };
     accepted(r.refusal).map_err(|refusal| Unrun { refusal, run })?;
     Ok(run)
 }

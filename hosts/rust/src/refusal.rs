@@ -51,7 +51,7 @@ pub enum Refusal {
     BadRecordCount = 40,
     /// 41: the record number is not below the answer count.
     NoRecord = 41,
-    /// 42: a call record with a bad action or state, or an answer that is not justified.
+    /// 42: a call record with a bad action, state or round, or an answer that is not justified.
     BadRecord = 42,
     /// 43: the list has fewer places than there are states in the path.
     StatesShort = 43,

@@ -4,8 +4,8 @@ use std::collections::HashMap;
 use std::{fmt, io, panic, thread};
 
 use crate::unfolding::{hold, hold_structure, replay, unfold, Answer, Difference, Event, Kind, Step, Tables};
-use crate::{class, evaluate, fluent_name, outcomes, path, read, Buffers, Question, Records, Refusal, Run, Sheet, Unread, Unrun};
-use crate::{ANSWER_WORDS, CALL_WORDS, GOAL_ACTION, MOST_RULE_WORDS, START_WORDS};
+use crate::{class, evaluate, fluent_name, outcomes, path, read, Buffers, Counts, Question, Records, Refusal, Run, Sheet};
+use crate::{Uncounted, Unread, ANSWER_WORDS, CALL_WORDS, GOAL_ACTION, MOST_RULE_WORDS, START_WORDS};
 
 /// Records that a table has at most, whatever is lent.
 pub const MOST_RECORDS: usize = 65_536;
@@ -71,7 +71,7 @@ pub struct Way {
 }
 
 /// What a start of a class was told, and its ends in rising order; none where it was refused.
-pub type OfStart = (Result<Run, Unrun>, Vec<u64>);
+pub type OfStart = (Result<Counts, Uncounted>, Vec<u64>);
 
 /// A sheet that is read and evaluated.
 #[derive(Debug)]
@@ -134,7 +134,7 @@ impl Rehearsal {
         &self.names
     }
 
-    /// The counts of ends, calls and answers.
+    /// The counts of ends, calls, answers and rounds.
     pub fn counts(&self) -> Run {
         self.run
     }
@@ -263,12 +263,12 @@ fn grow_class(question: &Question<'_>, starts: &[u64]) -> Result<Vec<OfStart>, R
         let mut results = vec![0; START_WORDS * starts.len()];
         class(question, starts, &mut results, &mut Buffers { calls: &mut calls, answers: &mut answers, ends: &mut ends })?;
         let told: Vec<OfStart> = outcomes(&results, &ends).map(|start| (start.told, start.ends.to_vec())).collect();
-        let refused_with = |number| told.iter().any(|(told, _)| told.is_err_and(|unrun| unrun.refusal == number));
+        let refused_with = |number| told.iter().any(|(told, _)| told.is_err_and(|refused| refused.refusal == number));
         if refused_with(Refusal::TablesFull) && room < MOST_RECORDS {
             room *= 2;
         } else if refused_with(Refusal::ListShort) {
             // With 31 the ends are counted too.
-            places = told.iter().map(|(told, _)| told.map_or_else(|unrun| unrun.run.ends, |run| run.ends)).sum();
+            places = told.iter().map(|(told, _)| told.map_or_else(|refused| refused.counts.ends, |counts| counts.ends)).sum();
         } else {
             return Ok(told);
         }

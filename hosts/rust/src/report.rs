@@ -100,8 +100,8 @@ pub struct Report {
 /// The figures of what [`class_of`](crate::class_of) gave for a sheet of so many fluents. What it gave never meets 26.
 pub fn report_of(fluents: usize, given: &[OfStart]) -> Result<Report, Refusal> {
     let words = |(told, _): &OfStart| {
-        let (refusal, run) = told.map_or_else(|unrun| (unrun.refusal.number(), unrun.run), |run| (0, run));
-        [refusal, run.ends as u64, run.calls as u64, run.answers as u64]
+        let (refusal, counts) = told.map_or_else(|refused| (refused.refusal.number(), refused.counts), |counts| (0, counts));
+        [refusal, counts.ends as u64, counts.calls as u64, counts.answers as u64]
     };
     let results: Vec<u64> = given.iter().flat_map(words).collect();
     let ends: Vec<u64> = given.iter().flat_map(|(_, ends)| ends.iter().copied()).collect();

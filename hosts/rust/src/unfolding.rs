@@ -84,24 +84,34 @@ pub struct Answer<'a> {
     pub rule: u64,
     /// For each call step of the rule's body the number of the answer used, elsewhere 0.
     pub evidence: &'a [u64],
+    /// The round that it came in.
+    pub round: u64,
 }
 
-/// Words of an answer record before its evidence.
-const ANSWER_HEAD: usize = 3;
 /// Words of a rule before its steps.
 const RULE_HEAD: usize = 2;
 
 impl<'a> Tables<'a> {
     /// The action and the state of a call record.
     pub fn call(&self, record: usize) -> (u64, u64) {
-        let words = &self.calls[CALL_WORDS * record..][..CALL_WORDS];
+        let words = self.call_words(record);
         (words[0], words[1])
+    }
+
+    /// The round that a call record came in.
+    pub fn call_round(&self, record: usize) -> u64 {
+        self.call_words(record)[2]
+    }
+
+    fn call_words(&self, record: usize) -> &'a [u64] {
+        &self.calls[CALL_WORDS * record..][..CALL_WORDS]
     }
 
     /// An answer record.
     pub fn answer(&self, record: usize) -> Answer<'a> {
         let words = &self.answers[ANSWER_WORDS * record..][..ANSWER_WORDS];
-        Answer { call: words[0] as usize, state: words[1], rule: words[2], evidence: &words[ANSWER_HEAD..] }
+        let &[call, state, rule, ref evidence @ .., round] = words else { unreachable!("a record has 20 words") };
+        Answer { call: call as usize, state, rule, evidence, round }
     }
 
     /// The step words of a rule's body; of the goal for [`GOAL_RULE`].
@@ -340,8 +350,8 @@ fn nth<T>(words: &[T], size: usize, record: u64) -> Option<&[T]> {
 
 impl<'a> Level<'a> {
     fn of(tables: &Tables<'a>, record: u64) -> Option<Level<'a>> {
-        let &[call, end, rule, ref evidence @ ..] = nth(tables.answers, ANSWER_WORDS, record)? else { return None };
-        let &[action, start] = nth(tables.calls, CALL_WORDS, call)? else { return None };
+        let &[call, end, rule, ref evidence @ .., _] = nth(tables.answers, ANSWER_WORDS, record)? else { return None };
+        let &[action, start, _] = nth(tables.calls, CALL_WORDS, call)? else { return None };
         let body = if rule == GOAL_RULE {
             tables.goal
         } else {
@@ -461,14 +471,15 @@ mod tests {
         (rules[18], rules[19], rules[20], rules[22], rules[23]) = (1, 4, 768, 257, 512);
         rules
     };
-    const CALLS: [u64; 6] = [64, 0, 1, 0, 0, 0];
+    const CALLS: [u64; 9] = [64, 0, 0, 1, 0, 1, 0, 0, 2];
     const PATH: [u64; 4] = [0, 1, 3, 2];
 
     fn answers() -> Vec<u64> {
         let mut answers = vec![0; 3 * ANSWER_WORDS];
         answers[..3].copy_from_slice(&[2, 1, 0]);
-        answers[19..22].copy_from_slice(&[1, 2, 1]);
-        answers[38..42].copy_from_slice(&[0, 2, GOAL_RULE, 1]);
+        answers[20..23].copy_from_slice(&[1, 2, 1]);
+        answers[40..44].copy_from_slice(&[0, 2, GOAL_RULE, 1]);
+        (answers[19], answers[39], answers[59]) = (3, 4, 5);
         answers
     }
 

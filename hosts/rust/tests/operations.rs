@@ -4,8 +4,8 @@ use std::error::Error;
 
 use lawhemuri::{
     class, evaluate, fluent_name, mark, merge, merged_fluent, outcomes, path, read, report, report_of, report_words, restore,
-    store, write, Buffers, Fraction, OfStart, Question, Records, Refusal, Report, Run, Unmerged, Unread, Unrun, MARK_WORDS,
-    MOST_ACTIONS, MOST_FLUENTS, MOST_RECORDED,
+    store, write, Buffers, Counts, Fraction, OfStart, Question, Records, Refusal, Report, Run, Uncounted, Unmerged, Unread,
+    Unrun, ANSWER_WORDS, CALL_WORDS, MARK_WORDS, MOST_ACTIONS, MOST_CALL_ROUND, MOST_FLUENTS, MOST_RECORDED,
 };
 
 const EXAMPLE: &[u8] = b"fluent\topen\nfluent\tlit\naction\tpurge\naction\tlight\nrule\tpurge\t+open\n\
@@ -27,7 +27,7 @@ fn with_rooms(
     answers: usize,
     ends: usize,
 ) -> (Result<Run, Unrun>, Vec<u64>, Vec<u64>, Vec<u64>) {
-    let (mut c, mut a, mut e) = (vec![MARK; 2 * calls], vec![MARK; 19 * answers], vec![MARK; ends]);
+    let (mut c, mut a, mut e) = (vec![MARK; CALL_WORDS * calls], vec![MARK; ANSWER_WORDS * answers], vec![MARK; ends]);
     let mut lent = Buffers { calls: &mut c, answers: &mut a, ends: &mut e };
     let run = evaluate(question, &mut lent);
     (run, c, a, e)
@@ -43,7 +43,7 @@ fn example_sheet() {
     assert_eq!(fluent_name(EXAMPLE, 1), b"lit");
     assert_eq!(fluent_name(EXAMPLE, 2), b"");
     let (run, _, _, ends) = with_rooms(&sheet.question(&rules), 512, 256, 256);
-    assert_eq!(run, Ok(Run { ends: 1, calls: 3, answers: 3 }));
+    assert_eq!(run, Ok(Run { ends: 1, calls: 3, answers: 3, rounds: 5 }));
     assert_eq!(ends[..2], [2, MARK]);
 }
 
@@ -180,10 +180,10 @@ fn left_recursion_and_its_rooms() {
     let rules = left_recursion();
     let question = Question { fluents: 2, actions: 1, rules: &rules, goal: &[768], start: 0 };
     let (run, calls, answers, ends) = with_rooms(&question, 3, 5, 3);
-    assert_eq!(run, Ok(Run { ends: 2, calls: 2, answers: 4 }));
+    assert_eq!(run, Ok(Run { ends: 2, calls: 2, answers: 4, rounds: 4 }));
     assert_eq!(ends, [1, 3, MARK]);
-    assert_eq!(calls[4..], [0; 2]);
-    assert_eq!(answers[76..], [0; 19]);
+    assert_eq!(calls[6..], [0; 3]);
+    assert_eq!(answers[80..], [0; 20]);
     for (calls, answers) in [(1, 4), (2, 3), (0, 4)] {
         let (run, c, a, e) = with_rooms(&question, calls, answers, 3);
         assert_eq!(run, Err(Unrun { refusal: Refusal::TablesFull, run: Run::default() }));
@@ -197,7 +197,7 @@ fn short_list_keeps_tables_and_counts() {
     let rules = left_recursion();
     let question = Question { fluents: 2, actions: 1, rules: &rules, goal: &[768], start: 0 };
     let (run, calls, answers, ends) = with_rooms(&question, 2, 4, 1);
-    let counts = Run { ends: 2, calls: 2, answers: 4 };
+    let counts = Run { ends: 2, calls: 2, answers: 4, rounds: 4 };
     assert_eq!(run, Err(Unrun { refusal: Refusal::ListShort, run: counts }));
     assert_eq!(ends, [MARK]);
     let (_, c, a, _) = with_rooms(&question, 2, 4, 2);
@@ -232,9 +232,9 @@ fn denial() {
     assert_eq!(refused, Unread { refusal: Refusal::Undefined, line: 3 });
     let asked = Question { fluents: 2, actions: 0, rules: &[], goal: &[1025], start: 1 };
     let (run, _, _, ends) = with_rooms(&asked, 2, 2, 2);
-    assert_eq!((run, ends), (Ok(Run { ends: 1, calls: 1, answers: 1 }), vec![1, MARK]));
+    assert_eq!((run, ends), (Ok(Run { ends: 1, calls: 1, answers: 1, rounds: 1 }), vec![1, MARK]));
     let (run, ..) = with_rooms(&Question { start: 2, ..asked }, 2, 2, 2);
-    assert_eq!(run, Ok(Run { ends: 0, calls: 1, answers: 0 }));
+    assert_eq!(run, Ok(Run { ends: 0, calls: 1, answers: 0, rounds: 0 }));
     for goal in [[1026], [1280]] {
         let (run, ..) = with_rooms(&Question { goal: &goal, ..asked }, 2, 2, 2);
         assert_eq!(run.unwrap_err().refusal, Refusal::BadGoal);
@@ -265,7 +265,7 @@ fn refusals_are_errors() {
         Ok(merge(first, second, &mut vec![0; room])?)
     }
     let said = |result: Result<_, Box<dyn Error>>| result.unwrap_err().to_string();
-    assert_eq!(asked(EXAMPLE, 1).unwrap(), Run { ends: 1, calls: 3, answers: 3 });
+    assert_eq!(asked(EXAMPLE, 1).unwrap(), Run { ends: 1, calls: 3, answers: 3, rounds: 5 });
     assert_eq!(said(asked(EXAMPLE, 0).map(drop)), "refused 31: the list has fewer places than there are ends, 1 in all");
     assert_eq!(said(asked(b"\n", 0).map(drop)), "refused 13: no record word, or one out of order, line 1");
     assert_eq!(said(asked(b"", 0).map(drop)), "refused 18: no start or no goal");
@@ -282,7 +282,7 @@ fn empty_slices() {
     assert_eq!(fluent_name(&[], 0), b"");
     let question = Question { fluents: 0, actions: 0, rules: &[], goal: &[], start: 0 };
     let (run, ..) = with_rooms(&question, 1, 1, 1);
-    assert_eq!(run, Ok(Run { ends: 1, calls: 1, answers: 1 }));
+    assert_eq!(run, Ok(Run { ends: 1, calls: 1, answers: 1, rounds: 1 }));
     assert_eq!(with_rooms(&question, 0, 0, 0).0.unwrap_err().refusal, Refusal::TablesFull);
 }
 
@@ -294,7 +294,7 @@ fn path_of_the_goals_answer() {
     let (run, calls, answers, _) = with_rooms(&question, 8, 8, 8);
     let run = run.unwrap();
     let records = Records { calls: &calls, call_count: run.calls, answers: &answers, answer_count: run.answers };
-    let goal = (0..run.answers).find(|x| calls[2 * answers[19 * x] as usize] == 64).unwrap();
+    let goal = (0..run.answers).find(|x| calls[CALL_WORDS * answers[ANSWER_WORDS * x] as usize] == 64).unwrap();
     let mut states = [MARK; 5];
     assert_eq!(path(&question, &records, goal, &mut states), Ok(4));
     assert_eq!(states, [0, 1, 3, 2, MARK]);
@@ -311,12 +311,52 @@ fn path_of_the_goals_answer() {
     assert_eq!(states, [MARK; 5]);
 }
 
+/// Drill D2's tables with the round of each record, and the rounds that the path refuses.
+#[test]
+fn rounds_of_records() {
+    let rules = left_recursion();
+    let question = Question { fluents: 2, actions: 1, rules: &rules, goal: &[768], start: 0 };
+    let (run, mut calls, mut answers, _) = with_rooms(&question, 2, 4, 2);
+    assert_eq!(run.unwrap().rounds, 4);
+    assert_eq!(calls, [64, 0, 0, 0, 0, 1]);
+    let records: Vec<&[u64]> = answers.chunks(ANSWER_WORDS).collect();
+    assert!(records.iter().map(|r| &r[..4]).eq([[1, 1, 1, 0], [0, 1, 256, 0], [1, 3, 0, 0], [0, 3, 256, 2]]));
+    assert!(records.iter().map(|r| r[19]).eq([2, 3, 3, 4]));
+    let shown = |calls: &[u64], answers: &[u64]| {
+        path(&question, &Records { calls, call_count: 2, answers, answer_count: 4 }, 3, &mut [MARK; 4])
+    };
+    (calls[2], answers[79]) = (MOST_CALL_ROUND, u64::MAX);
+    assert!(shown(&calls, &answers).is_ok());
+    calls[2] = MOST_CALL_ROUND + 1;
+    assert_eq!(shown(&calls, &answers), Err(Refusal::BadRecord));
+    (calls[2], answers[59]) = (0, answers[19]);
+    assert_eq!(shown(&calls, &answers), Err(Refusal::BadRecord));
+}
+
+/// How many rounds drills D3, D7, D8 and D9 take.
+#[test]
+fn rounds_of_drills() {
+    type Rules = &'static [&'static [u16]];
+    let drills: [(Rules, &[u16], usize); 4] = [
+        (&[&[0, 1, 768]], &[768], 1),
+        (&[&[0, 1, 256]], &[768, 1], 2),
+        (&[&[0, 2, 256, 768], &[0, 1, 0]], &[768], 5),
+        (&[&[0, 2, 256, 512], &[1, 2, 768, 768]], &[769], 5),
+    ];
+    for (given, goal, rounds) in drills {
+        let mut rules = vec![0; 18 * given.len()];
+        given.iter().zip(rules.chunks_mut(18)).for_each(|(words, rule)| rule[..words.len()].copy_from_slice(words));
+        let (run, ..) = with_rooms(&Question { fluents: 2, actions: 2, rules: &rules, goal, start: 0 }, 8, 8, 8);
+        assert_eq!(run.unwrap().rounds, rounds);
+    }
+}
+
 /// Drill D5: an insert of what holds is an update too, so its path has two states.
 #[test]
 fn path_of_an_idle_update() {
     let question = Question { fluents: 2, actions: 0, rules: &[], goal: &[256], start: 1 };
     let (run, calls, answers, _) = with_rooms(&question, 1, 1, 1);
-    assert_eq!(run, Ok(Run { ends: 1, calls: 1, answers: 1 }));
+    assert_eq!(run, Ok(Run { ends: 1, calls: 1, answers: 1, rounds: 1 }));
     let records = Records { calls: &calls, call_count: 1, answers: &answers, answer_count: 1 };
     let mut states = [MARK; 3];
     assert_eq!(path(&question, &records, 0, &mut states[..1]), Err(Refusal::StatesShort));
@@ -335,7 +375,7 @@ fn path_kept_by_fluent() {
     let (run, calls, answers, _) = with_rooms(&question, 8, 8, 8);
     let run = run.unwrap();
     let records = Records { calls: &calls, call_count: run.calls, answers: &answers, answer_count: run.answers };
-    let goal = (0..run.answers).find(|x| calls[2 * answers[19 * x] as usize] == 64).unwrap();
+    let goal = (0..run.answers).find(|x| calls[CALL_WORDS * answers[ANSWER_WORDS * x] as usize] == 64).unwrap();
     let mut states = [MARK; 6];
     let count = path(&question, &records, goal, &mut states).unwrap();
     assert_eq!(states, [0, 1, 0, 1, 0, MARK]);
@@ -389,7 +429,7 @@ fn refused_stores_leave_the_output() {
 fn class_of(starts: &[u64], words: usize, list: usize) -> (Result<(), Refusal>, Vec<u64>, Vec<u64>, Vec<u64>, Vec<u64>) {
     let rules = left_recursion();
     let question = Question { fluents: 2, actions: 1, rules: &rules, goal: &[768], start: 0 };
-    let (mut results, mut calls, mut answers, mut ends) = (vec![MARK; words], vec![MARK; 16], vec![MARK; 152], vec![MARK; list]);
+    let (mut results, mut calls, mut answers, mut ends) = (vec![MARK; words], vec![MARK; 24], vec![MARK; 160], vec![MARK; list]);
     let mut lent = Buffers { calls: &mut calls, answers: &mut answers, ends: &mut ends };
     let told = class(&question, starts, &mut results, &mut lent);
     (told, results, calls, answers, ends)
@@ -402,10 +442,13 @@ fn class_in_turn() {
     assert_eq!(results, [0, 2, 2, 4, 0, 1, 2, 2, 24, 0, 0, 0, 31, 2, 2, 4, MARK]);
     assert_eq!(ends, [1, 3, 3, MARK]);
     let outcomes: Vec<_> = outcomes(&results[..16], &ends).collect();
-    assert_eq!(outcomes[0].told, Ok(Run { ends: 2, calls: 2, answers: 4 }));
+    assert_eq!(outcomes[0].told, Ok(Counts { ends: 2, calls: 2, answers: 4 }));
     assert_eq!((outcomes[0].ends, outcomes[1].ends, outcomes[3].ends), (&[1, 3][..], &[3][..], &[][..]));
-    assert_eq!(outcomes[2].told, Err(Unrun { refusal: Refusal::BadStart, run: Run::default() }));
-    assert_eq!(outcomes[3].told, Err(Unrun { refusal: Refusal::ListShort, run: Run { ends: 2, calls: 2, answers: 4 } }));
+    assert_eq!(outcomes[2].told, Err(Uncounted { refusal: Refusal::BadStart, counts: Counts::default() }));
+    assert_eq!(
+        outcomes[3].told,
+        Err(Uncounted { refusal: Refusal::ListShort, counts: Counts { ends: 2, calls: 2, answers: 4 } })
+    );
     // The tables are those of start 1, as a single call leaves them.
     let rules = left_recursion();
     let last = Question { fluents: 2, actions: 1, rules: &rules, goal: &[768], start: 1 };
@@ -420,12 +463,14 @@ fn class_as_single_calls() {
     let starts: Vec<u64> = (0..1024).map(|i| i % 5).collect();
     let (told, results, calls, answers, ends) = class_of(&starts, 4096, 700);
     assert_eq!(told, Ok(()));
-    let (mut c, mut a, mut e) = (vec![MARK; 16], vec![MARK; 152], vec![MARK; 700]);
+    let (mut c, mut a, mut e) = (vec![MARK; 24], vec![MARK; 160], vec![MARK; 700]);
     let mut used = 0;
     for (start, outcome) in starts.iter().zip(outcomes(&results, &ends)) {
         let question = Question { fluents: 2, actions: 1, rules: &rules, goal: &[768], start: *start };
         let told = evaluate(&question, &mut Buffers { calls: &mut c, answers: &mut a, ends: &mut e[used..] });
-        assert_eq!(outcome.told, told);
+        let counts = |run: Run| Counts { ends: run.ends, calls: run.calls, answers: run.answers };
+        let single = told.map(counts).map_err(|refused| Uncounted { refusal: refused.refusal, counts: counts(refused.run) });
+        assert_eq!(outcome.told, single);
         let places = told.map_or(0, |run| run.ends);
         assert_eq!(outcome.ends, &e[used..used + places]);
         used += places;

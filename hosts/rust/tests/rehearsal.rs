@@ -43,7 +43,7 @@ fn example_sheets_have_ways_to_all_ends() {
 fn names_and_counts() {
     let rehearsal = Rehearsal::new(sheet("example")).unwrap();
     assert_eq!(rehearsal.names(), ["open", "lit"]);
-    assert_eq!((rehearsal.counts(), rehearsal.ends()), (Run { ends: 1, calls: 3, answers: 3 }, &[2][..]));
+    assert_eq!((rehearsal.counts(), rehearsal.ends()), (Run { ends: 1, calls: 3, answers: 3, rounds: 5 }, &[2][..]));
     assert_eq!(rehearsal.path(rehearsal.record(2).unwrap(), 4).unwrap(), Some(vec![0, 1, 3, 2]));
     assert_eq!(rehearsal.path(rehearsal.record(2).unwrap(), 3).unwrap(), None);
 }
@@ -66,7 +66,7 @@ fn a_denial_goes_on_where_the_fluent_does_not_hold() {
 #[test]
 fn rooms_grow_until_no_room_helps() {
     let rehearsal = Rehearsal::new(switches(14)).unwrap();
-    assert_eq!(rehearsal.counts(), Run { ends: 16_384, calls: 2, answers: 32_768 });
+    assert_eq!(rehearsal.counts(), Run { ends: 16_384, calls: 2, answers: 32_768, rounds: 17 });
     assert!(rehearsal.way_to(rehearsal.ends()[16_383]).unwrap().unwrap().whole);
     assert!(matches!(Rehearsal::new(switches(16)), Err(Trouble::TooLarge)));
 }

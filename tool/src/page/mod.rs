@@ -97,6 +97,7 @@ fn top(drill: &Drill) -> String {
             counts.answers,
             plural(counts.answers, "answer: a call and a state that finishes it", "answers: a call and a state that finishes it"),
         ),
+        fact(counts.rounds, plural(counts.rounds, "round: how deep the work went", "rounds: how deep the work went")),
     ];
     let believed = match n {
         0 => "<b>This procedure can never be finished from this start.</b> That there is no end is proved of the library that looked \

@@ -54,7 +54,7 @@ module _ (c : tie.After-evaluate Inv-loop μ-loop) where
   ask = asked (first .args .fluents) (first .args .actions) (first .args .rules .now) (first .args .goal .now)
 
   abbrev given : Told
-  given = told (c .evaluate .result .refusal) (c .evaluate .result .ends) (c .evaluate .result .calls) (c .evaluate .result .answers)
+  given = told (c .evaluate .result .refusal) (c .evaluate .result .ends) (c .evaluate .result .calls) (c .evaluate .result .answers) (c .evaluate .result .rounds)
 
   abbrev left : Lent
   left = lent (c .evaluate .last .1 .1 .1 .1 .1 .0) (c .evaluate .last .1 .1 .1 .1 .1 .1 .0) (c .evaluate .last .1 .1 .1 .1 .1 .1 .1 .0)

@@ -38,7 +38,7 @@ module _ (t : tie.After-tabulate) where
   answers-long = zero-long (length (i .args .answers .now)) (t .before .before .before .before .before .clear2 .ensures)
 
 returns : tie.Need-returns
-returns c = let e = c .before .refusal .ensures in not-accepted (λ z. c .if1 .taken (e ∙ z)) (ap (λ (n : ℕ). told n 0 0 0) e) refl
+returns c = let e = c .before .refusal .ensures in not-accepted (λ z. c .if1 .taken (e ∙ z)) (ap (λ (n : ℕ). told n 0 0 0 0) e) refl
 
 tabulate-requires : tie.Need-tabulate-requires
 tabulate-requires c κs =
@@ -55,20 +55,20 @@ returns-2 c =
     let at-if2 = at-clear3 .before .before in
     let place13 = at-if2 .before .before .before .before .before in
     let t = place13 in
-    let F = t .tabulate .ensures in
+    let F = t .tabulate .ensures .2 in
     let calls : at-clear3 .clear3 .last .0 ≡ replicate (length (i t .args .calls .now)) 0 = at-clear3 .clear3 .ensures ∙ ap (λ (n : ℕ). replicate n 0) (F .calls-long ∙ calls-long t) in
     let answers : c .before .before .clear4 .last .0 ≡ replicate (length (i t .args .answers .now)) 0 = c .before .before .clear4 .ensures ∙ ap (λ (n : ℕ). replicate n 0) (F .answers-long ∙ answers-long t) in
-    outgrown (ok t) (is-full (question (i t)) (buffers (i t)) (ok t) (calls-long t) (answers-long t) F (at-if2 .if2 .taken)) refl (λ k. lent (calls k) (answers k) (i t .args .ends .now))
+    outgrown (ok t) (is-full (question (i t)) (buffers (i t)) (ok t) (calls-long t) (answers-long t) (t .tabulate .ensures .1) F (at-if2 .if2 .taken)) refl (λ k. lent (calls k) (answers k) (i t .args .ends .now))
 
 find-call-requires : tie.Need-find-call-requires
 find-call-requires c κs = let k =
     let at-tabulate = c .before .before .before .before .before .before .before in
-    at-tabulate .tabulate .ensures .kept .calls-stored in (k .fits, k .most)
+    at-tabulate .tabulate .ensures .2 .kept .calls-stored in (k .fits, k .most)
 
 count-requires : tie.Need-count-requires
 count-requires c κs = let k =
     let at-tabulate = c .before .before .before .before .before .before .before .before .before in
-    at-tabulate .tabulate .ensures .kept .answers-stored in (k .fits, k .most)
+    at-tabulate .tabulate .ensures .2 .kept .answers-stored in (k .fits, k .most)
 
 -- the record of the goal's call
 goal-found : (c : tie.After-count) → FindCall (call-table (c .before .before .before .before .before .before .before .before .before .before .tabulate .last .1 .1 .1 .0) (c .before .before .before .before .before .before .before .before .before .before .tabulate .result .calls)) Goal (c .before .before .before .before .before .before .before .before .before .before .before .before .before .before .before .before .before .before .before .before .before .before .before .before .before .before .before .before .args .start) (c .before .before .find-call .result)
@@ -79,7 +79,7 @@ returns-3 c =
     let at-if2 = c .before .before .before .before .before .before in
     let place11 = at-if2 .before .before .before .before .before in
     let t = place11 in
-    is-short (question (i t)) (buffers (i t)) (ok t) (calls-long t) (answers-long t) (t .tabulate .ensures) (at-if2 .if2 .left) (goal-found (c .before)) (c .before .count .ensures) (c .if3 .taken)
+    is-short (question (i t)) (buffers (i t)) (ok t) (calls-long t) (answers-long t) (t .tabulate .ensures .1) (t .tabulate .ensures .2) (at-if2 .if2 .left) (goal-found (c .before)) (c .before .count .ensures) (c .if3 .taken)
 
 list-requires : tie.Need-list-requires
 list-requires c κs =
@@ -87,8 +87,8 @@ list-requires c κs =
     let at-if2 = at-count .before .before .before .before .before in
     let place13 = at-if2 .before .before .before .before .before in
     let t = place13 in
-    let k = t .tabulate .ensures .kept .answers-stored in
-    ((k .fits, k .most, omega (arith, at-count .count .ensures, c .before .before .if3 .left)), answers-once (question (i t)) (buffers (i t)) (ok t) (calls-long t) (answers-long t) (t .tabulate .ensures) (at-if2 .if2 .left))
+    let k = t .tabulate .ensures .2 .kept .answers-stored in
+    ((k .fits, k .most, omega (arith, at-count .count .ensures, c .before .before .if3 .left)), answers-once (question (i t)) (buffers (i t)) (ok t) (calls-long t) (answers-long t) (t .tabulate .ensures .1) (t .tabulate .ensures .2) (at-if2 .if2 .left))
 
 returns-4 : tie.Need-returns-4
 returns-4 c =
@@ -96,7 +96,25 @@ returns-4 c =
     let place6 = at-if3 .before in
     let n = place6 in
     let t = n .before .before .before .before .before .before .before .before .before .before in
-    is-listed (question (i t)) (buffers (i t)) (ok t) (calls-long t) (answers-long t) (t .tabulate .ensures) (n .before .before .before .before .before .if2 .left) (goal-found n) (n .count .ensures) (at-if3 .if3 .left) (c .before .before .list .ensures)
+    is-listed (question (i t)) (buffers (i t)) (ok t) (calls-long t) (answers-long t) (t .tabulate .ensures .1) (t .tabulate .ensures .2) (n .before .before .before .before .before .if2 .left) (goal-found n) (n .count .ensures) (at-if3 .if3 .left) (c .before .before .list .ensures)
+
+same-length : tie.Need-same-length
+same-length c = let t = c .before .before .before .before .before .before .before .before .before .before .before .before .before in zero-long _ (c .before .before .before .before .before .before .clear3 .ensures) ∙ t .tabulate .ensures .2 .calls-long ∙ calls-long t
+
+same-length-2 : tie.Need-same-length-2
+same-length-2 c = let t = c .before .before .before .before .before .before .before .before .before .before .before .before .before in zero-long _ (c .before .before .clear4 .ensures) ∙ t .tabulate .ensures .2 .answers-long ∙ answers-long t
+
+same-length-3 : tie.Need-same-length-3
+same-length-3 c = let t = c .before .before .before .before .before .before .before .before .before .before .before in t .tabulate .ensures .2 .calls-long ∙ calls-long t
+
+same-length-4 : tie.Need-same-length-4
+same-length-4 c = let t = c .before .before .before .before .before .before .before .before .before .before .before in t .tabulate .ensures .2 .answers-long ∙ answers-long t
+
+same-length-5 : tie.Need-same-length-5
+same-length-5 c = let t = c .before .before .before .before .before .before .before .before .before .before .before .before .before .before .before .before in t .tabulate .ensures .2 .calls-long ∙ calls-long t
+
+same-length-6 : tie.Need-same-length-6
+same-length-6 c = let t = c .before .before .before .before .before .before .before .before .before .before .before .before .before .before .before .before in t .tabulate .ensures .2 .answers-long ∙ answers-long t
 
 pub evaluate-spec : {M : Type 1} → statement M
 evaluate-spec =
@@ -109,17 +127,17 @@ evaluate-spec =
     tabulate-requires
     (λ c κs. search needs)
     (λ c κs. search needs)
-    (λ c. search needs)
-    (λ c. search needs)
+    same-length
+    same-length-2
     returns-2
     (λ c κs. search needs)
     find-call-requires
     count-requires
-    (λ c. search needs)
-    (λ c. search needs)
+    same-length-3
+    same-length-4
     returns-3
     list-requires
-    (λ c. search needs)
-    (λ c. search needs)
+    same-length-5
+    same-length-6
     (λ c. search needs)
     returns-4)

@@ -14,7 +14,8 @@ use Rattle.notes.proofs.MarksLaws.{zeros-stamped, zeros-at}
 use Rattle.notes.proofs.IndexLaws.{call-index-none, answer-index-none}
 use Rattle.loops.proofs.Going.{in-words}
 use Rattle.loops.proofs.Filling.{first-valid, first-full}
-use Rattle.evaluator.proofs.Outcomes.{zeros-stored}
+use Rattle.canonical.proofs.Telling.{Begins}
+use Rattle.evaluator.proofs.Outcomes.{zeros-stored, first-begins}
 use Rattle.evaluator.proofs.tabulate.Statement.{statement}
 use Rattle.evaluator.proofs.tabulate.Tie as tie
 
@@ -26,7 +27,7 @@ add-call-requires : tie.Need-add-call-requires
 add-call-requires c κs = let i = c .before .before .before .before .before .before .before in (zeros-stored call-width _ (i .pre .1 .0), call-index-none (call-table (i .args .calls .now) 0) _ refl (length-replicate {A = ℕ} 122880 0))
 
 -- the goal's call
-put-at : (c : tie.After-add-call) → CallPut (room call-width (length (c .before .before .before .before .before .before .before .before .args .calls .now))) (call-table (c .before .before .before .before .before .before .before .before .args .calls .now) 0) Goal (c .before .before .before .before .before .before .before .before .args .start) (call-table (c .add-call .last .0) (c .add-call .result .count)) (c .add-call .result .row) (c .add-call .result .full)
+put-at : (c : tie.After-add-call) → CallPut (room call-width (length (c .before .before .before .before .before .before .before .before .args .calls .now))) (call-table (c .before .before .before .before .before .before .before .before .args .calls .now) 0) Goal (c .before .before .before .before .before .before .before .before .args .start) 0 (call-table (c .add-call .last .0) (c .add-call .result .count)) (c .add-call .result .row) (c .add-call .result .full)
 put-at c = rw (← c .before .goal .ensures .0, ← c .before .goal .ensures .1) (c .add-call .ensures .0 .put)
 
 same-length : tie.Need-same-length
@@ -36,14 +37,18 @@ returns : tie.Need-returns
 returns c =
     let p = c .before .before .before .before in
     let i = start p in
-    let s = p .add-call .ensures .0 in
-    record {
-      calls-long = s .long;
-      answers-long = refl;
-      kept = record { calls-stored = s .stored; answers-stored = zeros-stored answer-width _ (i .pre .1 .1) };
-      closed = λ e. absurd (true-not-false e);
-      outgrown = λ e. first-full (bodies-of (i .args .rules .now) (i .args .goal .now)) Goal (i .args .start) _ (call-table (i .args .calls .now) 0) (call-table (p .add-call .last .0) (p .add-call .result .count)) _ _ _ (put-at p) (c .if1 .taken) refl;
-    }
+    let s = p .add-call .ensures .0 in (
+      in-words (i .args .calls .now) 0 (i .args .answers .now) 0,
+      λ e. absurd (true-not-false e),
+      record {
+        calls-long = s .long;
+        answers-long = refl;
+        kept = record { calls-stored = s .stored; answers-stored = zeros-stored answer-width _ (i .pre .1 .1) };
+        closed = λ e. absurd (true-not-false e);
+        rounded = λ e. absurd (true-not-false e);
+        outgrown = λ e. first-full (bodies-of (i .args .rules .now) (i .args .goal .now)) Goal (i .args .start) _ 0 (call-table (i .args .calls .now) 0) (call-table (p .add-call .last .0) (p .add-call .result .count)) _ _ _ (put-at p) (c .if1 .taken) refl;
+      },
+    )
 
 -- the first table is valid
 first : (c : tie.Else1) → Valid (bodies-of (start (c .before .before .before .before) .args .rules .now) (start (c .before .before .before .before) .args .goal .now)) (Among ((Goal, start (c .before .before .before .before) .args .start) ∷ []))
@@ -51,7 +56,15 @@ first : (c : tie.Else1) → Valid (bodies-of (start (c .before .before .before .
 first c =
     let p = c .before .before .before .before in
     let i = start p in
-    first-valid (bodies-of (i .args .rules .now) (i .args .goal .now)) Goal (i .args .start) _ (call-table (i .args .calls .now) 0) (call-table (p .add-call .last .0) (p .add-call .result .count)) (answer-table (i .args .answers .now) 0) _ _ (put-at p) (c .if1 .left) refl refl
+    first-valid (bodies-of (i .args .rules .now) (i .args .goal .now)) Goal (i .args .start) _ 0 (call-table (i .args .calls .now) 0) (call-table (p .add-call .last .0) (p .add-call .result .count)) (answer-table (i .args .answers .now) 0) _ _ (put-at p) (c .if1 .left) refl refl
+
+-- the goal's call stands alone, at round 0
+begins : (c : tie.Else1) → Begins (start (c .before .before .before .before) .args .start)
+    (in-words (c .before .before .before .before .add-call .last .0) (c .before .before .before .before .add-call .result .count) (start (c .before .before .before .before) .args .answers .now) 0)
+begins c =
+    let p = c .before .before .before .before in
+    let i = start p in
+    first-begins _ (call-table (i .args .calls .now) 0) (call-table (p .add-call .last .0) (p .add-call .result .count)) (answer-table (i .args .answers .now) 0) _ _ (put-at p) (c .if1 .left) refl refl
 
 fill-requires : tie.Need-fill-requires
 fill-requires c κs =
@@ -64,7 +77,8 @@ fill-requires c κs =
         zeros-stamped 65536 0 refl (omega arith),
         omega arith,
         length-replicate {A = ℕ} 327680 0,
-        λ k. zeros-at 327680 (196609 + call-width * k),
+        λ k. zeros-at 327680 (196609 + 2 * k),
+        λ x l. absurd (omega arith),
       ),
       (i .pre .0, ((Goal, i .args .start) ∷ [], first e)),
     )
@@ -84,7 +98,7 @@ returns-2 c =
     let i = start (e .before .before .before .before) in
     let F = f .fill .ensures ((Goal, i .args .start) ∷ []) (first e) in
     let long = e .before .before .before .before .add-call .ensures .0 .long in
-    record { calls-long = F .calls-long ∙ long; answers-long = F .answers-long; kept = F .kept; closed = F .closed; outgrown = λ z. rw long at (F .outgrown z) }
+    (_, λ z. begins e, record { calls-long = F .calls-long ∙ long; answers-long = F .answers-long; kept = F .kept; closed = F .closed; rounded = F .rounded; outgrown = λ z. rw long at (F .outgrown z) })
 
 pub tabulate-spec : {M : Type 1} → statement M
 tabulate-spec =

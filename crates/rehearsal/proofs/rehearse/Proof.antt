@@ -11,7 +11,7 @@ use Rattle.rehearsal.proofs.rehearse.Statement.{statement}
 use Rattle.rehearsal.proofs.rehearse.Tie as tie
 
 abbrev refusal-at : Sheet → Rehearsal
-refusal-at x = record { refusal = x .refusal; line = x .line; ends = 0; calls = 0; answers = 0 }
+refusal-at x = record { refusal = x .refusal; line = x .line; ends = 0; calls = 0; answers = 0; rounds = 0 }
 
 -- the sheet is accepted
 read : (c : tie.Else1) → Read (c .before .before .before .before .before .before .before .args .text .now) (c .before .before .before .read .last .1 .0) (c .before .before .before .read .result)

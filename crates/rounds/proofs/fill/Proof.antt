@@ -1,5 +1,5 @@
 -- `fill` meets its contract. The invariant of its rounds is `Rounding`; the measure is the room left. Assumes nothing.
-use Prim.Native.Nat.{ℕ, _+_, _-_}
+use Prim.Native.Nat.{ℕ, suc, _+_, _-_}
 use native.Mathlib.Omega.{arith}
 use mathlib.Core.Path.{_≡_, refl, sym, _∙_}
 use mathlib.Core.List.{List}
@@ -7,16 +7,20 @@ use lib.ListN.{length}
 use Rattle.steps.proofs.EachBelow.{true-not-false}
 use Rattle.loops.proofs.Rounds.{round-start}
 use Rattle.loops.proofs.Filling.{Rounding}
+use Rattle.tabling.proofs.Found.{begun, went}
 use borrow.Author.Needs.{needs}
 use Rattle.rounds.proofs.fill.Statement.{statement}
 use Rattle.rounds.proofs.fill.Tie as tie
 
 abbrev Inv-loop : tie.InvT-loop
-Inv-loop rules goal calls₀ n0 call-index₀ answers₀ m0 answer-index₀ first marks₀ uses₀ n₀ m₀ walked₀ seen₀ walk₀ calls call-index answers answer-index marks uses n m walked seen walk =
-    Rounding rules goal first calls₀ n₀ answers₀ m₀ uses₀ walked seen calls n call-index answers m answer-index marks walk uses
+Inv-loop rules goal calls₀ n0 call-index₀ answers₀ m0 answer-index₀ first marks₀ uses₀ n₀ m₀ walked₀ seen₀ walk₀ rounds₀ calls call-index answers answer-index marks uses n m walked seen walk rounds =
+    Rounding rules goal first calls₀ n₀ answers₀ m₀ uses₀ rounds walked seen calls n call-index answers m answer-index marks walk uses
 
 abbrev μ-loop : tie.MeasureT-loop
-μ-loop rules goal calls₀ n0 call-index₀ answers₀ m0 answer-index₀ first marks₀ uses₀ n₀ m₀ walked₀ seen₀ walk₀ calls call-index answers answer-index marks uses n m walked seen walk = 131072 - (n + m)
+μ-loop rules goal calls₀ n0 call-index₀ answers₀ m0 answer-index₀ first marks₀ uses₀ n₀ m₀ walked₀ seen₀ walk₀ rounds₀ calls call-index answers answer-index marks uses n m walked seen walk rounds = 131072 - (n + m)
+
+plus-one : (n : ℕ) → n + 1 ≡ suc n
+plus-one n = omega arith
 
 loop-holds : tie.Need-loop-holds Inv-loop μ-loop
 loop-holds c =
@@ -30,13 +34,16 @@ loop-holds c =
       uses-long = refl;
       stale = λ k. omega (arith, i .pre .0 .5 k);
       stamped = i .pre .0 .2;
+      few = omega arith;
+      sooner = λ x l. omega (arith, i .pre .0 .6 x l);
+      rounded = λ _. begun;
       round = λ roots v. round-start _ _ (i .args .first) _ v (i .pre .0 .3);
     }
 
 round-requires : tie.Need-round-requires Inv-loop μ-loop
 round-requires c κs =
     let at-loop = c .before .before .before .before .before .before in
-    let place15 = at-loop .before .before .before .before .before .before .before .before .before in
+    let place15 = c .before .before .before .before .before .before .before .before .before .before .before .before .before .before .before in
     let i = place15 in
     let l = at-loop .loop .inv in
     let (fluents, actions, words) = i .pre .1 .0 in
@@ -50,6 +57,7 @@ round-requires c κs =
       stamped = l .stamped;
       uses-long = l .uses-long ∙ i .pre .0 .4;
       stale = l .stale;
+      sooner = l .sooner;
       roots = roots;
       round = l .round roots valid;
     }
@@ -57,44 +65,44 @@ round-requires c κs =
 same-length : tie.Need-same-length Inv-loop μ-loop
 same-length c =
     let at-round = c .before .before .before .before .before .before .before .before .before .before .before .before .before in
-    let at-loop = at-round .before .before .before .before .before .before .before in
+    let at-loop = c .before .before .before .before .before .before .before .before .before .before .before .before .before .before .before .before .before .before .before .before in
     at-round .round .ensures .calls-long ∙ at-loop .loop .inv .calls-long
 
 same-length-2 : tie.Need-same-length-2 Inv-loop μ-loop
 same-length-2 c =
     let at-round = c .before .before .before .before .before .before .before .before .before .before .before .before .before in
-    let entry = at-round .before .before .before .before .before .before .before .before .before .before .before .before .before .before .before .before in
+    let entry = c .before .before .before .before .before .before .before .before .before .before .before .before .before .before .before .before .before .before .before .before .before .before .before .before .before .before .before .before .before in
     at-round .round .ensures .indexed .of-calls .long ∙ sym (entry .pre .0 .1 .of-calls .long)
 
 same-length-3 : tie.Need-same-length-3 Inv-loop μ-loop
 same-length-3 c =
     let at-round = c .before .before .before .before .before .before .before .before .before .before .before .before .before in
-    let at-loop = at-round .before .before .before .before .before .before .before in
+    let at-loop = c .before .before .before .before .before .before .before .before .before .before .before .before .before .before .before .before .before .before .before .before in
     at-round .round .ensures .answers-long ∙ at-loop .loop .inv .answers-long
 
 same-length-4 : tie.Need-same-length-4 Inv-loop μ-loop
 same-length-4 c =
     let at-round = c .before .before .before .before .before .before .before .before .before .before .before .before .before in
-    let entry = at-round .before .before .before .before .before .before .before .before .before .before .before .before .before .before .before .before in
+    let entry = c .before .before .before .before .before .before .before .before .before .before .before .before .before .before .before .before .before .before .before .before .before .before .before .before .before .before .before .before .before in
     at-round .round .ensures .indexed .of-answers .long ∙ sym (entry .pre .0 .1 .of-answers .long)
 
 same-length-5 : tie.Need-same-length-5 Inv-loop μ-loop
 same-length-5 c =
     let at-round = c .before .before .before .before .before .before .before .before .before .before .before .before .before in
-    let at-loop = at-round .before .before .before .before .before .before .before in
-    let entry = at-loop .before .before .before .before .before .before .before .before .before in
+    let at-loop = c .before .before .before .before .before .before .before .before .before .before .before .before .before .before .before .before .before .before .before .before in
+    let entry = c .before .before .before .before .before .before .before .before .before .before .before .before .before .before .before .before .before .before .before .before .before .before .before .before .before .before .before .before .before in
     at-round .round .kept .1 .1 .1 .1 .1 .1 .1 .1 .0 ∙ at-loop .loop .inv .stamped .long ∙ sym (entry .pre .0 .2 .long)
 
 same-length-6 : tie.Need-same-length-6 Inv-loop μ-loop
 same-length-6 c =
     let at-round = c .before .before .before .before .before .before .before .before .before .before .before .before .before in
-    let at-loop = at-round .before .before .before .before .before .before .before in
+    let at-loop = c .before .before .before .before .before .before .before .before .before .before .before .before .before .before .before .before .before .before .before .before in
     at-round .round .ensures .uses-long ∙ at-loop .loop .inv .uses-long
 
 returns : tie.Need-returns Inv-loop μ-loop
 returns c =
     let at-round = c .before .before .before .before .before .before .before .before .before .before .before .before .before in
-    let at-loop = at-round .before .before .before .before .before .before .before in
+    let at-loop = c .before .before .before .before .before .before .before .before .before .before .before .before .before .before .before .before .before .before .before .before in
     λ roots v.
     (let w = at-round .round .ensures in
     let l = at-loop .loop .inv in
@@ -103,8 +111,15 @@ returns c =
       answers-long = w .answers-long ∙ l .answers-long;
       kept = w .kept;
       closed = λ e. absurd (true-not-false e);
+      rounded = λ e. absurd (true-not-false e);
       outgrown = λ _. rw (l .calls-long, l .answers-long) at (w .outgrown (c .if1 .taken) roots (l .round roots v));
     })
+
+add-t22 : tie.Need-add-t22 Inv-loop μ-loop
+add-t22 c = let l = c .loop .inv in omega (arith, l .few, l .kept .calls-stored .most, l .kept .answers-stored .most)
+
+add-rounds : tie.Need-add-rounds Inv-loop μ-loop
+add-rounds c = let l = c .before .before .before .before .before .before .before .before .before .before .before .before .before .before .before .before .before .before .before .before .before .loop .inv in omega (arith, l .few, l .kept .calls-stored .most, l .kept .answers-stored .most)
 
 add-if2 : tie.Need-add-if2 Inv-loop μ-loop
 add-if2 c = let k =
@@ -119,43 +134,43 @@ add-if2-2 c = let k =
 same-length-7 : tie.Need-same-length-7 Inv-loop μ-loop
 same-length-7 c =
     let at-round = c .before .before .before .before .before .before .before .before .before .before .before .before .before .before in
-    let at-loop = at-round .before .before .before .before .before .before .before in
+    let at-loop = c .before .before .before .before .before .before .before .before .before .before .before .before .before .before .before .before .before .before .before .before .before in
     at-round .round .ensures .calls-long ∙ at-loop .loop .inv .calls-long
 
 same-length-8 : tie.Need-same-length-8 Inv-loop μ-loop
 same-length-8 c =
     let at-round = c .before .before .before .before .before .before .before .before .before .before .before .before .before .before in
-    let entry = at-round .before .before .before .before .before .before .before .before .before .before .before .before .before .before .before .before in
+    let entry = c .before .before .before .before .before .before .before .before .before .before .before .before .before .before .before .before .before .before .before .before .before .before .before .before .before .before .before .before .before .before in
     at-round .round .ensures .indexed .of-calls .long ∙ sym (entry .pre .0 .1 .of-calls .long)
 
 same-length-9 : tie.Need-same-length-9 Inv-loop μ-loop
 same-length-9 c =
     let at-round = c .before .before .before .before .before .before .before .before .before .before .before .before .before .before in
-    let at-loop = at-round .before .before .before .before .before .before .before in
+    let at-loop = c .before .before .before .before .before .before .before .before .before .before .before .before .before .before .before .before .before .before .before .before .before in
     at-round .round .ensures .answers-long ∙ at-loop .loop .inv .answers-long
 
 same-length-10 : tie.Need-same-length-10 Inv-loop μ-loop
 same-length-10 c =
     let at-round = c .before .before .before .before .before .before .before .before .before .before .before .before .before .before in
-    let entry = at-round .before .before .before .before .before .before .before .before .before .before .before .before .before .before .before .before in
+    let entry = c .before .before .before .before .before .before .before .before .before .before .before .before .before .before .before .before .before .before .before .before .before .before .before .before .before .before .before .before .before .before in
     at-round .round .ensures .indexed .of-answers .long ∙ sym (entry .pre .0 .1 .of-answers .long)
 
 same-length-11 : tie.Need-same-length-11 Inv-loop μ-loop
 same-length-11 c =
     let at-round = c .before .before .before .before .before .before .before .before .before .before .before .before .before .before in
-    let entry = at-round .before .before .before .before .before .before .before .before .before .before .before .before .before .before .before .before in
+    let entry = c .before .before .before .before .before .before .before .before .before .before .before .before .before .before .before .before .before .before .before .before .before .before .before .before .before .before .before .before .before .before in
     at-round .round .ensures .stamped (c .before .if1 .left) .long ∙ sym (entry .pre .0 .2 .long)
 
 same-length-12 : tie.Need-same-length-12 Inv-loop μ-loop
 same-length-12 c =
     let at-round = c .before .before .before .before .before .before .before .before .before .before .before .before .before .before in
-    let at-loop = at-round .before .before .before .before .before .before .before in
+    let at-loop = c .before .before .before .before .before .before .before .before .before .before .before .before .before .before .before .before .before .before .before .before .before in
     at-round .round .ensures .uses-long ∙ at-loop .loop .inv .uses-long
 
 returns-2 : tie.Need-returns-2 Inv-loop μ-loop
 returns-2 c =
     let at-round = c .before .before .before .before .before .before .before .before .before .before .before .before .before .before in
-    let at-loop = at-round .before .before .before .before .before .before .before in
+    let at-loop = c .before .before .before .before .before .before .before .before .before .before .before .before .before .before .before .before .before .before .before .before .before in
     λ roots v.
     (let w = at-round .round .ensures in
     let l = at-loop .loop .inv in
@@ -164,6 +179,8 @@ returns-2 c =
       answers-long = w .answers-long ∙ l .answers-long;
       kept = w .kept;
       closed = λ _. w .next (c .before .if1 .left) roots (l .round roots v) .1 (c .if2 .taken);
+      rounded = λ _ z.
+          record { last = _; rounds = l .rounded z; still = rw (plus-one (at-loop .loop .rounds)) at (w .rounded (c .before .if1 .left) z); same = sym (c .if2 .taken) };
       outgrown = λ e. absurd (true-not-false (sym e));
     })
 
@@ -176,7 +193,7 @@ loop-less c =
 loop-again : tie.Need-loop-again Inv-loop μ-loop
 loop-again c =
     let at-round = c .before .before .before .before .before .before .before .before .before .before .before .before .before .before in
-    let at-loop = at-round .before .before .before .before .before .before .before in
+    let at-loop = c .before .before .before .before .before .before .before .before .before .before .before .before .before .before .before .before .before .before .before .before .before in
     let w = at-round .round .ensures in
     let l = at-loop .loop .inv in
     let no = c .before .if1 .left in
@@ -188,6 +205,9 @@ loop-again c =
       uses-long = w .uses-long ∙ l .uses-long;
       stale = w .stale;
       stamped = w .stamped no;
+      few = omega (arith, l .few, w .rows-in no, w .known-in no, c .if2 .left);
+      sooner = w .sooner no;
+      rounded = λ z. rw (plus-one (at-loop .loop .rounds)) (went (l .rounded z) (rw (plus-one (at-loop .loop .rounds)) at (w .rounded no z)) (omega (arith, w .rows-in no, w .known-in no, c .if2 .left)));
       round = λ roots v. w .next no roots (l .round roots v) .0;
     }
 
@@ -198,6 +218,7 @@ fill-spec =
     Inv-loop
     μ-loop
     loop-holds
+    add-t22
     round-requires
     same-length
     same-length-2
@@ -215,5 +236,6 @@ fill-spec =
     same-length-11
     same-length-12
     returns-2
+    add-rounds
     loop-less
     loop-again)

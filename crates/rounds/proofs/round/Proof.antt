@@ -18,45 +18,45 @@ use Rattle.notes.proofs.MarksLaws.{zeros-at}
 use Rattle.tabling.proofs.Measure.{left}
 use Rattle.records.specs.Bodies.{number-at}
 use Rattle.records.proofs.Numbers.{numbers-all, proper-of}
-use Rattle.loops.proofs.Turn.{before, Given, turn-start, body-short}
+use Rattle.loops.proofs.Turn.{Begin, begin, before, Given, turn-start, body-short}
 use Rattle.walk.specs.Leaving.{spot-of}
 use Rattle.records.proofs.Growth.{Tables}
 use Rattle.loops.proofs.Cold.{Past}
 use Rattle.loops.proofs.Going.{in-words, Going, going-start, going-on, going-back, going-fits, on-less, back-less}
-use Rattle.loops.proofs.Rounds.{Round, Rows, Rules, round-kept, rows-past, rows-start, rows-round, rows-passed, rules-start, rules-skip, rules-next, rows-next, rows-finished}
+use Rattle.loops.proofs.Rounds.{Round, Rows, Rules, round-kept, rows-past, rows-start, rows-round, rows-passed, rules-start, rules-skip, rules-next, rows-next, rows-finished, rows-rounded, rows-sooner}
 use Rattle.loops.proofs.Filling.{Begins, RowsDone, RulesDone, Walked}
 use borrow.Author.Needs.{needs}
 use Rattle.rounds.proofs.round.Statement.{statement}
 use Rattle.rounds.proofs.round.Tie as tie
 
 abbrev Inv-loop3 : tie.InvT-loop3
-Inv-loop3 rules goal first calls₀ call-index₀ answers₀ answer-index₀ marks₀ uses₀ count rows known walked seen span low high top n₀ m₀ walk row rule number job body chosen₀ rest₀ spot₀ rule-end calls call-index answers answer-index marks uses n m chosen rest spot =
-    Walked rules goal first calls₀ n₀ answers₀ m₀ uses₀ (job .known) (job .rule) (job .row) (job .walk) (job .old) (job .seen) (job .warm) body calls n call-index answers m answer-index marks uses chosen rest (spot-of spot)
+Inv-loop3 rules goal first calls₀ call-index₀ answers₀ answer-index₀ marks₀ uses₀ count rows known walked seen round span low high top n₀ m₀ walk row rule number job body chosen₀ rest₀ spot₀ rule-end calls call-index answers answer-index marks uses n m chosen rest spot =
+    Walked rules goal first calls₀ n₀ answers₀ m₀ uses₀ (job .known) (job .rule) (job .row) (job .walk) (job .old) (job .seen) (job .warm) (job .round) body calls n call-index answers m answer-index marks uses chosen rest (spot-of spot)
 
 abbrev μ-loop3 : tie.MeasureT-loop3
-μ-loop3 rules goal first calls₀ call-index₀ answers₀ answer-index₀ marks₀ uses₀ count rows known walked seen span low high top n₀ m₀ walk row rule number job body chosen₀ rest₀ spot₀ rule-end calls call-index answers answer-index marks uses n m chosen rest spot =
+μ-loop3 rules goal first calls₀ call-index₀ answers₀ answer-index₀ marks₀ uses₀ count rows known walked seen round span low high top n₀ m₀ walk row rule number job body chosen₀ rest₀ spot₀ rule-end calls call-index answers answer-index marks uses n m chosen rest spot =
     left (job .known) chosen (length body - length rest)
 
 abbrev Inv-loop2 : tie.InvT-loop2
-Inv-loop2 rules goal first calls₀ call-index₀ answers₀ answer-index₀ marks₀ uses₀ count rows known walked seen span low high top n₀ m₀ walk₀ row rule₀ rule-end calls call-index answers answer-index marks uses n m walk rule =
-    RulesDone rules goal first calls₀ n₀ answers₀ m₀ uses₀ walked seen low high top (span .old) (span .warm) rows known row rule calls n call-index answers m answer-index marks uses walk
+Inv-loop2 rules goal first calls₀ call-index₀ answers₀ answer-index₀ marks₀ uses₀ count rows known walked seen round span low high top n₀ m₀ walk₀ row rule₀ rule-end calls call-index answers answer-index marks uses n m walk rule =
+    RulesDone rules goal first calls₀ n₀ answers₀ m₀ uses₀ walked seen low high top (span .old) (span .warm) round rows known row rule calls n call-index answers m answer-index marks uses walk
 
 abbrev μ-loop2 : tie.MeasureT-loop2
-μ-loop2 rules goal first calls₀ call-index₀ answers₀ answer-index₀ marks₀ uses₀ count rows known walked seen span low high top n₀ m₀ walk₀ row rule₀ rule-end calls call-index answers answer-index marks uses n m walk rule = rule-end - rule
+μ-loop2 rules goal first calls₀ call-index₀ answers₀ answer-index₀ marks₀ uses₀ count rows known walked seen round span low high top n₀ m₀ walk₀ row rule₀ rule-end calls call-index answers answer-index marks uses n m walk rule = rule-end - rule
 
 abbrev Inv-loop : tie.InvT-loop
-Inv-loop rules goal first calls₀ call-index₀ answers₀ answer-index₀ marks₀ uses₀ count rows known walked seen span low high top n₀ m₀ walk₀ row₀ calls call-index answers answer-index marks uses n m walk row =
-    RowsDone rules goal first calls₀ n₀ answers₀ m₀ uses₀ walked seen low high top (span .old) (span .warm) rows known row calls n call-index answers m answer-index marks uses walk
+Inv-loop rules goal first calls₀ call-index₀ answers₀ answer-index₀ marks₀ uses₀ count rows known walked seen round span low high top n₀ m₀ walk₀ row₀ calls call-index answers answer-index marks uses n m walk row =
+    RowsDone rules goal first calls₀ n₀ answers₀ m₀ uses₀ walked seen low high top (span .old) (span .warm) round rows known row calls n call-index answers m answer-index marks uses walk
 
 abbrev μ-loop : tie.MeasureT-loop
-μ-loop rules goal first calls₀ call-index₀ answers₀ answer-index₀ marks₀ uses₀ count rows known walked seen span low high top n₀ m₀ walk₀ row₀ calls call-index answers answer-index marks uses n m walk row = top - row
+μ-loop rules goal first calls₀ call-index₀ answers₀ answer-index₀ marks₀ uses₀ count rows known walked seen round span low high top n₀ m₀ walk₀ row₀ calls call-index answers answer-index marks uses n m walk row = top - row
 
 abbrev Inv-round : tie.InvT-round
-Inv-round rules goal first calls₀ call-index₀ answers₀ answer-index₀ marks₀ uses₀ count rows known walked seen span low high top n₀ m₀ walk₀ calls call-index answers answer-index marks uses n m walk =
-    Begins rules goal first calls₀ n₀ answers₀ m₀ uses₀ walked seen low high top (span .old) (span .warm) rows known calls n call-index answers m answer-index marks uses walk
+Inv-round rules goal first calls₀ call-index₀ answers₀ answer-index₀ marks₀ uses₀ count rows known walked seen round span low high top n₀ m₀ walk₀ calls call-index answers answer-index marks uses n m walk =
+    Begins rules goal first calls₀ n₀ answers₀ m₀ uses₀ walked seen low high top (span .old) (span .warm) round rows known calls n call-index answers m answer-index marks uses walk
 
 abbrev μ-round : tie.MeasureT-round
-μ-round rules goal first calls₀ call-index₀ answers₀ answer-index₀ marks₀ uses₀ count rows known walked seen span low high top n₀ m₀ walk₀ calls call-index answers answer-index marks uses n m walk = 0
+μ-round rules goal first calls₀ call-index₀ answers₀ answer-index₀ marks₀ uses₀ count rows known walked seen round span low high top n₀ m₀ walk₀ calls call-index answers answer-index marks uses n m walk = 0
 
 -- ---- places
 
@@ -83,7 +83,7 @@ First i roots = Round (bodies-of (i .args .rules .now) (i .args .goal .now)) (Am
 -- the call records walked so far in the round
 rows-at : (l : AtLoop) (rs : List (ℕ × ℕ)) → First (l .before .before .before .before .before .before .before .before .before .before .before .before .before .before .before) rs
     → Rows (bodies-of (l .before .before .before .before .before .before .before .before .before .before .before .before .before .before .before .args .rules .now) (l .before .before .before .before .before .before .before .before .before .before .before .before .before .before .before .args .goal .now)) (Among rs) (l .before .before .before .before .before .before .before .before .before .before .before .before .before .before .before .args .first) (l .before .before .before .before .before .before .before .before .before .before .before .before .before .before .before .args .stage .walked) (l .before .before .before .before .before .before .before .before .before .before .before .before .before .before .before .args .stage .seen) (l .before .before .before .before .span-of .result .low) (l .before .before .before .before .span-of .result .high) (l .before .before .before .before .span-of .result .top) (l .before .before .before .before .span-of .result .old) (l .before .before .before .before .span-of .result .warm)
-    (l .before .before .before .before .before .before .before .before .before .before .before .before .before .before .before .args .stage .calls) (l .before .before .before .before .before .before .before .before .before .before .before .before .before .before .before .args .stage .answers) (l .loop .row) (l .before .round .uses) (in-words (l .loop .calls) (l .loop .n) (l .loop .answers) (l .loop .m)) (l .loop .uses)
+    (l .before .before .before .before .before .before .before .before .before .before .before .before .before .before .before .args .stage .round) (l .before .before .before .before .before .before .before .before .before .before .before .before .before .before .before .args .stage .calls) (l .before .before .before .before .before .before .before .before .before .before .before .before .before .before .before .args .stage .answers) (l .loop .row) (begin (in-words (l .before .round .calls) (l .before .round .n) (l .before .round .answers) (l .before .round .m)) (l .before .round .uses)) (in-words (l .loop .calls) (l .loop .n) (l .loop .answers) (l .loop .m)) (l .loop .uses)
 rows-at l rs S =
     let r = l .before .round .inv in
     let b = l .before .before .before .before .span-of .ensures .1 in
@@ -95,12 +95,12 @@ past-words : {t : Tables} {notes : List ℕ} {seen known : ℕ} {warm : Bool} {r
 past-words {t} {notes} {seen} {known} {warm} {row} e p = subst (λ (w : List ℕ). Past t notes seen known warm row w) (sym e) p
 
 -- the walk's body is that of a rule of the call record's action
-given-at : (f : Found) (rs : List (ℕ × ℕ)) (notes : List ℕ)
+given-at : (f : Found) (rs : List (ℕ × ℕ)) (begun : Begin)
     → Rules (bodies-of (f .before .before .before .before .before .before .before .before .before .before .before .before .before .before .before .before .before .before .before .before .before .before .before .before .before .before .before .before .before .before .before .args .rules .now) (f .before .before .before .before .before .before .before .before .before .before .before .before .before .before .before .before .before .before .before .before .before .before .before .before .before .before .before .before .before .before .before .args .goal .now)) (Among rs) (number-at (length (f .before .before .before .before .before .before .before .before .before .before .before .before .before .before .before .before .before .before .before .before .before .before .before .before .before .before .before .before .before .before .before .args .rules .now) / rule-width)) (f .before .before .before .before .before .before .before .before .before .before .before .before .before .before .before .before .before .before .before .before .before .before .before .before .before .before .before .before .before .before .before .args .first) (f .before .before .before .before .before .before .before .before .before .before .before .before .before .before .before .before .before .before .before .before .before .before .before .before .before .before .before .before .before .before .before .args .stage .walked) (f .before .before .before .before .before .before .before .before .before .before .before .before .before .before .before .before .before .before .before .before .before .before .before .before .before .before .before .before .before .before .before .args .stage .seen) (f .before .before .before .before .before .before .before .before .before .before .before .before .before .before .before .before .before .before .before .before .span-of .result .low) (f .before .before .before .before .before .before .before .before .before .before .before .before .before .before .before .before .before .before .before .before .span-of .result .high) (f .before .before .before .before .before .before .before .before .before .before .before .before .before .before .before .before .before .before .before .before .span-of .result .top) (f .before .before .before .before .before .before .before .before .before .before .before .before .before .before .before .before .before .before .before .before .span-of .result .old) (f .before .before .before .before .before .before .before .before .before .before .before .before .before .before .before .before .before .before .before .before .span-of .result .warm)
-    (f .before .before .before .before .before .before .before .before .before .before .before .before .before .before .before .before .before .before .before .before .before .before .before .before .before .before .before .before .before .before .before .args .stage .calls) (f .before .before .before .before .before .before .before .before .before .before .before .before .before .before .before .before .before .before .before .before .before .before .before .before .before .before .before .before .before .before .before .args .stage .answers) (f .before .before .before .before .before .before .before .before .before .before .before .before .before .before .before .before .loop .row) (f .before .before .before .before .before .before .before .before .before .before .before .before .before .loop2 .rule) notes (in-words (f .before .before .before .before .before .before .before .before .before .before .before .before .before .loop2 .calls) (f .before .before .before .before .before .before .before .before .before .before .before .before .before .loop2 .n) (f .before .before .before .before .before .before .before .before .before .before .before .before .before .loop2 .answers) (f .before .before .before .before .before .before .before .before .before .before .before .before .before .loop2 .m)) (f .before .before .before .before .before .before .before .before .before .before .before .before .before .loop2 .uses)
+    (f .before .before .before .before .before .before .before .before .before .before .before .before .before .before .before .before .before .before .before .before .before .before .before .before .before .before .before .before .before .before .before .args .stage .round) (f .before .before .before .before .before .before .before .before .before .before .before .before .before .before .before .before .before .before .before .before .before .before .before .before .before .before .before .before .before .before .before .args .stage .calls) (f .before .before .before .before .before .before .before .before .before .before .before .before .before .before .before .before .before .before .before .before .before .before .before .before .before .before .before .before .before .before .before .args .stage .answers) (f .before .before .before .before .before .before .before .before .before .before .before .before .before .before .before .before .loop .row) (f .before .before .before .before .before .before .before .before .before .before .before .before .before .loop2 .rule) begun (in-words (f .before .before .before .before .before .before .before .before .before .before .before .before .before .loop2 .calls) (f .before .before .before .before .before .before .before .before .before .before .before .before .before .loop2 .n) (f .before .before .before .before .before .before .before .before .before .before .before .before .before .loop2 .answers) (f .before .before .before .before .before .before .before .before .before .before .before .before .before .loop2 .m)) (f .before .before .before .before .before .before .before .before .before .before .before .before .before .loop2 .uses)
     → Given (bodies-of (f .before .before .before .before .before .before .before .before .before .before .before .before .before .before .before .before .before .before .before .before .before .before .before .before .before .before .before .before .before .before .before .args .rules .now) (f .before .before .before .before .before .before .before .before .before .before .before .before .before .before .before .before .before .before .before .before .before .before .before .before .before .before .before .before .before .before .before .args .goal .now)) (Among rs) (in-words (f .before .before .before .before .before .before .before .before .before .before .before .before .before .loop2 .calls) (f .before .before .before .before .before .before .before .before .before .before .before .before .before .loop2 .n) (f .before .before .before .before .before .before .before .before .before .before .before .before .before .loop2 .answers) (f .before .before .before .before .before .before .before .before .before .before .before .before .before .loop2 .m))
-    (f .before .before .before .before .before .before .before .before .before .before .before .before .before .before .before .before .before .before .before .before .before .before .before .before .before .before .before .before .before .before .before .args .stage .answers) (f .before .before .before .before .before .before .before .number-of .result) (f .before .before .before .before .before .before .before .before .before .before .before .before .before .before .before .before .loop .row) (before (f .before .before .before .before .before .before .before .before .before .before .before .before .before .before .before .before .before .before .before .before .before .before .before .before .before .before .before .before .before .before .before .args .first) (f .before .before .before .before .before .before .before .before .before .before .before .before .before .before .before .before .before .before .before .before .span-of .result .old) (f .before .before .before .before .before .before .before .before .before .before .before .before .before .before .before .before .before .before .before .before .before .before .before .before .before .before .before .before .before .before .before .args .stage .seen) (f .before .before .before .before .before .before .before .before .before .before .before .before .before .before .before .before .before .before .before .before .span-of .result .warm) notes) (f .before .before .steps-of .result .now)
-given-at f rs notes R =
+    (f .before .before .before .before .before .before .before .before .before .before .before .before .before .before .before .before .before .before .before .before .before .before .before .before .before .before .before .before .before .before .before .args .stage .answers) (f .before .before .before .before .before .before .before .number-of .result) (f .before .before .before .before .before .before .before .before .before .before .before .before .before .before .before .before .loop .row) (before (f .before .before .before .before .before .before .before .before .before .before .before .before .before .before .before .before .before .before .before .before .before .before .before .before .before .before .before .before .before .before .before .args .first) (f .before .before .before .before .before .before .before .before .before .before .before .before .before .before .before .before .before .before .before .before .span-of .result .old) (f .before .before .before .before .before .before .before .before .before .before .before .before .before .before .before .before .before .before .before .before .before .before .before .before .before .before .before .before .before .before .before .args .stage .seen) (f .before .before .before .before .before .before .before .before .before .before .before .before .before .before .before .before .before .before .before .before .span-of .result .warm) (f .before .before .before .before .before .before .before .before .before .before .before .before .before .before .before .before .before .before .before .before .before .before .before .before .before .before .before .before .before .before .before .args .stage .round) begun) (f .before .before .steps-of .result .now)
+given-at f rs begun R =
     let i = f .before .before .before .before .before .before .before .before .before .before .before .before .before .before .before .before .before .before .before .before .before .before .before .before .before .before .before .before .before .before .before in
     record {
       proper = proper-of (i .args .rules .now) (i .args .goal .now) (i .pre .accepted);
@@ -110,17 +110,19 @@ given-at f rs notes R =
       fits = rw (f .before .before .before .before .before .before .before .number-of .ensures, ← f .before .before .before .before .before .before .before .before .before .before .action-of .ensures) (sym (f .before .before .before .before .before .before .before .before .before .is-at .ensures) ∙ not-false _ (f .before .before .before .before .before .before .before .before .if3 .left));
       words = f .before .before .steps-of .ensures .0;
       past = λ (h, k). past-words (f .before .before .steps-of .ensures .0) (rows-past _ _ (R .rows-closed) (f .before .before .before .before .before .before .before .number-of .result) (rw (f .before .before .before .before .before .before .before .number-of .ensures, ← f .before .before .before .before .before .before .before .before .before .before .action-of .ensures) (sym (f .before .before .before .before .before .before .before .before .before .is-at .ensures) ∙ not-false _ (f .before .before .before .before .before .before .before .before .if3 .left))) h k);
+      row-old = omega (arith, R .rows-closed .base-rows, f .before .before .before .before .before .before .before .before .before .before .before .before .before .before .before .loop-test .taken, f .before .before .before .before .before .before .before .before .before .before .before .before .before .before .before .before .before .before .before .before .span-of .ensures .0 .top-in);
+      since = R .rows-closed .since;
     }
 
 -- the rules walked so far
 rules-at : (f : Found) (rs : List (ℕ × ℕ)) → First (f .before .before .before .before .before .before .before .before .before .before .before .before .before .before .before .before .before .before .before .before .before .before .before .before .before .before .before .before .before .before .before) rs
     → Rules (bodies-of (f .before .before .before .before .before .before .before .before .before .before .before .before .before .before .before .before .before .before .before .before .before .before .before .before .before .before .before .before .before .before .before .args .rules .now) (f .before .before .before .before .before .before .before .before .before .before .before .before .before .before .before .before .before .before .before .before .before .before .before .before .before .before .before .before .before .before .before .args .goal .now)) (Among rs) (number-at (length (f .before .before .before .before .before .before .before .before .before .before .before .before .before .before .before .before .before .before .before .before .before .before .before .before .before .before .before .before .before .before .before .args .rules .now) / rule-width)) (f .before .before .before .before .before .before .before .before .before .before .before .before .before .before .before .before .before .before .before .before .before .before .before .before .before .before .before .before .before .before .before .args .first) (f .before .before .before .before .before .before .before .before .before .before .before .before .before .before .before .before .before .before .before .before .before .before .before .before .before .before .before .before .before .before .before .args .stage .walked) (f .before .before .before .before .before .before .before .before .before .before .before .before .before .before .before .before .before .before .before .before .before .before .before .before .before .before .before .before .before .before .before .args .stage .seen) (f .before .before .before .before .before .before .before .before .before .before .before .before .before .before .before .before .before .before .before .before .span-of .result .low) (f .before .before .before .before .before .before .before .before .before .before .before .before .before .before .before .before .before .before .before .before .span-of .result .high) (f .before .before .before .before .before .before .before .before .before .before .before .before .before .before .before .before .before .before .before .before .span-of .result .top) (f .before .before .before .before .before .before .before .before .before .before .before .before .before .before .before .before .before .before .before .before .span-of .result .old) (f .before .before .before .before .before .before .before .before .before .before .before .before .before .before .before .before .before .before .before .before .span-of .result .warm)
-    (f .before .before .before .before .before .before .before .before .before .before .before .before .before .before .before .before .before .before .before .before .before .before .before .before .before .before .before .before .before .before .before .args .stage .calls) (f .before .before .before .before .before .before .before .before .before .before .before .before .before .before .before .before .before .before .before .before .before .before .before .before .before .before .before .before .before .before .before .args .stage .answers) (f .before .before .before .before .before .before .before .before .before .before .before .before .before .before .before .before .loop .row) (f .before .before .before .before .before .before .before .before .before .before .before .before .before .loop2 .rule) (f .before .before .before .before .before .before .before .before .before .before .before .before .before .before .before .before .before .round .uses) (in-words (f .before .before .before .before .before .before .before .before .before .before .before .before .before .loop2 .calls) (f .before .before .before .before .before .before .before .before .before .before .before .before .before .loop2 .n) (f .before .before .before .before .before .before .before .before .before .before .before .before .before .loop2 .answers) (f .before .before .before .before .before .before .before .before .before .before .before .before .before .loop2 .m)) (f .before .before .before .before .before .before .before .before .before .before .before .before .before .loop2 .uses)
+    (f .before .before .before .before .before .before .before .before .before .before .before .before .before .before .before .before .before .before .before .before .before .before .before .before .before .before .before .before .before .before .before .args .stage .round) (f .before .before .before .before .before .before .before .before .before .before .before .before .before .before .before .before .before .before .before .before .before .before .before .before .before .before .before .before .before .before .before .args .stage .calls) (f .before .before .before .before .before .before .before .before .before .before .before .before .before .before .before .before .before .before .before .before .before .before .before .before .before .before .before .before .before .before .before .args .stage .answers) (f .before .before .before .before .before .before .before .before .before .before .before .before .before .before .before .before .loop .row) (f .before .before .before .before .before .before .before .before .before .before .before .before .before .loop2 .rule) (begin (in-words (f .before .before .before .before .before .before .before .before .before .before .before .before .before .before .before .before .before .round .calls) (f .before .before .before .before .before .before .before .before .before .before .before .before .before .before .before .before .before .round .n) (f .before .before .before .before .before .before .before .before .before .before .before .before .before .before .before .before .before .round .answers) (f .before .before .before .before .before .before .before .before .before .before .before .before .before .before .before .before .before .round .m)) (f .before .before .before .before .before .before .before .before .before .before .before .before .before .before .before .before .before .round .uses)) (in-words (f .before .before .before .before .before .before .before .before .before .before .before .before .before .loop2 .calls) (f .before .before .before .before .before .before .before .before .before .before .before .before .before .loop2 .n) (f .before .before .before .before .before .before .before .before .before .before .before .before .before .loop2 .answers) (f .before .before .before .before .before .before .before .before .before .before .before .before .before .loop2 .m)) (f .before .before .before .before .before .before .before .before .before .before .before .before .before .loop2 .uses)
 rules-at f rs S = f .before .before .before .before .before .before .before .before .before .before .before .before .before .loop2 .inv .closed rs _ (rows-at (f .before .before .before .before .before .before .before .before .before .before .before .before .before .before .before .before) rs S)
 
 -- and the walk, for the roots that the contract has
 going-at : (t : AtLoop3) → Going (bodies-of (t .before .before .before .before .before .before .before .before .before .before .before .before .before .before .before .before .before .before .before .before .before .before .before .before .before .before .before .before .before .before .before .before .args .rules .now) (t .before .before .before .before .before .before .before .before .before .before .before .before .before .before .before .before .before .before .before .before .before .before .before .before .before .before .before .before .before .before .before .before .args .goal .now)) (Among (t .before .before .before .before .before .before .before .before .before .before .before .before .before .before .before .before .before .before .before .before .before .before .before .before .before .before .before .before .before .before .before .before .pre .roots)) (in-words (t .before .before .before .before .before .before .before .before .before .before .before .before .before .before .loop2 .calls) (t .before .before .before .before .before .before .before .before .before .before .before .before .before .before .loop2 .n) (t .before .before .before .before .before .before .before .before .before .before .before .before .before .before .loop2 .answers) (t .before .before .before .before .before .before .before .before .before .before .before .before .before .before .loop2 .m))
-    (t .before .before .before .before .before .before .before .before .before .before .before .before .before .before .before .before .before .before .before .before .before .before .before .before .before .before .before .before .before .before .before .before .args .stage .answers) (t .before .before .before .before .before .before .before .before .number-of .result) (t .before .before .before .before .before .before .before .before .before .before .before .before .before .before .before .before .before .loop .row) (t .before .before .before .before .before .before .next-walk .result) (before (t .before .before .before .before .before .before .before .before .before .before .before .before .before .before .before .before .before .before .before .before .before .before .before .before .before .before .before .before .before .before .before .before .args .first) (t .before .before .before .before .before .before .before .before .before .before .before .before .before .before .before .before .before .before .before .before .before .span-of .result .old) (t .before .before .before .before .before .before .before .before .before .before .before .before .before .before .before .before .before .before .before .before .before .before .before .before .before .before .before .before .before .before .before .before .args .stage .seen) (t .before .before .before .before .before .before .before .before .before .before .before .before .before .before .before .before .before .before .before .before .before .span-of .result .warm) (t .before .before .before .before .before .before .before .before .before .before .before .before .before .before .before .before .before .before .round .uses)) (t .before .before .before .steps-of .result .now)
+    (t .before .before .before .before .before .before .before .before .before .before .before .before .before .before .before .before .before .before .before .before .before .before .before .before .before .before .before .before .before .before .before .before .args .stage .answers) (t .before .before .before .before .before .before .before .before .number-of .result) (t .before .before .before .before .before .before .before .before .before .before .before .before .before .before .before .before .before .loop .row) (t .before .before .before .before .before .before .next-walk .result) (before (t .before .before .before .before .before .before .before .before .before .before .before .before .before .before .before .before .before .before .before .before .before .before .before .before .before .before .before .before .before .before .before .before .args .first) (t .before .before .before .before .before .before .before .before .before .before .before .before .before .before .before .before .before .before .before .before .before .span-of .result .old) (t .before .before .before .before .before .before .before .before .before .before .before .before .before .before .before .before .before .before .before .before .before .before .before .before .before .before .before .before .before .before .before .before .args .stage .seen) (t .before .before .before .before .before .before .before .before .before .before .before .before .before .before .before .before .before .before .before .before .before .span-of .result .warm) (t .before .before .before .before .before .before .before .before .before .before .before .before .before .before .before .before .before .before .before .before .before .before .before .before .before .before .before .before .before .before .before .before .args .stage .round) (begin (in-words (t .before .before .before .before .before .before .before .before .before .before .before .before .before .before .before .before .before .before .round .calls) (t .before .before .before .before .before .before .before .before .before .before .before .before .before .before .before .before .before .before .round .n) (t .before .before .before .before .before .before .before .before .before .before .before .before .before .before .before .before .before .before .round .answers) (t .before .before .before .before .before .before .before .before .before .before .before .before .before .before .before .before .before .before .round .m)) (t .before .before .before .before .before .before .before .before .before .before .before .before .before .before .before .before .before .before .round .uses))) (t .before .before .before .steps-of .result .now)
     (in-words (t .loop3 .calls) (t .loop3 .n) (t .loop3 .answers) (t .loop3 .m)) (t .loop3 .marks) (t .loop3 .uses) (t .loop3 .chosen) (t .loop3 .rest .now) (spot-of (t .loop3 .spot))
 going-at t =
     let R = rules-at (t .before) (t .before .before .before .before .before .before .before .before .before .before .before .before .before .before .before .before .before .before .before .before .before .before .before .before .before .before .before .before .before .before .before .before .pre .roots) (t .before .before .before .before .before .before .before .before .before .before .before .before .before .before .before .before .before .before .before .before .before .before .before .before .before .before .before .before .before .before .before .before .pre .round) in
@@ -153,6 +155,8 @@ round-holds c =
     record {
       words = record { calls-long = refl; answers-long = refl; kept = p .kept; indexed = p .indexed; uses-more = uses-refl _ };
       stamped = p .stamped;
+      calls-same = refl;
+      answers-same = refl;
       rows-all = refl;
       known-all = refl;
       spans = c .before .before .span-of .ensures .0;
@@ -168,7 +172,7 @@ loop-holds c =
       row-in = c .before .before .before .span-of .ensures .0 .low-in;
       rows-in = omega (arith, r .rows-all);
       known-in = omega (arith, r .known-all);
-      closed = λ roots S W. rw (← r .rows-all, ← r .known-all) (rows-start _ _ S (r .spans) (rw (← r .known-all) at W));
+      closed = λ roots S W. rw (← r .rows-all, ← r .known-all) (rows-start _ _ _ S (rw (r .answers-same, r .known-all) (c .before .before .before .before .before .before .before .before .before .before .before .before .before .before .pre .sooner)) (r .spans) (rw (← r .known-all) at W));
     }
 
 add-row : tie.Need-add-row Inv-loop3 μ-loop3 Inv-loop2 μ-loop2 Inv-loop μ-loop Inv-round μ-round
@@ -180,7 +184,7 @@ loop-less c = omega (arith, c .before .before .loop-test .taken)
 loop-again : tie.Need-loop-again Inv-loop3 μ-loop3 Inv-loop2 μ-loop2 Inv-loop μ-loop Inv-round μ-round
 loop-again c =
     let at-loop = c .before .before .before in
-    let at-span-of = at-loop .before .before .before .before in
+    let at-span-of = c .before .before .before .before .before .before .before in
     let l = at-loop .loop .inv in
     record {
       words = l .words;
@@ -203,7 +207,7 @@ loop2-holds c =
       rule-in = omega arith;
       rows-in = l .rows-in;
       known-in = l .known-in;
-      closed = λ roots notes R. rules-start _ _ _ R;
+      closed = λ roots begun R. rules-start _ _ _ R;
     }
 
 action-of-requires : tie.Need-action-of-requires Inv-loop3 μ-loop3 Inv-loop2 μ-loop2 Inv-loop μ-loop Inv-round μ-round
@@ -218,7 +222,7 @@ loop2-less c = omega (arith, c .before .before .before .before .loop2-test .take
 loop2-again : tie.Need-loop2-again Inv-loop3 μ-loop3 Inv-loop2 μ-loop2 Inv-loop μ-loop Inv-round μ-round
 loop2-again c =
     let at-loop2-test = c .before .before .before .before in
-    let at-loop2 = at-loop2-test .before in
+    let at-loop2 = c .before .before .before .before .before in
     let l = at-loop2 .loop2 .inv in
     record {
       words = l .words;
@@ -226,7 +230,7 @@ loop2-again c =
       rule-in = omega (arith, at-loop2-test .loop2-test .taken);
       rows-in = l .rows-in;
       known-in = l .known-in;
-      closed = λ roots notes R. rules-skip _ _ _ (l .closed roots notes R) (λ e. true-not-false (sym (rw (← c .before .before .action-of .ensures) at e) ∙ sym (c .before .is-at .ensures) ∙ not-true _ (c .if3 .taken)));
+      closed = λ roots begun R. rules-skip _ _ _ (l .closed roots begun R) (λ e. true-not-false (sym (rw (← c .before .before .action-of .ensures) at e) ∙ sym (c .before .is-at .ensures) ∙ not-true _ (c .if3 .taken)));
     }
 
 is-at-requires : tie.Need-is-at-requires Inv-loop3 μ-loop3 Inv-loop2 μ-loop2 Inv-loop μ-loop Inv-round μ-round
@@ -240,10 +244,10 @@ next-walk-requires c κs =
 steps-of-requires : tie.Need-steps-of-requires Inv-loop3 μ-loop3 Inv-loop2 μ-loop2 Inv-loop μ-loop Inv-round μ-round
 steps-of-requires c κs =
     let at-number-of = c .before .before .before .before in
-    let at-if3 = at-number-of .before in
-    let at-is-at = at-if3 .before in
-    let at-action-of = at-is-at .before in
-    let entry = at-action-of .before .before .before .before .before .before .before .before .before .before .before .before .before .before .before .before .before .before .before .before .before in
+    let at-if3 = c .before .before .before .before .before in
+    let at-is-at = c .before .before .before .before .before .before in
+    let at-action-of = c .before .before .before .before .before .before .before in
+    let entry = c .before .before .before .before .before .before .before .before .before .before .before .before .before .before .before .before .before .before .before .before .before .before .before .before .before .before .before .before in
     (short-of _ _ (entry .pre .accepted), (at-action-of .action-of .result, rw (at-number-of .number-of .ensures) (sym (at-is-at .is-at .ensures) ∙ not-false _ (at-if3 .if3 .left))))
 
 state-of-requires : tie.Need-state-of-requires Inv-loop3 μ-loop3 Inv-loop2 μ-loop2 Inv-loop μ-loop Inv-round μ-round
@@ -252,19 +256,19 @@ state-of-requires c κs = omega (arith, c .before .before .before .before .befor
 loop3-holds : tie.Need-loop3-holds Inv-loop3 μ-loop3 Inv-loop2 μ-loop2 Inv-loop μ-loop Inv-round μ-round
 loop3-holds c =
     let at-next-walk = c .before .before .before .before .before in
-    let at-loop2 = at-next-walk .before .before .before .before .before .before .before .before in
+    let at-loop2 = c .before .before .before .before .before .before .before .before .before .before .before .before .before in
     let l = at-loop2 .loop2 .inv in
     let w = at-next-walk .next-walk .ensures in
     record {
       words = record { calls-long = refl; answers-long = refl; kept = l .words .kept; indexed = l .words .indexed; uses-more = uses-refl _ };
-      going = λ roots notes G U. rw (c .state-of .ensures) (going-start _ _ _ _ _ _ _ _ _ (turn-start _ _ _ _ _ _ _ _ _ _ G U (w .stamped) (w .unmarked) (length-replicate {A = ℕ} 16 0) (λ q l. zeros-at 16 q)));
+      going = λ roots begun G U. rw (c .state-of .ensures) (going-start _ _ _ _ _ _ _ _ _ (turn-start _ _ _ _ _ _ _ _ _ _ G U (w .stamped) (w .unmarked) (length-replicate {A = ℕ} 16 0) (λ q l. zeros-at 16 q)));
     }
 
 turn-requires : tie.Need-turn-requires Inv-loop3 μ-loop3 Inv-loop2 μ-loop2 Inv-loop μ-loop Inv-round μ-round
 turn-requires c κs =
     let place7 = c .before .before .before .before .before .before .before in
-    let at-span-of = place7 .before .before .before .before .before .before .before .before .before .before .before .before .before .before .before .before .before .before .before .before .before in
-    let entry = at-span-of .before .before .before .before .before .before .before .before .before .before .before in
+    let at-span-of = c .before .before .before .before .before .before .before .before .before .before .before .before .before .before .before .before .before .before .before .before .before .before .before .before .before .before .before .before in
+    let entry = c .before .before .before .before .before .before .before .before .before .before .before .before .before .before .before .before .before .before .before .before .before .before .before .before .before .before .before .before .before .before .before .before .before .before .before .before .before .before .before in
     let t = place7 in
     ((t .loop3 .inv .words .kept, t .loop3 .inv .words .indexed, uses-at t .long ∙ at-span-of .span-of .ensures .1 .long ∙ entry .pre .uses-long), (_, entry .pre .roots, _, _, going-at t))
 
@@ -280,19 +284,19 @@ part-rest-end c = omega (arith, (rw (c .before .next .given .1) at (c .before .b
 loop3-less : tie.Need-loop3-less Inv-loop3 μ-loop3 Inv-loop2 μ-loop2 Inv-loop μ-loop Inv-round μ-round
 loop3-less c =
     let at-turn = c .before .before .before .before .before .before .before .before .before .before .before .before .before .before .before .before in
-    let place24 = at-turn .before .before .before .before .before .before .before .before in
+    let place24 = c .before .before .before .before .before .before .before .before .before .before .before .before .before .before .before .before .before .before .before .before .before .before .before .before in
     let O = (rw (c .before .before .next .given .1) at (at-turn .turn .ensures .1 _ _ _ _ (going-at (place24)))) in
     on-less _ _ _ _ _ _ _ _ _ (going-at (place24)) (O .0) refl (O .1)
 
 loop3-again : tie.Need-loop3-again Inv-loop3 μ-loop3 Inv-loop2 μ-loop2 Inv-loop μ-loop Inv-round μ-round
 loop3-again c =
     let at-turn = c .before .before .before .before .before .before .before .before .before .before .before .before .before .before .before .before in
-    let at-loop3 = at-turn .before .before .before .before .before .before .before .before in
+    let at-loop3 = c .before .before .before .before .before .before .before .before .before .before .before .before .before .before .before .before .before .before .before .before .before .before .before .before in
     let s = at-turn .turn .ensures .0 in
     let w = at-loop3 .loop3 .inv in
     record {
       words = record { calls-long = s .calls-long ∙ w .words .calls-long; answers-long = s .answers-long ∙ w .words .answers-long; kept = s .kept; indexed = s .indexed; uses-more = uses-trans (w .words .uses-more) (s .uses-more) };
-      going = λ roots notes G U. going-on _ _ _ _ _ _ _ _ _ (w .going roots notes G U) ((rw (c .before .before .next .given .1) at (at-turn .turn .ensures .1 _ _ _ _ (w .going roots notes G U))) .0) refl;
+      going = λ roots begun G U. going-on _ _ _ _ _ _ _ _ _ (w .going roots begun G U) ((rw (c .before .before .next .given .1) at (at-turn .turn .ensures .1 _ _ _ _ (w .going roots begun G U))) .0) refl;
     }
 
 mul-rest : tie.Need-mul-rest Inv-loop3 μ-loop3 Inv-loop2 μ-loop2 Inv-loop μ-loop Inv-round μ-round
@@ -310,19 +314,19 @@ part-rest-end-2 c = omega (arith, (rw (c .before .next2 .given .1) at (c .before
 loop3-less-2 : tie.Need-loop3-less-2 Inv-loop3 μ-loop3 Inv-loop2 μ-loop2 Inv-loop μ-loop Inv-round μ-round
 loop3-less-2 c =
     let at-turn = c .before .before .before .before .before .before .before .before .before .before .before .before .before .before .before .before in
-    let place24 = at-turn .before .before .before .before .before .before .before .before in
+    let place24 = c .before .before .before .before .before .before .before .before .before .before .before .before .before .before .before .before .before .before .before .before .before .before .before .before in
     let O = (rw (c .before .before .next2 .given .1) at (at-turn .turn .ensures .1 _ _ _ _ (going-at (place24)))) in
     back-less _ _ _ _ _ _ _ _ _ _ (O .0) refl (O .1)
 
 loop3-again-2 : tie.Need-loop3-again-2 Inv-loop3 μ-loop3 Inv-loop2 μ-loop2 Inv-loop μ-loop Inv-round μ-round
 loop3-again-2 c =
     let at-turn = c .before .before .before .before .before .before .before .before .before .before .before .before .before .before .before .before in
-    let at-loop3 = at-turn .before .before .before .before .before .before .before .before in
+    let at-loop3 = c .before .before .before .before .before .before .before .before .before .before .before .before .before .before .before .before .before .before .before .before .before .before .before .before in
     let s = at-turn .turn .ensures .0 in
     let w = at-loop3 .loop3 .inv in
     record {
       words = record { calls-long = s .calls-long ∙ w .words .calls-long; answers-long = s .answers-long ∙ w .words .answers-long; kept = s .kept; indexed = s .indexed; uses-more = uses-trans (w .words .uses-more) (s .uses-more) };
-      going = λ roots notes G U. going-back _ _ _ _ _ _ _ _ _ _ ((rw (c .before .before .next2 .given .1) at (at-turn .turn .ensures .1 _ _ _ _ (w .going roots notes G U))) .0) refl;
+      going = λ roots begun G U. going-back _ _ _ _ _ _ _ _ _ _ ((rw (c .before .before .next2 .given .1) at (at-turn .turn .ensures .1 _ _ _ _ (w .going roots begun G U))) .0) refl;
     }
 
 add-rule-2 : tie.Need-add-rule-2 Inv-loop3 μ-loop3 Inv-loop2 μ-loop2 Inv-loop μ-loop Inv-round μ-round
@@ -334,14 +338,14 @@ loop2-less-2 c = omega (arith, c .before .before .before .before .before .before
 loop2-again-2 : tie.Need-loop2-again-2 Inv-loop3 μ-loop3 Inv-loop2 μ-loop2 Inv-loop μ-loop Inv-round μ-round
 loop2-again-2 c =
     let at-turn = c .before .before .before .before .before .before .before .before .before .before .before .before .before .before in
-    let at-loop3 = at-turn .before .before .before .before .before .before .before .before in
+    let at-loop3 = c .before .before .before .before .before .before .before .before .before .before .before .before .before .before .before .before .before .before .before .before .before .before in
     let place23 = at-loop3 .before in
-    let at-steps-of = place23 .before .before in
-    let at-number-of = at-steps-of .before .before .before .before .before in
-    let at-loop2-test = at-number-of .before .before .before .before .before in
-    let at-loop2 = at-loop2-test .before in
-    let at-loop-test = at-loop2 .before .before in
-    let at-span-of = at-loop-test .before .before .before .before .before in
+    let at-steps-of = c .before .before .before .before .before .before .before .before .before .before .before .before .before .before .before .before .before .before .before .before .before .before .before .before .before in
+    let at-number-of = c .before .before .before .before .before .before .before .before .before .before .before .before .before .before .before .before .before .before .before .before .before .before .before .before .before .before .before .before .before .before in
+    let at-loop2-test = c .before .before .before .before .before .before .before .before .before .before .before .before .before .before .before .before .before .before .before .before .before .before .before .before .before .before .before .before .before .before .before .before .before .before .before in
+    let at-loop2 = c .before .before .before .before .before .before .before .before .before .before .before .before .before .before .before .before .before .before .before .before .before .before .before .before .before .before .before .before .before .before .before .before .before .before .before .before in
+    let at-loop-test = c .before .before .before .before .before .before .before .before .before .before .before .before .before .before .before .before .before .before .before .before .before .before .before .before .before .before .before .before .before .before .before .before .before .before .before .before .before .before in
+    let at-span-of = c .before .before .before .before .before .before .before .before .before .before .before .before .before .before .before .before .before .before .before .before .before .before .before .before .before .before .before .before .before .before .before .before .before .before .before .before .before .before .before .before .before .before .before in
     let s = at-turn .turn .ensures .0 in
     let w = at-loop3 .loop3 .inv in
     let f = place23 in
@@ -360,8 +364,9 @@ loop2-again-2 c =
       rule-in = omega (arith, at-loop2-test .loop2-test .taken);
       rows-in = omega (arith, l .rows-in, O .grew .calls-more);
       known-in = omega (arith, l .known-in, O .grew .answers-more);
-      closed = λ roots notes R. rules-next _ _ _ (l .closed roots notes R) (omega (arith, at-loop-test .loop-test .taken, at-span-of .span-of .ensures .0 .top-in)) (at-number-of .number-of .ensures) (at-steps-of .steps-of .ensures .0) more
-          (rw (c .enum-told .given .1) at (at-turn .turn .ensures .1 _ _ _ _ (w .going roots notes (given-at f roots notes (l .closed roots notes R)) (l .closed roots notes R .rows-closed .noted))));
+      closed = λ roots begun R.
+          (let end = rw (c .enum-told .given .1) at (at-turn .turn .ensures .1 _ _ _ _ (w .going roots begun (given-at f roots begun (l .closed roots begun R)) (l .closed roots begun R .rows-closed .noted))) in
+          rules-next _ _ _ (l .closed roots begun R) (omega (arith, at-loop-test .loop-test .taken, at-span-of .span-of .ensures .0 .top-in)) (at-number-of .number-of .ensures) (at-steps-of .steps-of .ensures .0) more (end .made) end);
     }
 
 add-row-2 : tie.Need-add-row-2 Inv-loop3 μ-loop3 Inv-loop2 μ-loop2 Inv-loop μ-loop Inv-round μ-round
@@ -373,9 +378,9 @@ loop-less-2 c = omega (arith, c .before .before .before .loop-test .taken)
 loop-again-2 : tie.Need-loop-again-2 Inv-loop3 μ-loop3 Inv-loop2 μ-loop2 Inv-loop μ-loop Inv-round μ-round
 loop-again-2 c =
     let at-loop-test = c .before .before .before in
-    let at-loop = at-loop-test .before in
-    let at-span-of = at-loop .before .before .before .before in
-    let place19 = at-span-of .before .before .before .before .before .before .before .before .before .before .before in
+    let at-loop = c .before .before .before .before in
+    let at-span-of = c .before .before .before .before .before .before .before .before in
+    let place19 = c .before .before .before .before .before .before .before .before .before .before .before .before .before .before .before .before .before .before .before in
     let l = c .before .loop2 .inv in
     let w = at-loop .loop .inv in
     let i = place19 in
@@ -424,6 +429,7 @@ returns c =
     let l = c .before .loop .inv in
     let r = c .before .before .round .inv in
     let u = uses-here (c .before) in
+    let R₀ = rows-at (c .before) (c .before .before .before .before .before .before .before .before .before .before .before .before .before .before .before .before .pre .roots) (c .before .before .before .before .before .before .before .before .before .before .before .before .before .before .before .before .pre .round) in
     record {
       calls-long = l .words .calls-long ∙ r .words .calls-long;
       answers-long = l .words .answers-long ∙ r .words .answers-long;
@@ -434,6 +440,8 @@ returns c =
       stamped = λ _. l .stamped;
       uses-long = u .long ∙ at-span-of .span-of .ensures .1 .long;
       stale = λ k. omega (arith, u .heats k, at-span-of .span-of .ensures .1 .stale k);
+      sooner = λ _. rows-sooner _ _ R₀;
+      rounded = λ _ z. rw (r .calls-same, r .answers-same, r .rows-all, r .known-all) at (rows-rounded _ _ (rw z at R₀) (c .loop-test .left));
       next = λ _ roots S. (let R = rows-at (c .before) roots S in (rows-round _ _ R (c .loop-test .left), λ e. rows-finished _ _ R (c .loop-test .left) e));
       outgrown = λ e. absurd (true-not-false (sym e));
     }
@@ -441,47 +449,47 @@ returns c =
 same-length-7 : tie.Need-same-length-7 Inv-loop3 μ-loop3 Inv-loop2 μ-loop2 Inv-loop μ-loop Inv-round μ-round
 same-length-7 c =
     let at-turn = c .before .before .before .before .before .before .before .before .before .before .before .before .before .before in
-    let place22 = at-turn .before .before .before .before .before .before .before .before in
+    let place22 = c .before .before .before .before .before .before .before .before .before .before .before .before .before .before .before .before .before .before .before .before .before .before in
     at-turn .turn .ensures .0 .calls-long ∙ calls-at (place22)
 
 same-length-8 : tie.Need-same-length-8 Inv-loop3 μ-loop3 Inv-loop2 μ-loop2 Inv-loop μ-loop Inv-round μ-round
 same-length-8 c =
     let at-turn = c .before .before .before .before .before .before .before .before .before .before .before .before .before .before in
-    let entry = at-turn .before .before .before .before .before .before .before .before .before .before .before .before .before .before .before .before .before .before .before .before .before .before .before .before .before .before .before .before .before .before .before .before .before .before .before .before .before .before .before .before in
+    let entry = c .before .before .before .before .before .before .before .before .before .before .before .before .before .before .before .before .before .before .before .before .before .before .before .before .before .before .before .before .before .before .before .before .before .before .before .before .before .before .before .before .before .before .before .before .before .before .before .before .before .before .before .before .before .before in
     at-turn .turn .ensures .0 .indexed .of-calls .long ∙ sym (entry .pre .indexed .of-calls .long)
 
 same-length-9 : tie.Need-same-length-9 Inv-loop3 μ-loop3 Inv-loop2 μ-loop2 Inv-loop μ-loop Inv-round μ-round
 same-length-9 c =
     let at-turn = c .before .before .before .before .before .before .before .before .before .before .before .before .before .before in
-    let place22 = at-turn .before .before .before .before .before .before .before .before in
+    let place22 = c .before .before .before .before .before .before .before .before .before .before .before .before .before .before .before .before .before .before .before .before .before .before in
     at-turn .turn .ensures .0 .answers-long ∙ answers-at (place22)
 
 same-length-10 : tie.Need-same-length-10 Inv-loop3 μ-loop3 Inv-loop2 μ-loop2 Inv-loop μ-loop Inv-round μ-round
 same-length-10 c =
     let at-turn = c .before .before .before .before .before .before .before .before .before .before .before .before .before .before in
-    let entry = at-turn .before .before .before .before .before .before .before .before .before .before .before .before .before .before .before .before .before .before .before .before .before .before .before .before .before .before .before .before .before .before .before .before .before .before .before .before .before .before .before .before in
+    let entry = c .before .before .before .before .before .before .before .before .before .before .before .before .before .before .before .before .before .before .before .before .before .before .before .before .before .before .before .before .before .before .before .before .before .before .before .before .before .before .before .before .before .before .before .before .before .before .before .before .before .before .before .before .before .before in
     at-turn .turn .ensures .0 .indexed .of-answers .long ∙ sym (entry .pre .indexed .of-answers .long)
 
 same-length-11 : tie.Need-same-length-11 Inv-loop3 μ-loop3 Inv-loop2 μ-loop2 Inv-loop μ-loop Inv-round μ-round
 same-length-11 c =
     let at-turn = c .before .before .before .before .before .before .before .before .before .before .before .before .before .before in
-    let place22 = at-turn .before .before .before .before .before .before .before .before in
-    let entry = place22 .before .before .before .before .before .before .before .before .before .before .before .before .before .before .before .before .before .before .before .before .before .before .before .before .before .before .before .before .before .before .before .before in
+    let place22 = c .before .before .before .before .before .before .before .before .before .before .before .before .before .before .before .before .before .before .before .before .before .before in
+    let entry = c .before .before .before .before .before .before .before .before .before .before .before .before .before .before .before .before .before .before .before .before .before .before .before .before .before .before .before .before .before .before .before .before .before .before .before .before .before .before .before .before .before .before .before .before .before .before .before .before .before .before .before .before .before .before in
     at-turn .turn .kept .1 .1 .1 .1 .1 .1 .1 .1 .1 .0 ∙ going-at (place22) .turning .stamped .long ∙ sym (entry .pre .stamped .long)
 
 same-length-12 : tie.Need-same-length-12 Inv-loop3 μ-loop3 Inv-loop2 μ-loop2 Inv-loop μ-loop Inv-round μ-round
 same-length-12 c =
     let at-turn = c .before .before .before .before .before .before .before .before .before .before .before .before .before .before in
-    let place22 = at-turn .before .before .before .before .before .before .before .before in
-    let at-span-of = place22 .before .before .before .before .before .before .before .before .before .before .before .before .before .before .before .before .before .before .before .before .before in
+    let place22 = c .before .before .before .before .before .before .before .before .before .before .before .before .before .before .before .before .before .before .before .before .before .before in
+    let at-span-of = c .before .before .before .before .before .before .before .before .before .before .before .before .before .before .before .before .before .before .before .before .before .before .before .before .before .before .before .before .before .before .before .before .before .before .before .before .before .before .before .before .before .before .before in
     at-turn .turn .ensures .0 .uses-more .long ∙ uses-at (place22) .long ∙ at-span-of .span-of .ensures .1 .long
 
 returns-2 : tie.Need-returns-2 Inv-loop3 μ-loop3 Inv-loop2 μ-loop2 Inv-loop μ-loop Inv-round μ-round
 returns-2 c =
     let at-turn = c .before .before .before .before .before .before .before .before .before .before .before .before .before .before in
-    let at-loop3 = at-turn .before .before .before .before .before .before .before .before in
+    let at-loop3 = c .before .before .before .before .before .before .before .before .before .before .before .before .before .before .before .before .before .before .before .before .before .before in
     let place23 = at-loop3 .before in
-    let at-span-of = place23 .before .before .before .before .before .before .before .before .before .before .before .before .before .before .before .before .before .before .before .before in
+    let at-span-of = c .before .before .before .before .before .before .before .before .before .before .before .before .before .before .before .before .before .before .before .before .before .before .before .before .before .before .before .before .before .before .before .before .before .before .before .before .before .before .before .before .before .before .before in
     let s = at-turn .turn .ensures .0 in
     let t = at-loop3 in
     let f = place23 in
@@ -494,6 +502,8 @@ returns-2 c =
       rows-in = λ e. absurd (true-not-false e);
       known-in = λ e. absurd (true-not-false e);
       stamped = λ e. absurd (true-not-false e);
+      sooner = λ e. absurd (true-not-false e);
+      rounded = λ e. absurd (true-not-false e);
       uses-long = u .long ∙ at-span-of .span-of .ensures .1 .long;
       stale = λ k. omega (arith, u .heats k, at-span-of .span-of .ensures .1 .stale k);
       next = λ e. absurd (true-not-false e);
@@ -528,7 +538,7 @@ round-spec =
     add-rule
     loop2-less
     loop2-again
-    (λ c. search needs)
+    (λ c κs. search needs)
     next-walk-requires
     steps-of-requires
     state-of-requires

@@ -37,7 +37,7 @@ returns c =
         indexed = record { of-calls = rw (f .0 .2) (i .pre .1 .of-calls); of-answers = f .1 .0 };
         uses-more = uses-refl _;
       },
-      λ bodies roots b notes body q T. rw (f .0 .2) (f .1 .1 bodies roots b notes body (a .calls .now) (a .marks .now) (a .uses .now) (a .at) (tail-none (a .rest .now) body (a .at) q (omega (arith, t .if1 .taken))) T),
+      λ bodies roots b begun body q T. rw (f .0 .2) (f .1 .1 bodies roots b begun body (a .calls .now) (a .marks .now) (a .uses .now) (a .at) (tail-none (a .rest .now) body (a .at) q (omega (arith, t .if1 .taken))) T),
     )
 
 enter-requires : tie.Need-enter-requires
@@ -61,9 +61,9 @@ returns-2 c =
         indexed = record { of-calls = f .1 .0; of-answers = rw (f .0 .2) (i .pre .1 .of-answers) };
         uses-more = f .0 .3;
       },
-      λ bodies roots b notes body q T.
+      λ bodies roots b begun body q T.
           (let w = tail-word (a .rest .now) body (a .at) q in
-          rw (f .0 .2) (f .1 .1 bodies roots b notes body (tail-some (a .rest .now) body (a .at) q (omega (arith, d .if1 .left))) (rw w at yes) (sym w) q T)),
+          rw (f .0 .2) (f .1 .1 bodies roots b begun body (tail-some (a .rest .now) body (a .at) q (omega (arith, d .if1 .left))) (rw w at yes) (sym w) q T)),
     )
 
 returns-3 : tie.Need-returns-3
@@ -76,9 +76,9 @@ returns-3 c =
     let j = a .job in
     let went = sym (e .elementary .ensures) ∙ ap onward (c .before .next .given .1) in (
       record { calls-long = refl; answers-long = refl; kept = i .pre .0 .0; indexed = i .pre .1; uses-more = uses-refl _ },
-      λ bodies roots b notes body q T.
+      λ bodies roots b begun body q T.
           (let h = tail-some (a .rest .now) body (a .at) q (omega (arith, d .if1 .left)) in (
-            turn-forward bodies (Among roots) b (j .known) (j .rule) (j .row) (j .walk) (past-of j notes) body T h (rw (tail-word (a .rest .now) body (a .at) q) at went),
+            turn-forward bodies (Among roots) b (j .known) (j .rule) (j .row) (j .walk) (past-of j begun) body T h (rw (tail-word (a .rest .now) body (a .at) q) at went),
             left-on (j .known) (a .chosen .now) (set (a .chosen .now) (a .at) 0) (a .at) (a .at) (λ q l. getD-set-other (a .chosen .now) (a .at) q 0 0 (omega arith)) (omega (arith, i .pre .0 .2, d .if1 .left)) refl,
           )),
     )
@@ -95,9 +95,9 @@ returns-4 c =
     let went = sym (e .elementary .ensures) ∙ ap onward (c .enum-told .given .1) in
     let no : is-call (getD (a .rest .now) 0 0) ≡ false = sym (l .before .is-call .ensures) ∙ l .if2 .left in (
       record { calls-long = refl; answers-long = refl; kept = i .pre .0 .0; indexed = i .pre .1; uses-more = uses-refl _ },
-      λ bodies roots b notes body q T.
+      λ bodies roots b begun body q T.
           (let w = tail-word (a .rest .now) body (a .at) q in
-          (turn-stuck bodies (Among roots) b (j .known) (j .rule) (j .row) (j .walk) (past-of j notes) body T (tail-some (a .rest .now) body (a .at) q (omega (arith, d .if1 .left))) (rw w at no) (rw w at went), refl)),
+          (turn-stuck bodies (Among roots) b (j .known) (j .rule) (j .row) (j .walk) (past-of j begun) body T (tail-some (a .rest .now) body (a .at) q (omega (arith, d .if1 .left))) (rw w at no) (rw w at went), refl)),
     )
 
 pub advance-spec : {M : Type 1} → statement M

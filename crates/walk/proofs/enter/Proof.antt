@@ -29,11 +29,11 @@ put c = c .before .before .before .before .before .before .before .before .befor
 -- the call put is that of the step in front
 put-at : (c : tie.After-add-call) {a : ℕ} → a ≡ start c .args .step
     → CallPut (room call-width (length (start c .args .calls .now))) (call-table (start c .args .calls .now) (start c .args .n)) (a % 256)
-    (start c .args .spot .state .0) (call-table (c .add-call .last .0) (c .add-call .result .count)) (c .add-call .result .row) (c .add-call .result .full)
+    (start c .args .spot .state .0) (start c .args .job .round) (call-table (c .add-call .last .0) (c .add-call .result .count)) (c .add-call .result .row) (c .add-call .result .full)
 put-at c z = rw (z, ← c .before .before .before .index .ensures) (c .add-call .ensures .0 .put)
 
 row-small : (c : tie.After-add-call) → c .add-call .result .full ≡ false → c .add-call .result .row < 65536
-row-small c f = let s = c .add-call .ensures .0 in omega (arith, s .stored .most, put-row call-width _ _ _ _ _ _ _ _ s f)
+row-small c f = let s = c .add-call .ensures .0 in omega (arith, s .stored .most, put-row call-width _ _ _ _ _ _ _ _ _ s f)
 
 add-call-requires : tie.Need-add-call-requires
 add-call-requires c κs = let i =
@@ -55,7 +55,7 @@ returns c =
     let i = start p in
     let j = i .args .job in (
       (s .0 .long, s .0 .stored, refl, uses-refl _),
-      (s .1, λ bodies roots b notes body h e z d T. turn-calls-full bodies (Among roots) b (j .known) (j .rule) (j .row) (j .walk) (past-of j notes) body T h e (room answer-width (length (i .args .answers .now))) (put-at p z) (c .if1 .taken)),
+      (s .1, λ bodies roots b begun body h e z d T. turn-calls-full bodies (Among roots) b (j .known) (j .rule) (j .row) (j .walk) (past-of j begun) body T h e (room answer-width (length (i .args .answers .now))) (put-at p z) (c .if1 .taken)),
     )
 
 note-requires : tie.Need-note-requires
@@ -92,10 +92,10 @@ returns-2 c =
       (s .0 .long, s .0 .stored, refl, m .before .before .before .before .note .ensures .grew),
       (
         s .1,
-        λ bodies roots b notes body h e z d T.
-            (let (U, l, k) = turn-called bodies (Among roots) b (j .known) (j .rule) (j .row) (j .walk) (past-of j notes) body T h e (put-at p z) (m .before .before .before .before .before .before .if1 .left) in
-            let N = turn-noted bodies (Among roots) b (j .known) (j .rule) (j .row) (j .walk) (past-of j notes) body U h e (m .before .before .before .before .note .ensures) in
-            (turn-seen bodies (Among roots) b (j .known) (j .rule) (j .row) (j .walk) (past-of j notes) body N h e l k (m .before .before .before .before .note .ensures .used) (m .before .before .before .before .note .ensures .after) (rw (c .if2 .taken) at (m .is-marked .ensures)), refl)),
+        λ bodies roots b begun body h e z d T.
+            (let (U, l, k) = turn-called bodies (Among roots) b (j .known) (j .rule) (j .row) (j .walk) (past-of j begun) body T h e (put-at p z) (m .before .before .before .before .before .before .if1 .left) in
+            let N = turn-noted bodies (Among roots) b (j .known) (j .rule) (j .row) (j .walk) (past-of j begun) body U h e (m .before .before .before .before .note .ensures) in
+            (turn-seen bodies (Among roots) b (j .known) (j .rule) (j .row) (j .walk) (past-of j begun) body N h e l k (m .before .before .before .before .note .ensures .used) (m .before .before .before .before .note .ensures .after) (rw (c .if2 .taken) at (m .is-marked .ensures)), refl)),
       ),
     )
 
@@ -146,12 +146,12 @@ returns-3 c =
       (s .0 .long, s .0 .stored, refl, m .before .before .before .before .note .ensures .grew),
       (
         s .1,
-        λ bodies roots b notes body h e z d T.
-            (let (U, l, r) = turn-called bodies (Among roots) b (j .known) (j .rule) (j .row) (j .walk) (past-of j notes) body T h e (put-at p z) (m .before .before .before .before .before .before .if1 .left) in
-            let N = turn-noted bodies (Among roots) b (j .known) (j .rule) (j .row) (j .walk) (past-of j notes) body U h e (m .before .before .before .before .note .ensures) in (
+        λ bodies roots b begun body h e z d T.
+            (let (U, l, r) = turn-called bodies (Among roots) b (j .known) (j .rule) (j .row) (j .walk) (past-of j begun) body T h e (put-at p z) (m .before .before .before .before .before .before .if1 .left) in
+            let N = turn-noted bodies (Among roots) b (j .known) (j .rule) (j .row) (j .walk) (past-of j begun) body U h e (m .before .before .before .before .note .ensures) in (
               rw (k .mark .ensures)
-                  (turn-none bodies (Among roots) b (j .known) (j .rule) (j .row) (j .walk) (past-of j notes) body N h e l r (m .before .before .before .before .note .ensures .used) (m .before .before .before .before .note .ensures .after) (row-small p (m .before .before .before .before .before .before .if1 .left)) (rw (at-if2 .if2 .left) at (m .is-marked .ensures))
-                  (picked-among (i .args .answers .now) (i .args .m) (rw (c .if3 .taken) at (n .first-of .ensures .1 notes body d)))),
+                  (turn-none bodies (Among roots) b (j .known) (j .rule) (j .row) (j .walk) (past-of j begun) body N h e l r (m .before .before .before .before .note .ensures .used) (m .before .before .before .before .note .ensures .after) (row-small p (m .before .before .before .before .before .before .if1 .left)) (rw (at-if2 .if2 .left) at (m .is-marked .ensures))
+                  (picked-among (i .args .answers .now) (i .args .m) (rw (c .if3 .taken) at (n .first-of .ensures .1 begun body d)))),
               refl,
             )),
       ),
@@ -221,12 +221,12 @@ returns-4 c =
       (s .0 .long, s .0 .stored, refl, m .before .before .before .before .note .ensures .grew),
       (
         s .1,
-        λ bodies roots b notes body h e z d T.
-            (let (U, l, r) = turn-called bodies (Among roots) b (j .known) (j .rule) (j .row) (j .walk) (past-of j notes) body T h e (put-at p z) (m .before .before .before .before .before .before .if1 .left) in
-            let N = turn-noted bodies (Among roots) b (j .known) (j .rule) (j .row) (j .walk) (past-of j notes) body U h e (m .before .before .before .before .note .ensures) in (
+        λ bodies roots b begun body h e z d T.
+            (let (U, l, r) = turn-called bodies (Among roots) b (j .known) (j .rule) (j .row) (j .walk) (past-of j begun) body T h e (put-at p z) (m .before .before .before .before .before .before .if1 .left) in
+            let N = turn-noted bodies (Among roots) b (j .known) (j .rule) (j .row) (j .walk) (past-of j begun) body U h e (m .before .before .before .before .note .ensures) in (
               rw (c .final-of .ensures, k .mark .ensures)
-                  (turn-take bodies (Among roots) b (j .known) (j .rule) (j .row) (j .walk) (past-of j notes) body N h e l r (m .before .before .before .before .note .ensures .used) (m .before .before .before .before .note .ensures .after) (row-small p (m .before .before .before .before .before .before .if1 .left)) (rw (at-if2 .if2 .left) at (m .is-marked .ensures)) below
-                  (picked-among (i .args .answers .now) (i .args .m) (n .first-of .ensures .1 notes body d))),
+                  (turn-take bodies (Among roots) b (j .known) (j .rule) (j .row) (j .walk) (past-of j begun) body N h e l r (m .before .before .before .before .note .ensures .used) (m .before .before .before .before .note .ensures .after) (row-small p (m .before .before .before .before .before .before .if1 .left)) (rw (at-if2 .if2 .left) at (m .is-marked .ensures)) below
+                  (picked-among (i .args .answers .now) (i .args .m) (n .first-of .ensures .1 begun body d))),
               left-on (j .known) (i .args .chosen .now) (set (i .args .chosen .now) at first) at at (λ q l. getD-set-other (i .args .chosen .now) at q first 0 (omega arith)) (i .pre .0 .2) refl,
             )),
       ),

@@ -20,7 +20,7 @@ returns c =
     let x = c .before .before .before .before .before .add-answer .ensures in
     let j = c .before .before .before .before .before .before .before .before .before .before .args .job in (
       (x .0 .long, x .0 .stored, refl),
-      (x .1, λ bodies roots b notes body calls marks uses at h T. turn-answers-full bodies (Among roots) b (j .known) (j .rule) (j .row) (j .walk) (past-of j notes) body T h (room call-width (length calls)) (x .0 .put) (c .if1 .taken)),
+      (x .1, λ bodies roots b begun body calls marks uses at h T. turn-answers-full bodies (Among roots) b (j .known) (j .rule) (j .row) (j .walk) (past-of j begun) body T h (room call-width (length calls)) (x .0 .put) (c .if1 .taken)),
     )
 
 same-length-3 : tie.Need-same-length-3
@@ -34,7 +34,7 @@ returns-2 c =
     let x = c .before .before .before .before .before .add-answer .ensures in
     let j = c .before .before .before .before .before .before .before .before .before .before .args .job in (
       (x .0 .long, x .0 .stored, refl),
-      (x .1, λ bodies roots b notes body calls marks uses at h T. (turn-ended bodies (Among roots) b (j .known) (j .rule) (j .row) (j .walk) (past-of j notes) body T h (x .0 .put) (c .if1 .left), refl)),
+      (x .1, λ bodies roots b begun body calls marks uses at h T. (turn-ended bodies (Among roots) b (j .known) (j .rule) (j .row) (j .walk) (past-of j begun) body T h (x .0 .put) (c .if1 .left), refl)),
     )
 
 pub finish-spec : {M : Type 1} → statement M

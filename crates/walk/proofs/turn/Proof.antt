@@ -10,7 +10,7 @@ use Rattle.records.proofs.Growth.{Tables}
 use Rattle.tabling.proofs.Evidence.{Among}
 use Rattle.loops.proofs.Walking.{chosen-of}
 use Rattle.tabling.proofs.Measure.{left}
-use Rattle.loops.proofs.Turn.{Turned, body-short}
+use Rattle.loops.proofs.Turn.{Begin, Turned, body-short}
 use Rattle.loops.proofs.Going.{Going, going-fits, in-words, went-over, went-on}
 use Rattle.walk.specs.declared.Job.{Job}
 use Rattle.walk.specs.declared.Front.{Front}
@@ -42,7 +42,7 @@ advance-requires c κs =
     )
 
 -- where nothing is left from here on
-module _ (v : tie.After-advance) (e : v .advance .result .front ≡ front.Spent) (bodies : Bodies) (roots : List (ℕ × ℕ)) (b : Tables) (notes : List ℕ) where
+module _ (v : tie.After-advance) (e : v .advance .result .front ≡ front.Spent) (bodies : Bodies) (roots : List (ℕ × ℕ)) (b : Tables) (begun : Begin) where
   abbrev i : tie.Start
   i = v .before .before .before .before .before .before .before .before .before .before .before .before .before .before .before .before
 
@@ -52,14 +52,14 @@ module _ (v : tie.After-advance) (e : v .advance .result .front ≡ front.Spent)
   abbrev at : ℕ
   at = length (i .args .body .now) - length (i .args .rest .now)
 
-  spent : Going bodies (Among roots) b (j .known) (j .rule) (j .row) (j .walk) (past-of j notes) (i .args .body .now) (in-words (i .args .calls .now) (i .args .n) (i .args .answers .now) (i .args .m)) (i .args .marks .now) (i .args .uses .now) (i .args .chosen .now) (i .args .rest .now) (spot-of (i .args .spot))
-      → Turned bodies (Among roots) b (j .known) (j .rule) (j .row) (j .walk) (past-of j notes) (i .args .body .now) (in-words (v .advance .last .1 .1 .1 .0) (v .advance .result .calls) (v .advance .last .1 .1 .1 .1 .1 .1 .0) (v .advance .result .answers))
+  spent : Going bodies (Among roots) b (j .known) (j .rule) (j .row) (j .walk) (past-of j begun) (i .args .body .now) (in-words (i .args .calls .now) (i .args .n) (i .args .answers .now) (i .args .m)) (i .args .marks .now) (i .args .uses .now) (i .args .chosen .now) (i .args .rest .now) (spot-of (i .args .spot))
+      → Turned bodies (Among roots) b (j .known) (j .rule) (j .row) (j .walk) (past-of j begun) (i .args .body .now) (in-words (v .advance .last .1 .1 .1 .0) (v .advance .result .calls) (v .advance .last .1 .1 .1 .1 .1 .1 .0) (v .advance .result .answers))
       (v .advance .last .1 .1 .1 .1 .1 .1 .1 .1 .1 .0) (v .advance .last .1 .1 .1 .1 .1 .1 .1 .1 .1 .1 .0) (v .advance .last .1 .1 .1 .1 .1 .1 .1 .1 .1 .1 .1 .0) at (spot-of (i .args .spot))
       × (v .advance .last .1 .1 .1 .1 .1 .1 .1 .1 .1 .1 .1 .0 ≡ i .args .chosen .now)
   spent G = subst
-      (λ (f : Front). Stepped f bodies (Among roots) b notes j (i .args .body .now) (length (i .args .calls .now)) (length (i .args .answers .now)) (i .args .chosen .now) at (spot-of (i .args .spot))
+      (λ (f : Front). Stepped f bodies (Among roots) b begun j (i .args .body .now) (length (i .args .calls .now)) (length (i .args .answers .now)) (i .args .chosen .now) at (spot-of (i .args .spot))
       (in-words (v .advance .last .1 .1 .1 .0) (v .advance .result .calls) (v .advance .last .1 .1 .1 .1 .1 .1 .0) (v .advance .result .answers)) (v .advance .last .1 .1 .1 .1 .1 .1 .1 .1 .1 .0) (v .advance .last .1 .1 .1 .1 .1 .1 .1 .1 .1 .1 .0) (v .advance .last .1 .1 .1 .1 .1 .1 .1 .1 .1 .1 .1 .0))
-      e (v .advance .ensures .1 bodies roots b notes (i .args .body .now) (G .tail) (G .turning))
+      e (v .advance .ensures .1 bodies roots b begun (i .args .body .now) (G .tail) (G .turning))
 
 go-back-requires : tie.Need-go-back-requires
 go-back-requires c κs =
@@ -79,20 +79,20 @@ returns c =
     let v = c .before .before .before .before .before .before .before .before .before .before .before .before .before .before .before .before .before .before .before .before in
     let j = v .before .before .before .before .before .before .before .before .before .before .before .before .before .before .before .before .args .job in (
       v .advance .ensures .0,
-      λ bodies roots b notes G.
-          went-over bodies (Among roots) b (j .known) (j .rule) (j .row) (j .walk) (past-of j notes) _ (v .advance .last .1 .1 .1 .0) (v .advance .result .calls) (v .advance .last .1 .1 .1 .1 .1 .1 .0) (v .advance .result .answers)
-          (spent v (c .before .before .before .before .before .before .enum-told2 .given .1) bodies roots b notes G .0) (g .go-back .ensures) (c .if1 .taken),
+      λ bodies roots b begun G.
+          went-over bodies (Among roots) b (j .known) (j .rule) (j .row) (j .walk) (past-of j begun) _ (v .advance .last .1 .1 .1 .0) (v .advance .result .calls) (v .advance .last .1 .1 .1 .1 .1 .1 .0) (v .advance .result .answers)
+          (spent v (c .before .before .before .before .before .before .enum-told2 .given .1) bodies roots b begun G .0) (g .go-back .ensures) (c .if1 .taken),
     )
 
 returns-2 : tie.Need-returns-2
 returns-2 c =
     let v = c .before .before .before .before .before .before .before .before .before .before .before .before .before .before .before in
-    (v .advance .ensures .0, λ bodies roots b notes G. rw (c .before .front .given .1) at (v .advance .ensures .1 bodies roots b notes _ (G .tail) (G .turning)))
+    (v .advance .ensures .0, λ bodies roots b begun G. rw (c .before .front .given .1) at (v .advance .ensures .1 bodies roots b begun _ (G .tail) (G .turning)))
 
 returns-3 : tie.Need-returns-3
 returns-3 c =
     let v = c .before .before .before .before .before .before .before .before .before .before .before .before .before .before in
-    (v .advance .ensures .0, λ bodies roots b notes G. rw (c .enum-told .given .1) at (v .advance .ensures .1 bodies roots b notes _ (G .tail) (G .turning)))
+    (v .advance .ensures .0, λ bodies roots b begun G. rw (c .enum-told .given .1) at (v .advance .ensures .1 bodies roots b begun _ (G .tail) (G .turning)))
 
 returns-4 : tie.Need-returns-4
 returns-4 c =
@@ -103,9 +103,9 @@ returns-4 c =
     let r = g .go-back .result .at in
     let e : r ≡ (r - 1) + 1 = omega (arith, c .if1 .left) in (
       v .advance .ensures .0,
-      λ bodies roots b notes G.
-          (let S = spent v (c .before .before .before .before .before .before .enum-told2 .given .1) bodies roots b notes G in
-          let W = went-on bodies (Among roots) b (j .known) (j .rule) (j .row) (j .walk) (past-of j notes) _ (v .advance .last .1 .1 .1 .0) (v .advance .result .calls) (v .advance .last .1 .1 .1 .1 .1 .1 .0) (v .advance .result .answers) (S .0) (g .go-back .ensures) (r - 1) e in
+      λ bodies roots b begun G.
+          (let S = spent v (c .before .before .before .before .before .before .enum-told2 .given .1) bodies roots b begun G in
+          let W = went-on bodies (Among roots) b (j .known) (j .rule) (j .row) (j .walk) (past-of j begun) _ (v .advance .last .1 .1 .1 .0) (v .advance .result .calls) (v .advance .last .1 .1 .1 .1 .1 .1 .0) (v .advance .result .answers) (S .0) (g .go-back .ensures) (r - 1) e in
           (W .0, omega (arith, W .1, ap (λ (l : List ℕ). left (j .known) l (length (a .body .now) - length (a .rest .now))) (S .1)))),
     )
 

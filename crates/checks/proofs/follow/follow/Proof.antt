@@ -1,26 +1,30 @@
 -- `follow` meets its contract, by the step's kind. Assumes nothing.
+use Prim.Native.Nat.{_<_}
 use native.Mathlib.Omega.{arith}
 use mathlib.Core.Path.{refl, sym, _∙_}
-use borrow.Author.Tests.{lt-ltb, le-ltb, eq-eqb, ne-eqb}
+use borrow.Author.Tests.{eq-eqb, ne-eqb}
 use Rattle.steps.specs.Next.{onward}
-use Rattle.checks.proofs.FollowLaws.{follow-call, follow-elementary}
+use Rattle.records.specs.Records.{call-table, answer-table}
+use Rattle.checks.proofs.FollowLaws.{earlier-below, follow-call, follow-elementary}
 use borrow.Author.Needs.{needs}
 use Rattle.checks.proofs.follow.follow.Statement.{statement}
 use Rattle.checks.proofs.follow.follow.Tie as tie
 
 take-requires : tie.Need-take-requires
 take-requires c κs =
-    let r = c .before .before .before .before .before .before .pre in
-    record { most = omega (arith, r .most, c .before .if2 .taken); long = omega (arith, r .long, c .before .if2 .taken); called = λ x h. r .called x (omega (arith, c .before .if2 .taken)) }
+    let r = c .before .before .before .before .before .before .before .pre in
+    let a = c .before .before .before .before .before .before .before .args in
+    let l : a .evidence < a .n = earlier-below (call-table (a .calls .now) 0) (answer-table (a .answers .now) 0) (a .n) (a .evidence) (sym (c .before .before .earlier .ensures (call-table (a .calls .now) 0) 0) ∙ c .before .if2 .taken) in
+    record { most = omega (arith, r .most); long = omega (arith, r .long); called = λ x h. r .called x (omega arith) }
 
 returns : tie.Need-returns
 returns c k m =
-    rw (follow-call _ _ _ _ _ _ (sym (c .before .before .before .before .is-call .ensures) ∙ c .before .before .before .if1 .taken), lt-ltb _ _ (c .before .before .if2 .taken), ← c .before .index .ensures) (c .take .ensures)
+    rw (follow-call _ _ _ _ _ _ (sym (c .before .before .before .before .before .is-call .ensures) ∙ c .before .before .before .before .if1 .taken), ← c .before .before .before .earlier .ensures (call-table (c .before .before .before .before .before .before .before .before .args .calls .now) k) m, c .before .before .if2 .taken, ← c .before .index .ensures) (c .take .ensures)
 
 returns-2 : tie.Need-returns-2
 unfolding onward
 returns-2 c k m =
-    rw (follow-call _ _ _ _ _ _ (sym (c .before .before .is-call .ensures) ∙ c .before .if1 .taken), le-ltb _ _ (c .if2 .left)) refl
+    rw (follow-call _ _ _ _ _ _ (sym (c .before .before .before .is-call .ensures) ∙ c .before .before .if1 .taken), ← c .before .earlier .ensures (call-table (c .before .before .before .before .before .before .args .calls .now) k) m, c .if2 .left) refl
 
 returns-3 : tie.Need-returns-3
 returns-3 c k m =
@@ -35,5 +39,5 @@ pub follow-spec : {M : Type 1} → statement M
 follow-spec =
     tie.close
     (tie.spec
-    (λ c κs. search needs) (λ c κs. search needs) take-requires returns returns-2
-    (λ c κs. search needs) returns-3 returns-4)
+    (λ c κs. search needs) (λ c κs. search needs) (λ c κs. search needs) take-requires returns
+    returns-2 (λ c κs. search needs) returns-3 returns-4)

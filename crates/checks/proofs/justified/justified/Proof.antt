@@ -1,7 +1,7 @@
 -- `justified` meets its contract, part by part. Assumes nothing.
 use native.Mathlib.Omega.{arith}
 use mathlib.Core.Path.{sym, _∙_}
-use Rattle.checks.proofs.JustifiedLaws.{no-call, no-rule, by-walk}
+use Rattle.checks.proofs.JustifiedLaws.{no-call, no-rule, by-walk, readable-more}
 use borrow.Author.Needs.{needs}
 use Rattle.checks.proofs.justified.justified.Statement.{statement}
 use Rattle.checks.proofs.justified.justified.Tie as tie
@@ -10,7 +10,9 @@ steps-of-requires : tie.Need-steps-of-requires
 steps-of-requires c κs = (c .before .before .before .before .before .before .before .before .before .before .pre .0, (c .before .before .action-of .result, sym (c .before .is-of .ensures) ∙ c .if2 .taken))
 
 follows-requires : tie.Need-follows-requires
-follows-requires c κs = (c .before .before .before .before .before .before .before .before .before .before .before .before .pre .4, omega arith, omega arith, c .before .steps-of .ensures .1)
+follows-requires c κs =
+    let p = c .before .before .before .before .before .before .before .before .before .before .before .before .pre in
+    (readable-more (p .4) (p .1) (p .2) (p .3) (rw (c .before .before .before .before .before .before .before .call-of .ensures) at (c .before .before .before .before .before .before .if1 .taken)), c .before .steps-of .ensures .1)
 
 returns : tie.Need-returns
 returns c m =

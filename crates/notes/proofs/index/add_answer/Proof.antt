@@ -32,7 +32,7 @@ returns-2 c =
         stored = stored-more (s .pre .0) (p .long) (omega arith) (omega arith) (λ i l. p .other i (inr l));
         put = answer-added refl (omega arith) (f .find-answer .ensures .1 .absent (e .if1 .left)) (answer-one-more p);
       },
-      n .note-answer .ensures _ _ _ (answer-one-more p),
+      n .note-answer .ensures _ _ _ _ (answer-one-more p),
     )
 
 returns-3 : tie.Need-returns-3

@@ -18,7 +18,7 @@ returns c =
     let b = n .before in
     let t = b .before .before in
     let s = t .before .before .before .before in
-    λ rule evidence after p. answer-index-more (s .pre .3) p (s .pre .1) (s .pre .2) (b .bucket .ensures) (t .tail .ensures .1) (n .note .ensures) (j .join .ensures)
+    λ rule evidence r after p. answer-index-more (s .pre .3) p (s .pre .1) (s .pre .2) (b .bucket .ensures) (t .tail .ensures .1) (n .note .ensures) (j .join .ensures)
 
 pub note-answer-spec : {M : Type 1} → statement M
 note-answer-spec =

@@ -4,7 +4,7 @@ use Prim.Native.Nat.{_-_, _<_}
 use native.Mathlib.Omega.{arith}
 use mathlib.Core.Path.{_≡_, ap}
 use lib.ListN.{length, getD}
-use Rattle.unfolding.proofs.Walk.{checked-less, leads-below, words-at, stands-first, stands-goes}
+use Rattle.unfolding.proofs.Walk.{leads-below, words-at, stands-first, stands-goes}
 use Rattle.unfolding.proofs.Places.{Along, along-first, along-next, exact, room-left, Laying, laying-none, laying-more}
 use Rattle.path.proofs.place.place.Statement.{statement}
 use Rattle.path.proofs.place.place.Tie as tie
@@ -55,7 +55,7 @@ take-step-requires c κs =
     let a = entry .args in
     let i = at-loop .loop .inv in
     let l : at-loop .loop .q < length (words-at (a .rules .now) (a .goal .now) (a .answers .now) (a .n)) = omega (arith, ap length (i .0)) in
-    (checked-less {n = a .n} (omega arith) (entry .pre .checked) .readable, entry .pre .sizes-long, rw (i .0, c .evidence-of .ensures) (stands-goes (a .rules .now) (a .goal .now) (a .calls .now) (a .answers .now) (a .n) _ _ l (i .1 .stands)))
+    (entry .pre .checked .readable, entry .pre .sizes-long, rw (i .0, c .evidence-of .ensures) (stands-goes (a .rules .now) (a .goal .now) (a .calls .now) (a .answers .now) (a .n) _ _ l (i .1 .stands)))
 
 note-requires : tie.Need-note-requires Inv-loop μ-loop
 note-requires c κs k = omega (arith, leads-below k (c .before .take-step .ensures .to), c .before .before .before .before .before .before .before .before .before .before .before .before .before .before .before .pre .offsets-long, c .before .before .before .before .before .loop .inv .2 .long)

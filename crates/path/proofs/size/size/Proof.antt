@@ -3,7 +3,7 @@ use Prim.Native.Nat.{_-_, _<_}
 use native.Mathlib.Omega.{arith}
 use mathlib.Core.Path.{_≡_, ap}
 use lib.ListN.{length}
-use Rattle.unfolding.proofs.Walk.{checked-less, words-at, stands-first, stands-goes}
+use Rattle.unfolding.proofs.Walk.{words-at, stands-first, stands-goes}
 use Rattle.unfolding.proofs.Sizes.{Counted, counted-none, counted-more, counted-all, turned-small}
 use Rattle.path.proofs.size.size.Statement.{statement}
 use Rattle.path.proofs.size.size.Tie as tie
@@ -46,7 +46,7 @@ take-step-requires c κs =
     let a = entry .args in
     let i = at-loop .loop .inv in
     let l : at-loop .loop .q < length (words-at (a .rules .now) (a .goal .now) (a .answers .now) (a .n)) = omega (arith, ap length (i .0)) in
-    (checked-less {n = a .n} (omega arith) (entry .pre .0) .readable, entry .pre .1, rw (i .0, c .evidence-of .ensures) (stands-goes (a .rules .now) (a .goal .now) (a .calls .now) (a .answers .now) (a .n) _ _ l (i .1 .stands)))
+    (entry .pre .0 .readable, entry .pre .1, rw (i .0, c .evidence-of .ensures) (stands-goes (a .rules .now) (a .goal .now) (a .calls .now) (a .answers .now) (a .n) _ _ l (i .1 .stands)))
 
 capped-requires : tie.Need-capped-requires Inv-loop μ-loop
 capped-requires c κs =
