@@ -148,6 +148,9 @@ extern "C" {
  *   an earlier round with only the answers of earlier rounds, and adds all new calls and
  *   answers at once; a record's round is the one it came in. A run has as many rounds as
  *   added something.
+ * Order: calls stand by round, then action, then state; answers by round, then call record,
+ *   then final state. Among the justifications of an answer by answers of smaller rounds the
+ *   lowest rule number is kept, then the least evidence words from the first on.
  * Result words of a start in a class: 4 words: refusal number or 0, ends, calls, answers.
  * Room of a table: its length divided by 3 or 20, rounded down, at most 65,536.
  * States by fluent: for each block of 64 states, of which the last may be shorter, one
@@ -309,9 +312,11 @@ lawhemuri_part lawhemuri_merged_fluent(const uint8_t *first, size_t first_len,
 /* Evaluates a goal from a start (refusals 20 to 31).
  *
  * No refusal:
- *   calls: result.calls records, each of the run's calls once, with its round; 0 past them.
- *   answers: result.answers records, each of the run's answers once, with its round, each
- *     justified by its evidence; 0 past them.
+ *   calls: result.calls records, each of the run's calls once, with its round, in the one
+ *     order; 0 past them.
+ *   answers: result.answers records, each of the run's answers once, with its round, in the
+ *     one order, each with the one justification kept; 0 past them. So the request gives
+ *     every word of both tables.
  *   ends: the goal's final states, result.ends of them in rising order; unchanged past
  *     them.
  * 20 to 24: all three unchanged.

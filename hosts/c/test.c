@@ -287,6 +287,22 @@ static void test_rounds_of_records(void) {
     EXPECT(SHOWN() == LAWHEMURI_BAD_RECORD);
 }
 
+/* g: +b; g: +a; g: +a +b; goal !g !g: every word of both tables, in the one order and with the one justification that are promised. */
+static void test_one_order(void) {
+    static const uint16_t rules[54] = {0, 1, 257, [19] = 1, 256, [37] = 2, 256, 257}, goal[2] = {768, 768};
+    static const uint64_t wanted_calls[6][3] = {{64, 0, 0}, {0, 0, 1}, {0, 1, 3}, {0, 2, 3}, {0, 3, 3}};
+    static const uint64_t wanted[12][20] = {
+        {1, 1, 1, [19] = 2},        {1, 2, 0, [19] = 2},        {1, 3, 2, [19] = 2},        {2, 1, 1, [19] = 4},
+        {2, 3, 0, [19] = 4},        {3, 2, 0, [19] = 4},        {3, 3, 1, [19] = 4},        {4, 3, 0, [19] = 4},
+        {0, 1, 256, 0, 3, [19] = 5}, {0, 2, 256, 1, 5, [19] = 5}, {0, 3, 256, 0, 4, [19] = 5},
+    };
+    uint64_t got_calls[6][3], got[12][20], got_ends[3];
+    lawhemuri_run r = lawhemuri_evaluate(2, 1, rules, 54, goal, 2, 0, *got_calls, 18, *got, 240, got_ends, 3);
+    EXPECT(r.refusal == LAWHEMURI_OK && r.ends == 3 && r.calls == 5 && r.answers == 11 && r.rounds == 5);
+    EXPECT(memcmp(got_calls, wanted_calls, sizeof wanted_calls) == 0);
+    EXPECT(memcmp(got, wanted, sizeof wanted) == 0);
+}
+
 /* Drill D5: an insert of what holds is an update too, so its path has two states. */
 static void test_idle_update(void) {
     static const uint16_t goal[1] = {256};
@@ -525,6 +541,7 @@ int main(void) {
     test_path();
     test_rounds();
     test_rounds_of_records();
+    test_one_order();
     test_idle_update();
     test_store();
     test_blocks();

@@ -281,6 +281,36 @@ class Rounds(unittest.TestCase):
             table[word] = kept
 
 
+class OneOrder(unittest.TestCase):
+    """Every word of both tables: calls by round, action and state; answers by round, call record and final state, by the lowest rule and the
+    least evidence."""
+
+    def test_words(self):
+        sheet, rules = LIBRARY.read(
+            "fluent\ta\nfluent\tb\naction\tg\nrule\tg\t+b\nrule\tg\t+a\nrule\tg\t+a\t+b\nstart\ngoal\t!g\t!g\n"
+        )
+        run, ends, calls, answers = LIBRARY.evaluate(sheet, rules, rooms=(6, 12, 3))
+        self.assertEqual((run.calls, run.answers, run.rounds, ends), (5, 11, 5, [1, 2, 3]))
+        self.assertEqual(list(calls), [64, 0, 0] + [0, 0, 1] + [0, 1, 3] + [0, 2, 3] + [0, 3, 3] + [0, 0, 0])
+        words = []
+        for call, final, rule, evidence, round_ in [
+            (1, 1, 1, (0, 0), 2),
+            (1, 2, 0, (0, 0), 2),
+            (1, 3, 2, (0, 0), 2),
+            (2, 1, 1, (0, 0), 4),
+            (2, 3, 0, (0, 0), 4),
+            (3, 2, 0, (0, 0), 4),
+            (3, 3, 1, (0, 0), 4),
+            (4, 3, 0, (0, 0), 4),
+            (0, 1, 256, (0, 3), 5),
+            (0, 2, 256, (1, 5), 5),
+            (0, 3, 256, (0, 4), 5),
+            (0, 0, 0, (0, 0), 0),
+        ]:
+            words += [call, final, rule, *evidence] + [0] * 14 + [round_]
+        self.assertEqual(list(answers), words)
+
+
 class WholeClass(unittest.TestCase):
     """Drill D2's goal from several starts in one go."""
 

@@ -8,7 +8,7 @@ use Rattle.steps.specs.State.{State}
 use Rattle.sheet.specs.Book as sheet
 use Rattle.writer.specs.Text.{holding}
 use Rattle.evaluator.specs.Evaluated.{Evaluated, Asked, Lent, Told, asked}
-use Rattle.evaluator.proofs.Determined.{tabled}
+use Rattle.evaluator.proofs.Determined.{unrefused-tabled}
 use Rattle.merge.specs.Joined.{both-books}
 use Rattle.merge.specs.Merge.{joins, merge-of}
 use Rattle.merge.proofs.Laws.{ends-kept}
@@ -25,5 +25,5 @@ NothingBeyond a b = (n : List ℕ) → List·Memᴰ n (holding 0 (b .start) (b .
 module _ (s t : List ℕ) (a b : sheet.Book) (e : merge-of s t ≡ joins a b) (h : NothingBeyond a b) where
   -- Every end that the run of the first sheet lists, the run of the merged one lists.
   pub merged-keeps-ends : {before after before′ after′ : Lent} {r r′ : Told} (E : Evaluated (asked-of a) before after r) (z : r .refusal ≡ 0)
-      (E′ : Evaluated (asked-of (both-books a b)) before′ after′ r′) (z′ : r′ .refusal ≡ 0) → (D : State) → List·Memᴰ D (tabled E z .ends) → List·Memᴰ D (tabled E′ z′ .ends)
-  merged-keeps-ends E z E′ z′ D m = tabled E′ z′ .exactly .members D .1 (ends-kept s t a b e h D (tabled E z .exactly .members D .0 m))
+      (E′ : Evaluated (asked-of (both-books a b)) before′ after′ r′) (z′ : r′ .refusal ≡ 0) → (D : State) → List·Memᴰ D (unrefused-tabled E z .ends) → List·Memᴰ D (unrefused-tabled E′ z′ .ends)
+  merged-keeps-ends E z E′ z′ D m = unrefused-tabled E′ z′ .exactly .members D .1 (ends-kept s t a b e h D (unrefused-tabled E z .exactly .members D .0 m))

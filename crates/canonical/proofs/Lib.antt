@@ -1,5 +1,7 @@
+-- Vectors: the words of some tables.
+pub mod Vectors
 -- Laws of the rounds. Ordered, Keys: lists in an order, `in-order`. Onward, Ways, Routes: steps, ways and calls over the rows, as in the graph of
--- the search. Found, OneRound: what a round finds and leaves. Prefix, AfterRounds, Justifying, Settling: all rounds. Drills: some runs.
+-- the search. Found, OneRound: what a round finds and leaves. Prefix, AfterRounds, Justifying, Settling: all rounds. Drills: the rounds of the vectors.
 pub mod Ordered
 pub mod Keys
 pub mod Onward
@@ -12,8 +14,15 @@ pub mod AfterRounds
 pub mod Justifying
 pub mod Settling
 pub mod Drills
--- Rounds of the code, in whatever order they find. Same: rounds over tables with the same records leave the same. Telling, Sayings: from the goal's
--- call on they leave the records of the definition, with their rounds and their number.
-pub mod Same
-pub mod Telling
-pub mod Sayings
+-- Words of rows. RowWords, Standing: those of a settled run say all that is said of a finished one. CallList: the list of call record numbers (R-10).
+pub mod RowWords
+pub mod Standing
+pub mod CallList
+-- Rounds of the code (R-7). TableRows: its tables as rows, and a round by record numbers. Beginning, Leaving, CodeRounds: from the goal's call on its
+-- rounds are those of the definition. ReadBack, Words: so are the words of its tables.
+pub mod TableRows
+pub mod Beginning
+pub mod Leaving
+pub mod CodeRounds
+pub mod ReadBack
+pub mod Words

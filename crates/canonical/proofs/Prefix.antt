@@ -25,14 +25,6 @@ module _ {A : Type 0} (d : A) where
           let e : getD (xs ++ ys) i d ≡ getD ys (i - length xs) d = subst (λ (j : ℕ). getD (xs ++ ys) j d ≡ getD ys (i - length xs) d) z (getD-append-add xs ys (i - length xs) d) in
           inr (omega arith, subst (λ (x : A). List·Memᴰ x ys) (sym e) (at-member ys (i - length xs) d (omega (arith, length-append xs ys))))
 
-  -- a place behind the first holds a member of the second
-  pub place-new : (xs ys : List A) {zs : List A} → zs ≡ xs ++ ys → (i : ℕ) → length xs ≤ i → i < length zs → List·Memᴰ (getD zs i d) ys
-  place-new xs ys {zs} e i h l = subst (λ (v : List A). List·Memᴰ (getD v i d) ys) (sym e) (by (place-of xs ys i (subst (λ (v : List A). i < length v) e l)))
-    where
-      by : ((i < length xs) × (getD (xs ++ ys) i d ≡ getD xs i d)) ⊎ ((length xs ≤ i) × List·Memᴰ (getD (xs ++ ys) i d) ys) → List·Memᴰ (getD (xs ++ ys) i d) ys
-      by (inl (k, z)) = absurd (omega arith)
-      by (inr (k, m)) = m
-
   -- two places of an ordered list
   pub ordered-at : {R : A → A → Type 0} {xs : List A} → Ordered R xs → (i j : ℕ) → i < j → j < length xs → R (getD xs i d) (getD xs j d)
   ordered-at none i j h l = absurd (omega arith)

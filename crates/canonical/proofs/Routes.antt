@@ -1,22 +1,18 @@
--- The ways over the rows are those of the graph of the search: with the same labels, to the end and to a call; and the search comes along the least.
--- Assumes nothing.
-use Prim.Native.Nat.{ℕ, zero, suc, _+_, _%_, _<_, _≤_}
+-- The ways over the rows are those of the graph of the search: with the same labels, to the end and to a call. Assumes nothing.
+use Prim.Native.Nat.{ℕ, zero, suc, _+_, _<_, _≤_}
 use native.Mathlib.Omega.{arith}
 use mathlib.Core.Path.{_≡_, refl, sym, ap, subst, _∙_}
-use mathlib.Core.Bool.{true}
 use mathlib.Core.List.{List, [], _∷_, List·Memᴰ, List·Memᴰ·head, List·Memᴰ·not-nil, List·Memᴰ·eq-of-singleton}
-use mathlib.Core.Logic.{_⊎_, inl, inr, ⊎-elim, _↔_}
-use lib.ListN.{getD, length, take, drop, length-drop, drop-of-length-le, length-map}
-use lib.Seq.{drop-cons, getD-take, length-take-le, ext-getD}
+use mathlib.Core.Logic.{_↔_}
+use lib.ListN.{getD, length, drop, length-drop, drop-of-length-le, length-map}
+use lib.Seq.{drop-cons}
 use Rattle.steps.specs.State.{State}
 use Rattle.steps.specs.Step.{Step, query, insert, delete, call, deny, Body}
 use Rattle.steps.specs.Words.{step-of, body-of}
-use Rattle.steps.specs.Inner.{is-call}
 use Rattle.steps.specs.Elementary.{Onward, on, stuck, elementary}
-use Rattle.steps.proofs.WordLaws.{call-word}
 use Rattle.records.proofs.Growth.{Tables}
-use Rattle.tabling.proofs.Sweep.{Reach, here, more, Search, Way, Less, least}
-use Rattle.tabling.proofs.Graph.{calls, Leads, leads}
+use Rattle.tabling.proofs.Sweep.{Reach, here, more, Way, Less}
+use Rattle.tabling.proofs.Graph.{calls, Leads}
 use Rattle.tabling.proofs.Graph as graph
 use Rattle.tabling.proofs.Moves.{Of, final, front, move-step, move, EdgeT}
 use Rattle.canonical.specs.Rows.{Rows}
@@ -51,15 +47,6 @@ less-lex [] fs h (q, l, a, b) = absurd (omega arith)
 less-lex (e ∷ es) [] h w = absurd (omega arith)
 less-lex (e ∷ es) (f ∷ fs) h (zero, l, a, b) = less a
 less-lex (e ∷ es) (f ∷ fs) h (suc q, l, a, b) = later (b 0 (omega arith)) (less-lex es fs (omega arith) (q, omega arith, a, λ p k. b (suc p) (omega arith)))
-
-pub lex-less : {es fs : List ℕ} → Lex es fs → (n : ℕ) → length es ≤ n → Less (λ q. getD es q 0) (λ q. getD fs q 0) n
-lex-less (less l) n h = (0, omega arith, l, λ p k. absurd (omega arith))
-lex-less (later {x} {y} {xs} {ys} e l) zero h = absurd (omega arith)
-lex-less (later {x} {y} {xs} {ys} e l) (suc n) h = let (q, k, a, b) = lex-less l n (omega arith) in (suc q, omega arith, a, by q b)
-  where
-    by : (q : ℕ) → ((p : ℕ) → p < q → getD xs p 0 ≡ getD ys p 0) → (p : ℕ) → p < suc q → getD (x ∷ xs) p 0 ≡ getD (y ∷ ys) p 0
-    by q b zero k = e
-    by q b (suc p) k = b p (omega arith)
 
 -- ---- the states on a way
 module _ (t : Rows) where
@@ -108,20 +95,6 @@ module _ (t : Rows) {b : Tables} {known : ℕ} (shows : Shows t b known) where
             let m : Leads (Of b known) (final b) (move (getD ws q 0) (W .st q)) (getD es q 0) (W .st (suc q)) = rw (same q l) (W .edges q l .1) in
             rw (drop-cons ws q 0 l, drop-cons es q 0 l′) (step (leads-onward t shows (getD es q 0) (W .st (suc q)) (step-of (getD ws q 0)) (W .st q) m) (go k (suc q) (omega arith)))
 
-    -- A way of the graph to a call comes to it over the rows.
-    pub way-comes : {s u : State} {ev : ℕ → ℕ} {n : ℕ} → n < length ws → is-call (getD ws n 0) ≡ true → Way (EdgeT b known ws) ev s n u → Comes t (body-of ws) s (getD ws n 0 % 256, u)
-    unfolding called
-    way-comes {s} {u} {ev} {n} h k W = subst (λ (v : State). Comes t (body-of ws) v (getD ws n 0 % 256, u)) (W .from) (go n 0 (omega arith))
-      where
-        go : (k q : ℕ) → q + k ≡ n → Comes t (body-of (drop q ws)) (W .st q) (getD ws n 0 % 256, u)
-        go zero q e =
-            let z : q ≡ n = omega arith in
-            let m : List·Memᴰ {A = ℕ × State} (getD ws n 0 % 256, u) (called (step-of (getD ws n 0)) u) = rw (call-word (getD ws n 0) k) (List·Memᴰ·head refl) in
-            rw (z, W .now, drop-cons ws n 0 h) (now m)
-        go (suc k) q e =
-            let l : q < length ws = omega arith in
-            rw (drop-cons ws q 0 l) (past (leads-onward t shows (ev q) (W .st (suc q)) (step-of (getD ws q 0)) (W .st q) (W .edges q (omega arith) .1)) (go k (suc q) (omega arith)))
-
     -- nodes that are met: the end, and a call
     pub comes-reach : {s : State} {c : ℕ × State} (q : ℕ) (xs : List ℕ) → xs ≡ drop q ws → Comes t (body-of xs) s c → (p : ℕ) × (u : State) × Reach (EdgeT b known ws) q s p u × (p < length ws) × (move (getD ws p 0) u ≡ calls c)
     comes-reach {s} q (w ∷ xs) e (now m) = let (l, g, r) = peel ws q e in (q, s, here, l, rw g (called-move (step-of w) s m))
@@ -147,17 +120,6 @@ module _ (t : Rows) {b : Tables} {known : ℕ} (shows : Shows t b known) where
     reach-along (more {q} {x = x} {s = s} {u = v} e r) h =
         let (es, w) = reach-along r h in
         (x ∷ es, rw (drop-cons ws q 0 (e .0)) (step (leads-onward t shows x v (step-of (getD ws q 0)) s (e .1)) w))
-
-    -- The search comes to a state that is not good yet along the least of all ways there.
-    pub search-least : {Good : ℕ → State → Type 0} {D s : State} {mark : ℕ → State → Type 0} {es : List ℕ} {top : ℕ} (chosen : List ℕ) → Search (EdgeT b known ws) Good D mark (λ q. getD chosen q 0) top (length ws) s → ¬ Good (length ws) s
-        → length ws ≤ length chosen → Along t (body-of ws) D es s → (take (length ws) chosen ≡ es) ⊎ Lex (take (length ws) chosen) es
-    search-least {es = es} chosen S new enough w =
-        let long : length (take (length ws) chosen) ≡ length ws = length-take-le (length ws) chosen enough in
-        let long′ : length es ≡ length ws = rw length-map at (along-long t w) in
-        ⊎-elim
-        (λ same. inl (ext-getD 0 (take (length ws) chosen) es (long ∙ sym long′) (λ q h. (let k : q < length ws = omega arith in getD-take (length ws) chosen q 0 k ∙ same q k))))
-        (λ (q, l, a, c). inr (less-lex (take (length ws) chosen) es (long ∙ sym long′) (q, omega arith, rw (getD-take (length ws) chosen q 0 l) a, λ p k. getD-take (length ws) chosen p 0 (omega arith) ∙ c p k)))
-        (least (EdgeT b known ws) (leads move (Of b known) (final b) 0 ws) S (along-way w) new refl)
 
     -- ---- the two notions, side by side
 

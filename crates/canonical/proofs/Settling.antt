@@ -1,10 +1,9 @@
--- The rows after each round as tables: the next round leaves what a round leaves; and where it adds nothing they hold exactly the run's calls and
--- answers. Assumes nothing.
+-- The rows after each round as tables: where the next round adds nothing they hold exactly the run's calls and answers. Assumes nothing.
 use Prim.Native.Nat.{ℕ, suc, _/_, _<_, _≤_}
 use native.Mathlib.Omega.{arith}
 use mathlib.Core.Path.{_≡_, refl, ap, subst, _∙_}
 use mathlib.Core.Bool.{true}
-use mathlib.Core.List.{List, [], _∷_, List·Memᴰ}
+use mathlib.Core.List.{List, [], _∷_}
 use lib.ListN.{getD, length}
 use Rattle.steps.specs.State.{State}
 use Rattle.steps.specs.Run.{Goal}
@@ -22,15 +21,15 @@ use Rattle.tabling.proofs.Graph as graph
 use Rattle.tabling.proofs.Moves.{move, EdgeT}
 use Rattle.tabling.proofs.Evidence.{Among}
 use Rattle.tabling.proofs.Closed.{ClosedAt, Whole, C, A, exact-of}
-use Rattle.tabling.proofs.Found.{FoundCall, FoundAnswer, Rounded, reach-down}
+use Rattle.tabling.proofs.Found.{reach-down}
 use Rattle.tabling.proofs.RunTables.{exact-run}
 use Rattle.canonical.specs.Order.{Key}
-use Rattle.canonical.specs.Rows.{CallRow, AnswerRow, Rows, call-key, call-at, no-call}
+use Rattle.canonical.specs.Rows.{CallRow, AnswerRow, Rows, call-at, no-call}
 use Rattle.canonical.specs.Rounds.{after-round, Settled}
-use Rattle.canonical.proofs.Onward.{answer-at, no-answer}
-use Rattle.canonical.proofs.Routes.{reach-along, reach-comes, comes-reach, along-reach}
+use Rattle.canonical.proofs.Onward.{no-answer}
+use Rattle.canonical.proofs.Routes.{reach-along, reach-comes}
 use Rattle.canonical.proofs.Found.{CallFound, AnswerFound}
-use Rattle.canonical.proofs.Prefix.{place-new, view, view-shows, prefix-grew, prefix-call}
+use Rattle.canonical.proofs.Prefix.{view, view-shows, prefix-grew, prefix-call}
 use Rattle.canonical.proofs.AfterRounds.{grown-at, after-next}
 use Rattle.canonical.proofs.Justifying.{after-inside, after-valid}
 
@@ -52,26 +51,6 @@ module _ (rules goal : List ℕ) (few : length rules / rule-width ≤ goal-rule)
 
     abbrev u : Rows
     u = R (suc n)
-
-    -- ---- what was found over the rows was found over their tables
-    call-found : (d : ℕ × State) → CallFound rules goal t d → FoundCall bodies (view t) (length (t .answers)) d
-    call-found d f =
-        let (p, s, k, h, e) = comes-reach t (view-shows t) (bodies .words (f .rule)) 0 (bodies .words (f .rule)) refl (f .comes) in
-        record { row = f .row; row-in = f .row-in; rule = f .rule; fits = f .fits; place = p; state = s; way = k; inside = h; comes = e }
-
-    answer-found : (a : AnswerRow) → AnswerFound rules goal t a → FoundAnswer bodies (view t) (length (t .answers)) (a .call) (a .final)
-    answer-found a f = record {
-      row-in = f .call-in;
-      rule = a .rule;
-      fits = f .fits;
-      way = along-reach t (view-shows t) (bodies .words (a .rule)) 0 (bodies .words (a .rule)) (omega arith) refl (f .along);
-    }
-
-    new-call : (i : ℕ) → length (t .calls) ≤ i → i < length (u .calls) → List·Memᴰ (call-at (u .calls) i) (grown-at rules goal few start n .new-calls)
-    new-call = place-new no-call (t .calls) (grown-at rules goal few start n .new-calls) (grown-at rules goal few start n .calls-are)
-
-    new-answer : (x : ℕ) → length (t .answers) ≤ x → x < length (u .answers) → List·Memᴰ (answer-at (u .answers) x) (grown-at rules goal few start n .new-answers)
-    new-answer = place-new no-answer (t .answers) (grown-at rules goal few start n .new-answers) (grown-at rules goal few start n .answers-are)
 
     -- ---- what is found stands afterwards
     held-call : (d : ℕ × State) → CallFound rules goal t d → HeldCall (view u) d
@@ -97,17 +76,6 @@ module _ (rules goal : List ℕ) (few : length rules / rule-width ≤ goal-rule)
         down : Reach (EdgeT (view t) (length (t .answers)) (bodies .words i)) 0 (call-at (t .calls) row .state) p s
         down = subst (λ (c : CallRow). Reach (EdgeT (view t) (length (t .answers)) (bodies .words i)) 0 (c .state) p s) (prefix-call (after-next rules goal few start n) row l)
             (reach-down (prefix-grew (after-next rules goal few start n)) (length (t .answers)) (omega arith) (after-inside rules goal few start n) (bodies .words i) k)
-
-    -- A round of the definition is a round over its tables.
-    pub view-rounded : Rounded bodies (suc n) (view t) (view u)
-    view-rounded = record {
-      made = record {
-        grew = prefix-grew (after-next rules goal few start n);
-        call-found = λ i h l. let (f, e) = grown-at rules goal few start n .calls-found (call-at (u .calls) i) (new-call i h l) in (call-found (call-key (call-at (u .calls) i)) f, e);
-        answer-found = λ x h l. let (f, e) = grown-at rules goal few start n .answers-found (answer-at (u .answers) x) (new-answer x h l) in (answer-found (answer-at (u .answers) x) f, e);
-      };
-      closed = next-closed;
-    }
 
     -- One that adds nothing leaves closed tables.
     pub still-whole : u ≡ t → Whole bodies (Among ((Goal, start) ∷ [])) 0 (view t)

@@ -74,7 +74,8 @@ module _ (rules goal : List ℕ) where
   unfolding each-body comes-to
   found-calls r t = each-body t (λ i s k body. map (λ (d : ℕ × State). record { action = d .0; state = d .1; round = r }) (comes-to t body s))
 
-  -- "Among justifications the lowest rule number is kept, then the least evidence words from the first on": such a one stands first.
+  -- "Among justifications with evidence of smaller rounds the lowest rule number is kept, then the least evidence words from the first on": such
+  -- a one stands first.
   unfoldable pub found-answers : ℕ → Rows → List AnswerRow
   unfolding each-body ways
   found-answers r t =

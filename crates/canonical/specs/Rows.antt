@@ -1,9 +1,9 @@
--- The records of the two tables as values, and their words (requests R-6, R-7 and R-10). Assumes nothing.
+-- The records of the two tables as values, and their words (requests R-6 and R-7). Assumes nothing.
 use Prim.Native.Nat.{ℕ, zero, suc, _-_}
 use mathlib.Core.List.{List, [], _∷_, _++_}
 use lib.ListN.{getD, length, replicate}
 use Rattle.steps.specs.State.{State}
-use Rattle.canonical.specs.Order.{Key, in-order}
+use Rattle.canonical.specs.Order.{Key}
 
 -- A call record: its action, its state, and the round that it came in.
 pub record CallRow : Type 0 where
@@ -57,11 +57,6 @@ unfoldable pub answer-words : List AnswerRow → List ℕ
 answer-words [] = []
 answer-words (r ∷ rs) =
     r .call ∷ r .final ∷ r .rule ∷ (r .evidence ++ (replicate (16 - length (r .evidence)) 0 ++ (r .round ∷ answer-words rs)))
-
--- "A list of call record numbers, by action and then state" (R-10).
-unfoldable pub call-list : List CallRow → List ℕ
-unfolding numbers in-order
-call-list calls = in-order (λ i. call-key (call-at calls i)) (numbers 0 (length calls))
 
 -- A buffer of this length that begins with these words: 0 past them.
 abbrev pub filled : ℕ → List ℕ → List ℕ

@@ -13,7 +13,7 @@ unfoldable pub over-room : List ℕ → ℕ → List ℕ → ℕ → Bool
 over-room calls call-count answers answer-count = ltb (room call-width (length calls)) call-count
     || ltb (room answer-width (length answers)) answer-count
 
--- The last round that a call can come in: the goal's call stands at round 0, each round after it adds a record, and both tables together hold at
+-- No call comes in a later round: the goal's call stands at round 0, each round after it adds a record, and both tables together hold at
 -- most 131,072.
 abbrev pub last-round : ℕ
 last-round = 131071

@@ -11,7 +11,7 @@ ghost use Rattle.steps.specs.Acceptance.{bad-state, words-refusal};
 ghost use Rattle.records.specs.Records.{bodies-of, room, call-table, answer-table, call-width};
 ghost use Rattle.checks.specs.Checks.{over-room, good-call, good-calls, bad-records};
 
-// The last round that a call can come in.
+// No call comes in a later round.
 const LAST_ROUND: u64 = 131071;
 
 // Whether a record count is over its room: 40.

@@ -11,7 +11,7 @@ use Rattle.steps.specs.Run.{End}
 use Rattle.steps.specs.Counting.{Rising}
 use Rattle.steps.proofs.Counting.{rising-unique}
 use Rattle.evaluator.specs.Evaluated.{Asked, Lent, Told, refused-with, run-asked, Tabled}
-use Rattle.evaluator.proofs.Determined.{Listing, as-it-was, with-ends, listing, tabled, in-rooms}
+use Rattle.evaluator.proofs.Determined.{Listing, as-it-was, with-ends, listing, unrefused-tabled, in-rooms}
 use Rattle.class.specs.Class.{places, written, handed-on, together, Turns, over, turn}
 use Rattle.class.specs.Shown.{InTurn, none, without, with-ends as in-turn-more}
 use Rattle.class.proofs.Turns.{places-none, places-ends}
@@ -96,6 +96,6 @@ module _ {ask : State → Asked} where
   ends-of-starts (turn E T) (without n I) D m = let (start, among, ok, d) = ends-of-starts T I D m in (start, List·Memᴰ·tail among, ok, d)
   ends-of-starts (turn {start = start} E T) (in-turn-more {own = own} z up e c I) D m =
       ⊎-elim
-      (λ k. (start, List·Memᴰ·head refl, tabled E z .accepted, e .members D .0 k))
+      (λ k. (start, List·Memᴰ·head refl, unrefused-tabled E z .accepted, e .members D .0 k))
       (λ k. let (begun, among, ok, d) = ends-of-starts T I D k in (begun, List·Memᴰ·tail among, ok, d))
       (List·Memᴰ·append-cases own m)

@@ -1,9 +1,9 @@
 // Compares reader, writer and evaluator with a separately written evaluator on sheets at random and in some dress: the words read, the text
-// written and what it reads to, ends, calls, answers, rounds, justifications, rooms, and a record's marks. The other evaluator works on the words
-// of a book of three fluents, from which a sheet of 64 was written.
-mod depth;
+// written and what it reads to, ends, calls, answers, rounds, justifications, the words of both tables, rooms, and a record's marks. The other
+// evaluator works on the words of a book of three fluents, from which a sheet of 64 was written.
 mod evidence;
 mod marks;
+mod order;
 mod rooms;
 mod sheets;
 mod spans;
@@ -41,6 +41,7 @@ struct Tally {
     bad_calls: u64,
     bad_answers: u64,
     bad_rounds: u64,
+    bad_tables: u64,
     bad_evidence: u64,
     bad_rooms: u64,
     bad_marks: u64,
@@ -72,6 +73,7 @@ fn plus(a: Tally, b: Tally) -> Tally {
         bad_calls: sum(a.bad_calls, b.bad_calls),
         bad_answers: sum(a.bad_answers, b.bad_answers),
         bad_rounds: sum(a.bad_rounds, b.bad_rounds),
+        bad_tables: sum(a.bad_tables, b.bad_tables),
         bad_evidence: sum(a.bad_evidence, b.bad_evidence),
         bad_rooms: sum(a.bad_rooms, b.bad_rooms),
         bad_marks: sum(a.bad_marks, b.bad_marks),
@@ -100,6 +102,7 @@ fn none() -> Tally {
         bad_calls: 0,
         bad_answers: 0,
         bad_rounds: 0,
+        bad_tables: 0,
         bad_evidence: 0,
         bad_rooms: 0,
         bad_marks: 0,
@@ -195,16 +198,18 @@ fn same_answers(
     tables::same_answers(calls, run.calls, answers, m, rel, called, found.ends, start)
 }
 
-// Whether the rounds of a run and of its records are those of the book, and whether each answer is justified.
+// Whether the rounds of a run and the words of its tables are those of the book, and whether each answer is justified.
 struct Good {
     rounds: bool,
+    words: bool,
     evidence: bool,
 }
 
 fn checked(book: &[u16; 126], start: u64, run: Run, calls: &[u64], answers: &[u64]) -> Good {
-    let told = depth::compare(book, start, calls, run.calls, answers, run.answers);
+    let told = order::compare(book, start, calls, answers);
     Good {
-        rounds: told.same && told.rounds == run.rounds,
+        rounds: told.rounds == run.rounds,
+        words: told.same,
         evidence: evidence::all_justified(book, calls, run.calls, answers, run.answers),
     }
 }
@@ -276,6 +281,7 @@ fn compared(book: &[u16; 126], start: u64, dress: u64) -> Tally {
         bad_calls: failed(good_calls),
         bad_answers: failed(good_answers),
         bad_rounds: failed(records.rounds),
+        bad_tables: failed(records.words),
         bad_evidence: failed(records.evidence),
         bad_rooms: failed(good_rooms),
         bad_marks: failed(seen.same),
@@ -335,6 +341,7 @@ fn print_differences(t: Tally) {
     line(b"sheets that differ in calls", t.bad_calls);
     line(b"sheets that differ in answers", t.bad_answers);
     line(b"sheets that differ in rounds", t.bad_rounds);
+    line(b"sheets that differ in a word of the tables", t.bad_tables);
     line(b"sheets with an answer not justified", t.bad_evidence);
     line(b"sheets refused in wrong rooms", t.bad_rooms);
     line(b"records marked otherwise", t.bad_marks);

@@ -1,4 +1,5 @@
-// How many rounds the drills take (request R-6), with the tables that show the round of each record. Every word lent is 7 before.
+// How many rounds the drills take (request R-6), with the tables that show the round of each record and where it stands (R-7). Every word lent
+// is 7 before.
 use crate::runs;
 
 // A goal over two fluents and two actions, in rooms of 3 records, with a list of 1.
@@ -69,9 +70,41 @@ fn d9() {
     asked(b"D9 rounds", &rules, &[769], 0);
 }
 
+// A goal over two fluents and an action, in rooms of 6 and 12 records, with a list of 4.
+fn wide<'a>(name: &[u8], rules: &'a [u16], goal: &'a [u16], start: u64) {
+    let mut calls = [7u64; 18];
+    let mut answers = [7u64; 240];
+    let mut ends = [7u64; 4];
+    let r = evaluator::evaluate(
+        2,
+        1,
+        rules,
+        goal,
+        start,
+        &mut calls,
+        &mut answers,
+        &mut ends,
+    );
+    runs::told(name, r, &calls, &answers, &ends);
+}
+
+// g: `+b`; g: `+a`; g: `+a +b`; goal `!g !g`: calls by round and state, answers by round, call record and final state, by the lowest rule.
+fn ordered() {
+    let mut rules = [0u16; 54];
+    rules[1] = 1;
+    rules[2] = 257;
+    rules[19] = 1;
+    rules[20] = 256;
+    rules[37] = 2;
+    rules[38] = 256;
+    rules[39] = 257;
+    wide(b"one order", &rules, &[768, 768], 0);
+}
+
 pub fn all() {
     d1();
     few();
     d8();
     d9();
+    ordered();
 }

@@ -5,7 +5,7 @@ use native.Mathlib.Decide.{decLt}
 use mathlib.Core.Path.{_≡_, refl, sym, ap, ap₂, subst, _∙_}
 use mathlib.Core.List.{List, map, _++_, List·Memᴰ, List·Memᴰ·head, List·Memᴰ·tail}
 use mathlib.Core.Logic.{_≢_, inl, inr}
-use lib.ListN.{length, drop, length-append, length-drop, length-map, length-replicate}
+use lib.ListN.{length, drop, replicate, length-append, length-drop, length-map, length-replicate}
 use Rattle.refusals.specs.Run.{run-refusals}
 use Rattle.steps.specs.State.{State}
 use Rattle.steps.specs.Run.{Goal, Answer, End}
@@ -13,11 +13,12 @@ use Rattle.steps.specs.Counting.{Exactly, Outnumbers, Rising, rows}
 use Rattle.steps.proofs.Counting.{pigeonhole, exactly-long, rising-unique}
 use Rattle.steps.specs.Widths.{rule-width}
 use Rattle.steps.proofs.AcceptanceLaws.{start-accepted}
+use Rattle.canonical.specs.Rows.{call-words, answer-words, filled}
 use Rattle.canonical.proofs.AfterRounds.{settled-once}
 use Rattle.steps.proofs.Rows.{rows-length, rows-many, rows-outnumber}
 use Rattle.records.specs.Records.{room, call-width, answer-width}
 use Rattle.records.specs.Full.{Full}
-use Rattle.evaluator.specs.Evaluated.{Asked, Lent, Told, told, refused-with, run-asked, Tabled, Evaluated, not-accepted, outgrown, short-list, ends-listed}
+use Rattle.evaluator.specs.Evaluated.{Asked, Lent, Told, told, refused-with, run-asked, rows-asked, buffers-after, Tabled, Evaluated, not-accepted, outgrown, short-list, ends-listed}
 
 -- ---- what is told
 
@@ -32,7 +33,7 @@ module _ (q : Asked) {b₁ b₂ a₁ a₂ : Lent} {r₁ r₂ : Told} (t₁ : Tab
   same-counts e k = told (e k) (same-ends k)
       (rows-many _ _ (t₁ .finished .calls-held) _ _ (t₂ .finished .calls-held) k)
       (rows-many _ _ (t₁ .finished .answers-held) _ _ (t₂ .finished .answers-held) k)
-      (settled-once (q .rules) (q .goal) few (q .start) (t₁ .in-rounds .settled) (t₂ .in-rounds .settled) k)
+      (settled-once (q .rules) (q .goal) few (q .start) (t₁ .settled) (t₂ .settled) k)
 
 module _ (q : Asked) (b₁ b₂ : Lent) (calls : length (b₁ .calls) ≡ length (b₂ .calls)) (answers : length (b₁ .answers) ≡ length (b₂ .answers))
     (ends : length (b₁ .ends) ≡ length (b₂ .ends)) where
@@ -76,12 +77,12 @@ module _ {q : Asked} {before after : Lent} {r : Told} where
   pub listing : Evaluated q before after r → Listing q before after r
   listing (not-accepted n z s) = as-it-was (λ e. n (sym (ap (λ (r : Told). r .refusal) z) ∙ e)) (ap (λ (l : Lent). l .ends) s)
   listing (outgrown a f z s) = as-it-was (λ e. omega (arith, ap (λ (r : Told). r .refusal) z)) (ap (λ (l : Lent). l .ends) s)
-  listing (short-list z t l s) = as-it-was (λ e. omega (arith, z)) s
-  listing (ends-listed z t l up s) = with-ends z t l up s
+  listing (short-list z t l s) = as-it-was (λ e. omega (arith, z)) (ap (λ (l : Lent). l .ends) s)
+  listing (ends-listed z t l up s) = with-ends z t l up (ap (λ (l : Lent). l .ends) s)
 
   -- An evaluation that is not refused left finished tables.
-  pub tabled : Evaluated q before after r → r .refusal ≡ 0 → Tabled q before after r
-  tabled E e = go (listing E)
+  pub unrefused-tabled : Evaluated q before after r → r .refusal ≡ 0 → Tabled q before after r
+  unrefused-tabled E e = go (listing E)
     where
       go : Listing q before after r → Tabled q before after r
       go (as-it-was n s) = absurd (n e)
@@ -119,6 +120,34 @@ module _ (q : Asked) (b₁ b₂ : Lent) (calls : length (b₁ .calls) ≡ length
           let x = t .exactly .members in
           let y = t′ .exactly .members in
           s ∙ ap₂ _++_ (rising-unique up up′ (λ D m. y D .1 (x D .0 m)) (λ D m. x D .1 (y D .0 m))) (ap₂ drop (ap (λ (r : Told). r .ends) e) ends) ∙ sym s′
+
+-- ---- the tables
+
+-- Two evaluations of one accepted request in buffers of equal lengths leave equal tables, word for word, whatever the buffers held.
+module _ (q : Asked) (b₁ b₂ : Lent) (calls : length (b₁ .calls) ≡ length (b₂ .calls)) (answers : length (b₁ .answers) ≡ length (b₂ .answers))
+    (ends : length (b₁ .ends) ≡ length (b₂ .ends)) (ok : refused-with q ≡ 0) where
+  -- the tables after an evaluation, by what it tells
+  data Left (b a : Lent) (r : Told) : Type 0 where
+    cleared : r .refusal ≡ run-refusals .tables-full → (a .calls ≡ replicate (length (b .calls)) 0) → (a .answers ≡ replicate (length (b .answers)) 0) → Left b a r
+    filled-in : r .refusal ≢ run-refusals .tables-full → (list : List ℕ) → a ≡ buffers-after q (r .rounds) b list → Left b a r
+
+  left : {b a : Lent} {r : Told} → Evaluated q b a r → Left b a r
+  left (not-accepted n z s) = absurd (n ok)
+  left (outgrown a f z s) = cleared (ap (λ (r : Told). r .refusal) z) (ap (λ (l : Lent). l .calls) s) (ap (λ (l : Lent). l .answers) s)
+  left (short-list z t l s) = filled-in (λ e. omega (arith, z, e)) _ s
+  left (ends-listed z t l up s) = filled-in (λ e. omega (arith, z, e)) _ s
+
+  pub one-table : {a₁ a₂ : Lent} {r₁ r₂ : Told} → Evaluated q b₁ a₁ r₁ → Evaluated q b₂ a₂ r₂ → (a₁ .calls ≡ a₂ .calls) × (a₁ .answers ≡ a₂ .answers)
+  one-table {a₁} {a₂} {r₁} {r₂} E F = go (one-result q b₁ b₂ calls answers ends E F) (left E) (left F)
+    where
+      go : r₁ ≡ r₂ → Left b₁ a₁ r₁ → Left b₂ a₂ r₂ → (a₁ .calls ≡ a₂ .calls) × (a₁ .answers ≡ a₂ .answers)
+      go e (cleared z c d) (cleared z′ c′ d′) = (c ∙ ap (λ (n : ℕ). replicate n 0) calls ∙ sym c′, d ∙ ap (λ (n : ℕ). replicate n 0) answers ∙ sym d′)
+      go e (cleared z c d) (filled-in n l s) = absurd (n (sym (ap (λ (r : Told). r .refusal) e) ∙ z))
+      go e (filled-in n l s) (cleared z c d) = absurd (n (ap (λ (r : Told). r .refusal) e ∙ z))
+      go e (filled-in n l s) (filled-in n′ l′ s′) = (
+        ap (λ (k : Lent). k .calls) s ∙ ap₂ (λ (k m : ℕ). filled k (call-words (rows-asked q m .calls))) calls (ap (λ (r : Told). r .rounds) e) ∙ sym (ap (λ (k : Lent). k .calls) s′),
+        ap (λ (k : Lent). k .answers) s ∙ ap₂ (λ (k m : ℕ). filled k (answer-words (rows-asked q m .answers))) answers (ap (λ (r : Told). r .rounds) e) ∙ sym (ap (λ (k : Lent). k .answers) s′),
+      )
 
 -- ---- the counts
 

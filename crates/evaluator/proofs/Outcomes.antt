@@ -24,10 +24,12 @@ use Rattle.tabling.proofs.Closed.{Whole}
 use Rattle.loops.proofs.Going.{in-words}
 use Rattle.tabling.proofs.RunTables.{outgrown-run}
 use Rattle.loops.proofs.Filling.{Filled}
-use Rattle.canonical.proofs.Telling.{Begins, tidy-of}
-use Rattle.canonical.proofs.Sayings.{told-of}
+use Rattle.canonical.specs.Rows.{call-words, answer-words, filled}
+use Rattle.canonical.proofs.Beginning.{Begins}
+use Rattle.canonical.proofs.Words.{Worded, over-words}
+use Rattle.records.proofs.Numbers.{proper-of}
 use Rattle.evaluator.specs.Finals.{finals-below, FinalsListed}
-use Rattle.evaluator.specs.Evaluated.{Asked, Lent, lent, told, refused-with, run-asked, Tabled, Evaluated, short-list, ends-listed}
+use Rattle.evaluator.specs.Evaluated.{Asked, Lent, lent, told, refused-with, run-asked, rows-asked, buffers-after, Tabled, Evaluated, short-list, ends-listed}
 use Rattle.evaluator.proofs.Finishing.{finished, not-full, goal-ends, ends-exactly}
 
 -- words that are all 0 store no record
@@ -66,15 +68,28 @@ module _ (q : Asked) (before : Lent) (ok : refused-with q ≡ 0) {calls₀ answe
     fits : ¬ Full (run-asked q) (length (before .calls)) (length (before .answers))
     fits f = not-full (q .rules) (q .goal) (q .start) acc calls n answers m (F .kept) whole (rw (← cl, ← al, ← (F .calls-long), ← (F .answers-long)) at f)
 
+    -- the words of the tables
+    worded : Worded (q .rules) (q .goal) (q .start) calls answers n m rounds
+    worded = over-words (q .rules) (q .goal) calls n answers m (proper-of (q .rules) (q .goal) acc) (whole .valid) (q .start) (acc .few-rules) (F .kept .calls-stored) (F .kept .answers-stored) (B e) (F .rounded e refl)
+
+    pub words-are : (list : List ℕ) → lent calls answers list ≡ buffers-after q rounds before list
+    words-are list k = lent
+        ((worded .calls-are ∙ ap (λ (l : ℕ). filled l (call-words (rows-asked q rounds .calls))) (F .calls-long ∙ cl)) k)
+        ((worded .answers-are ∙ ap (λ (l : ℕ). filled l (answer-words (rows-asked q rounds .answers))) (F .answers-long ∙ al)) k)
+        list
+
     -- the finished tables, whatever the refusal and the list
-    tabled : (list ends : List ℕ) (refusal k : ℕ) → Exactly (End (run-asked q)) ends → length ends ≡ k → Tabled q before (lent calls answers list) (told refusal k n m rounds)
-    tabled list ends refusal k x z = record {
+    ran : (list ends : List ℕ) (refusal k : ℕ) → Exactly (End (run-asked q)) ends → length ends ≡ k → Tabled q before (lent calls answers list) (told refusal k n m rounds)
+    ran list ends refusal k x z = record {
       accepted = ok;
       fits = fits;
       calls-long = F .calls-long ∙ cl;
       answers-long = F .answers-long ∙ al;
+      settled = worded .settled;
+      calls-many = worded .calls-many;
+      answers-many = worded .answers-many;
+      few = worded .few;
       finished = finished (q .rules) (q .goal) (q .start) acc calls n answers m (F .kept) whole;
-      in-rounds = told-of (q .rules) (q .goal) (acc .few-rules) (q .start) calls answers n m (B e) (F .rounded e refl) (tidy-of (whole .valid));
       ends = ends;
       exactly = x;
       counted = z;
@@ -98,14 +113,15 @@ module _ (q : Asked) (before : Lent) (ok : refused-with q ≡ 0) {calls₀ answe
 
       -- 31
       pub is-short : {k : ℕ} → k ≡ length finals → length (before .ends) < k → Evaluated q before (lent calls answers (before .ends)) (told (run-refusals .list-short) k n m rounds)
-      is-short {k} z l = short-list refl (tabled (before .ends) finals (run-refusals .list-short) k exactly (sym z)) l refl
+      is-short {k} z l = short-list refl (ran (before .ends) finals (run-refusals .list-short) k exactly (sym z)) l (words-are (before .ends))
 
       -- no refusal
       pub is-listed : {k : ℕ} {ends : List ℕ} → k ≡ length finals → k ≤ length (before .ends) → FinalsListed (answer-table answers m) row (before .ends) ends
           → Evaluated q before (lent calls answers ends) (told 0 k n m rounds)
-      unfolding tabled
+      unfolding ran
       is-listed {k} {ends} z l L =
           let held = goal-ends (q .rules) (q .goal) (q .start) acc calls n answers m (F .kept) whole row (goal-row .0) (goal-row .1) in
           let x : Exactly (End (run-asked q)) (L .finals) = exactly-map held (record { once = rising-distinct (L .rising); members = L .members }) in
           let c : length (L .finals) ≡ k = exactly-long x exactly ∙ sym z in
-          ends-listed refl (tabled ends (L .finals) 0 k x c) l (L .rising) (L .is ∙ ap (λ (j : ℕ). L .finals ++ drop j (before .ends)) c)
+          ends-listed refl (ran ends (L .finals) 0 k x c) l (L .rising)
+          (words-are ends ∙ ap (buffers-after q rounds before) (L .is ∙ ap (λ (j : ℕ). L .finals ++ drop j (before .ends)) c))

@@ -1,5 +1,5 @@
 -- What `evaluate` gives and what each buffer holds then, for every input, by cases of the refusal. Assumes nothing.
-use Prim.Native.Nat.{ℕ, _<_, _≤_}
+use Prim.Native.Nat.{ℕ, _+_, _<_, _≤_}
 use mathlib.Core.Path.{_≡_}
 use mathlib.Core.List.{List, _++_}
 use mathlib.Core.Logic.{_≢_}
@@ -12,7 +12,8 @@ use Rattle.steps.specs.Acceptance.{refusal-of}
 use Rattle.steps.specs.Counting.{Exactly, Rising}
 use Rattle.records.specs.Full.{Full}
 use Rattle.records.specs.Finished.{Finished}
-use Rattle.canonical.specs.InRounds.{InRounds}
+use Rattle.canonical.specs.Rows.{Rows, call-words, answer-words, filled}
+use Rattle.canonical.specs.Rounds.{after-round, Settled}
 
 -- What is asked: the counts of fluents and actions, rule words, goal words and start.
 abbrev pub Asked : Type 0
@@ -42,15 +43,30 @@ refused-with q = refusal-of (q .fluents) (q .actions) (q .rules) (q .goal) (q .s
 abbrev pub run-asked : Asked → Run
 run-asked q = run-of (q .rules) (q .goal) (q .start)
 
--- An accepted run that fits the tables lent: tables of the same lengths hold it finished and told in rounds, its ends are these, and the result's
--- counts are theirs.
+-- The records of both tables after n rounds.
+abbrev pub rows-asked : Asked → ℕ → Rows
+rows-asked q n = after-round (q .rules) (q .goal) (q .start) n
+
+-- The buffers after a run of n rounds, with these words for the list of ends: "the contract gives the words of both tables as values".
+abbrev pub buffers-after : Asked → ℕ → Lent → List ℕ → Lent
+buffers-after q n b ends =
+    lent (filled (length (b .calls)) (call-words (rows-asked q n .calls)))
+    (filled (length (b .answers)) (answer-words (rows-asked q n .answers))) ends
+
+-- An accepted run that fits the tables lent: it is settled after the result's rounds, tables of the same lengths hold it finished, its ends are
+-- these, and the result's counts are theirs.
 pub record Tabled (q : Asked) (before after : Lent) (r : Told) : Type 0 where
   pub accepted : refused-with q ≡ 0
   pub fits : ¬ Full (run-asked q) (length (before .calls)) (length (before .answers))
   pub calls-long : length (after .calls) ≡ length (before .calls)
   pub answers-long : length (after .answers) ≡ length (before .answers)
+  pub settled : Settled (q .rules) (q .goal) (q .start) (r .rounds)
+  pub calls-many : r .calls ≡ length (rows-asked q (r .rounds) .calls)
+  pub answers-many : r .answers ≡ length (rows-asked q (r .rounds) .answers)
+  -- It "is at most calls plus answers less 1".
+  pub few : r .rounds < r .calls + r .answers
+  -- Demand 3 in the logic's own words: of the tables, whose words `buffers-after` gives.
   pub finished : Finished (q .rules) (q .goal) (q .start) (after .calls) (after .answers) (r .calls) (r .answers)
-  pub in-rounds : InRounds (q .rules) (q .goal) (q .start) (after .calls) (after .answers) (r .calls) (r .answers) (r .rounds)
   pub ends : List State
   pub exactly : Exactly (End (run-asked q)) ends
   pub counted : length ends ≡ r .ends
@@ -63,8 +79,8 @@ pub data Evaluated (q : Asked) (before after : Lent) (r : Told) : Type 0 where
       → r ≡ told (run-refusals .tables-full) 0 0 0 0
       → after ≡ lent (replicate (length (before .calls)) 0) (replicate (length (before .answers)) 0) (before .ends) → Evaluated q before after r
   -- 31: the list has fewer places than there are ends; finished tables and the four counts, the list unchanged.
-  short-list : r .refusal ≡ run-refusals .list-short → Tabled q before after r → length (before .ends) < r .ends → after .ends ≡ before .ends
-      → Evaluated q before after r
+  short-list : r .refusal ≡ run-refusals .list-short → Tabled q before after r → length (before .ends) < r .ends
+      → after ≡ buffers-after q (r .rounds) before (before .ends) → Evaluated q before after r
   -- No refusal: finished tables, the four counts, and the ends listed in rising order, followed by what the list held.
   ends-listed : r .refusal ≡ 0 → (t : Tabled q before after r) → r .ends ≤ length (before .ends) → Rising (t .ends)
-      → after .ends ≡ t .ends ++ drop (r .ends) (before .ends) → Evaluated q before after r
+      → after ≡ buffers-after q (r .rounds) before (t .ends ++ drop (r .ends) (before .ends)) → Evaluated q before after r

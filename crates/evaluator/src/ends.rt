@@ -51,5 +51,5 @@ pub fn list(answers: &[u64], m: usize, row: u64, ends: &mut [u64])
     ensures { λ _. ⌜ FinalsListed (answer-table (now (answers .entry)) m) row (now (ends .entry)) (now (ends .exit)) ⌝ }
 {
     let found = gather(answers, m, row, ends);
-    sorting::sort(ends, found);
+    sorting::sort(ends, 1, 0, found);
 }

@@ -16,7 +16,7 @@ ghost use Rattle.steps.specs.Run.{Goal};
 ghost use Rattle.steps.proofs.AcceptanceLaws.{AcceptedWords};
 ghost use Rattle.records.proofs.Growth.{Tables};
 ghost use Rattle.loops.proofs.Filling.{Filled};
-ghost use Rattle.canonical.proofs.Telling.{Begins};
+ghost use Rattle.canonical.proofs.Beginning.{Begins};
 ghost use Rattle.evaluator.specs.Evaluated.{Evaluated, asked, lent, told};
 
 // The refusal, 0 for none, the counts of ends, calls and answers, and the number of rounds that added something.

@@ -27,7 +27,7 @@ use Rattle.tabling.proofs.Moves.{Node}
 use Rattle.notes.specs.Uses.{UsesGrew, Spans, Lit, heat}
 use Rattle.loops.proofs.Rounds.{Round, Rows, Rules}
 use Rattle.tabling.proofs.Closed.{Whole}
-use Rattle.tabling.proofs.Found.{Rounded, Rounds, RoundsOver}
+use Rattle.tabling.proofs.Found.{Made, Gathered, Rounds, RoundsOver}
 use Rattle.loops.proofs.Going.{Kept, Indexed, Going, in-words}
 
 -- The words of both tables keep their lengths, they and the indexes their order, and no use is forgotten.
@@ -65,7 +65,8 @@ pub record Went (rules goal : List ℕ) (r first walked seen : ℕ) (calls₀ : 
   pub uses-long : length uses ≡ length uses₀
   pub stale : (k : ℕ) → heat uses k ≤ m₀ - 1
   pub sooner : full ≡ false → (x : ℕ) → x < m → answer-table answers m .round x < r + 1
-  pub rounded : full ≡ false → first ≡ 0 → Rounded (bodies-of rules goal) r (in-words calls₀ n₀ answers₀ m₀) (in-words calls n answers m)
+  pub made : full ≡ false → Made (bodies-of rules goal) r (in-words calls₀ n₀ answers₀ m₀) (in-words calls n answers m)
+  pub gathered : full ≡ false → first ≡ 0 → Gathered (bodies-of rules goal) r (in-words calls₀ n₀ answers₀ m₀) (in-words calls n answers m)
   pub next : full ≡ false → (roots : List (ℕ × State)) → Round (bodies-of rules goal) (Among roots) first walked seen (in-words calls₀ n₀ answers₀ m₀) uses₀
       → Round (bodies-of rules goal) (Among roots) first n₀ m₀ (in-words calls n answers m) uses × (n + m ≡ n₀ + m₀ → Whole (bodies-of rules goal) (Among roots) first (in-words calls n answers m))
   pub outgrown : full ≡ true → (roots : List (ℕ × State)) → Round (bodies-of rules goal) (Among roots) first walked seen (in-words calls₀ n₀ answers₀ m₀) uses₀

@@ -4,4 +4,5 @@ pub mod Cold
 pub mod Turn
 pub mod Going
 pub mod Rounds
+pub mod Ordering
 pub mod Filling

@@ -6,7 +6,7 @@ use mathlib.Core.Path.{_≡_, refl, sym, ap, _∙_}
 use mathlib.Core.Bool.{Bool, true}
 use mathlib.Core.List.{List}
 use mathlib.Core.Logic.{_⊎_, inl, inr, ⊎-elim}
-use lib.ListN.{getD}
+use lib.ListN.{getD, length}
 use Rattle.steps.specs.State.{State}
 use Rattle.records.specs.Records.{Bodies}
 use Rattle.records.proofs.Growth.{Tables, HeldCall, Held, Grew, grew-refl, Inside, held-up, row-once}
@@ -20,7 +20,7 @@ use Rattle.tabling.proofs.Graph as graph
 use Rattle.tabling.proofs.Moves.{Of, final, move, EdgeT, Node, step-at, of-at, final-at, EdgeN, GoodN}
 use Rattle.loops.proofs.Cold.{Past}
 use Rattle.tabling.proofs.Closed.{Whole, ClosedAt, C, A}
-use Rattle.tabling.proofs.Found.{Made, made-start, Rounded}
+use Rattle.tabling.proofs.Found.{Made, made-start, Gathered}
 use Rattle.loops.proofs.Turn.{Begin, begin, Before, Since, Over}
 
 -- and the calls that they come to are noted
@@ -123,6 +123,7 @@ module _ (bodies : Bodies) (Root : ℕ → State → Type 0) where
     pub noted : UsesGrew (begun .notes) uses
     pub base-rows : rows ≡ begun .tables .calls .count
     pub since : Since bodies Root round (begun .tables) known t
+    pub latest : (x : ℕ) → known ≤ x → x < t .answers .count → t .answers .call x ≤ row
     pub rows-in : rows ≤ t .calls .count
     pub known-in : known ≤ t .answers .count
     pub closed : (r : ℕ) → first ≤ r → r < rows → (r < row) ⊎ Passed low high top walked r → (i : ℕ) → Closing t uses known r i
@@ -134,9 +135,9 @@ module _ (bodies : Bodies) (Root : ℕ → State → Type 0) where
       → Closing b uses known row i → Closing u uses′ known row i
   closing-up {known = known} g w enough inside row i l c e = noted-up g known enough inside (bodies .words i) w row l (c (rw (g .action-same l) at e))
 
-  rows-up : {first walked seen low high top old round rows known row : ℕ} {warm : Bool} {begun : Begin} {b u : Tables} {uses uses′ : List ℕ} → Grew b u → UsesGrew uses uses′ → Valid bodies Root u → Made bodies round (begun .tables) u → row ≤ rows
+  rows-up : {first walked seen low high top old round rows known row : ℕ} {warm : Bool} {begun : Begin} {b u : Tables} {uses uses′ : List ℕ} → Grew b u → UsesGrew uses uses′ → Valid bodies Root u → Made bodies round (begun .tables) u → row ≤ rows → ((x : ℕ) → known ≤ x → x < u .answers .count → u .answers .call x ≤ row)
       → Rows first walked seen low high top old warm round rows known row begun b uses → Rows first walked seen low high top old warm round rows known row begun u uses′
-  rows-up {begun = begun} g w v m l R =
+  rows-up {begun = begun} g w v m l k R =
       let S = R .before in
       let inside = inside-of (S .valid) in
       record {
@@ -150,6 +151,7 @@ module _ (bodies : Bodies) (Root : ℕ → State → Type 0) where
         noted = uses-trans (R .noted) w;
         base-rows = R .base-rows;
         since = since-up (R .since) m;
+        latest = k;
         rows-in = omega (arith, R .rows-in, g .calls-more);
         known-in = omega (arith, R .known-in, g .answers-more);
         closed = λ r f h p i. closing-up g (kept-of w) (R .known-in) inside r i (omega (arith, R .rows-in)) (R .closed r f h p i);
@@ -177,6 +179,7 @@ module _ (bodies : Bodies) (Root : ℕ → State → Type 0) where
     noted = uses-refl uses;
     base-rows = refl;
     since = record { base-valid = S .valid; all-known = refl; sooner = sooner; made = made-start t };
+    latest = λ x h l. absurd (omega arith);
     rows-in = omega arith;
     known-in = omega arith;
     closed = λ r f h p i e. (let q = P .quiet r h (⊎-elim inl (λ z. z) p) in noted-later (S .valid) uses seen (t .answers .count) r (omega arith) (q .none) (bodies .words i) (S .earlier r f (q .old) i e));
@@ -194,6 +197,7 @@ module _ (bodies : Bodies) (Root : ℕ → State → Type 0) where
     noted = R .noted;
     base-rows = R .base-rows;
     since = R .since;
+    latest = λ x h l. omega (arith, R .latest x h l);
     rows-in = R .rows-in;
     known-in = R .known-in;
     closed = λ r f g p i. R .closed r f g (⊎-elim (λ k. ⊎-elim inl (λ (z : r ≡ row). inr (inr (inl (omega arith, omega arith)))) (last-one k)) inr p) i;
@@ -215,13 +219,13 @@ module _ (bodies : Bodies) (Root : ℕ → State → Type 0) where
 
     -- a walk that is over
     pub rules-next : {first walked seen low high top old round rows known row rule walk i : ℕ} {warm : Bool} {begun : Begin} {b u : Tables} {P : Before} {body marks uses uses′ : List ℕ} → Rules first walked seen low high top old warm round rows known row rule begun b uses → row < rows → i ≡ number rule → body ≡ bodies .words i
-        → UsesGrew uses uses′ → Made bodies round (begun .tables) u → Over bodies Root b known i row walk P body u marks uses′ → Rules first walked seen low high top old warm round rows known row (rule + 1) begun u uses′
-    rules-next {known = known} {row} {rule} {b = b} {u} {body} R l e w g m o =
+        → UsesGrew uses uses′ → Made bodies round (begun .tables) u → ((x : ℕ) → known ≤ x → x < u .answers .count → u .answers .call x ≤ row) → Over bodies Root b known i row walk P body u marks uses′ → Rules first walked seen low high top old warm round rows known row (rule + 1) begun u uses′
+    rules-next {known = known} {row} {rule} {b = b} {u} {body} R l e w g m late o =
         let S = R .rows-closed in
         let i = inside-of (S .before .valid) in
         let h : row < b .calls .count = omega (arith, S .rows-in) in
         record {
-          rows-closed = rows-up (o .grew) g (o .valid) m (omega arith) S;
+          rows-closed = rows-up (o .grew) g (o .valid) m (omega arith) late S;
           rules-closed = λ k j. ⊎-elim (λ m. closing-up (o .grew) (kept-of g) (S .known-in) i row (number k) h (R .rules-closed k m))
               (λ (z : k ≡ rule). λ f. rw (z, ← e, ← w) (noted-over (o .grew) known (S .known-in) i body h o)) (last-one j);
         }
@@ -235,6 +239,7 @@ module _ (bodies : Bodies) (Root : ℕ → State → Type 0) where
       noted = R .rows-closed .noted;
       base-rows = R .rows-closed .base-rows;
       since = R .rows-closed .since;
+      latest = λ x h l. omega (arith, R .rows-closed .latest x h l);
       rows-in = R .rows-closed .rows-in;
       known-in = R .rows-closed .known-in;
       closed = λ r f l p i. ⊎-elim (λ k. ⊎-elim (λ m. R .rows-closed .closed r f l (inl m) i) (λ (z : r ≡ row). rw z (last i)) (last-one k)) (λ q. R .rows-closed .closed r f l (inr q) i) p;
@@ -254,9 +259,9 @@ module _ (bodies : Bodies) (Root : ℕ → State → Type 0) where
       let b : known ≡ t .answers .count = omega (arith, R .rows-in, R .known-in) in
       record { valid = R .before .valid; closed = λ r f l i z. noted-closed (bodies .words i) t uses (t .answers .count) r (rw b at (R .closed r f (omega (arith, R .rows-in, R .known-in)) (done-or h r) i z)) }
 
-  -- A round that walked all records is one of the definition's kind, and leaves only answers of rounds up to its own.
-  pub rows-rounded : {walked seen low high top old round rows known row : ℕ} {warm : Bool} {begun : Begin} {t : Tables} {uses : List ℕ} → Rows 0 walked seen low high top old warm round rows known row begun t uses → top ≤ row → Rounded bodies round (begun .tables) t
-  rows-rounded {known = known} {row} {begun = begun} {t} {uses} R h =
+  -- A round that walked all records has gathered all, and leaves only answers of rounds up to its own.
+  pub rows-gathered : {walked seen low high top old round rows known row : ℕ} {warm : Bool} {begun : Begin} {t : Tables} {uses : List ℕ} → Rows 0 walked seen low high top old warm round rows known row begun t uses → top ≤ row → Gathered bodies round (begun .tables) t
+  rows-gathered {known = known} {row} {begun = begun} {t} {uses} R h =
       let S = R .since in
       record {
         made = S .made;
@@ -273,3 +278,11 @@ module _ (bodies : Bodies) (Root : ℕ → State → Type 0) where
         | yes h ↦ omega (arith, S .sooner x (omega (arith, S .all-known)), S .made .grew .answer-round h)
         | no n ↦ omega (arith, S .made .answer-found x (omega arith) l .1)
       ]
+
+  -- the rules of lower numbers give no more from the record, where they are walked in the order of their numbers
+  pub rules-lower : (number : ℕ → ℕ) {first walked seen low high top old round rows known row rule : ℕ} {warm : Bool} {begun : Begin} {t : Tables} {uses : List ℕ} → Rules number first walked seen low high top old warm round rows known row rule begun t uses
+      → (i : ℕ) → (k : ℕ) × (k < rule) × (number k ≡ i) → bodies .fits i (t .calls .action row) ≡ true → (f : State)
+      → Reach (EdgeT t known (bodies .words i)) 0 (t .calls .state row) (length (bodies .words i)) f → Held t row f
+  rules-lower number {known = known} {row} {t = t} {uses} R i (k, l, z) e f r =
+      let c : NotedAt (bodies .words i) t uses known row = rw z at (R .rules-closed k l (rw z e)) in
+      noted-closed (bodies .words i) t uses known row c (length (bodies .words i)) f r .ends refl

@@ -17,17 +17,17 @@ use Rattle.steps.proofs.Deductions.{Does}
 use Rattle.steps.proofs.Execution.{Ends}
 use Rattle.steps.proofs.Tables.{Reached}
 use Rattle.records.specs.Records.{Calls, Answers, Bodies}
-use Rattle.records.specs.Storage.{CallAt, NextAnswer, CallPut, call-stood, call-added, call-no-room, AnswerPut, answer-stood, answer-added, answer-no-room, AnswerAdded}
+use Rattle.records.specs.Storage.{CallAt, NextAnswer, NoAnswer, CallPut, call-stood, call-added, call-no-room, AnswerPut, answer-stood, answer-added, answer-no-room, AnswerAdded}
 use Rattle.records.proofs.Growth.{Tables, tables, Held, Grew, Inside, grew-refl, grew-trans, grew-call, grew-answer, call-up, held-up, row-once}
 use Rattle.notes.specs.Uses.{Used, Came, Noted, UsesGrew, HeldUsed, heat, Newest, FirstHot, FirstNew}
 use Rattle.notes.proofs.UsesLaws.{kept-of, uses-refl, uses-trans, held-used-up}
 use Rattle.records.proofs.Justification.{Has, Proper, Justified}
 use Rattle.tabling.proofs.Evidence.{Valid, inside-of, come-reached, way-ends, way-follows}
 use Rattle.tabling.proofs.Adding.{valid-call, valid-answer, full-calls, full-answers, Outgrown}
-use Rattle.tabling.proofs.Found.{FoundCall, FoundAnswer, Made, made-call, made-answer, reach-down}
+use Rattle.tabling.proofs.Found.{FoundCall, FoundBy, AsGood, Made, made-call, made-answer, reach-down, way-up, way-down, way-numbered}
 use Rattle.loops.proofs.Cold.{Past, Last, upto-cold, upto-last}
-use Rattle.tabling.proofs.Sweep.{Swept, Upto, upto-up, Reach, reach-append, Way, way-reach}
-use Rattle.tabling.proofs.Graph.{Front, goes, calls, numbered, Leads}
+use Rattle.tabling.proofs.Sweep.{Swept, Upto, upto-up, Reach, reach-append, Way, way-reach, least}
+use Rattle.tabling.proofs.Graph.{Front, goes, calls, numbered, Leads, leads}
 use Rattle.tabling.proofs.Graph as graph
 use Rattle.tabling.proofs.Moves.{Of, call-of, NoneIn, Retreat, Chosen, EdgeT, Node, of-at, final-at, at-call, move, move-call, step-at, EdgeN, GoodN}
 use Rattle.loops.proofs.Walking.{Walking, walk-start, walk-forward, walk-way, plain-way, last-known, good-up, chosen-of, Done, done-end, done-stuck, done-seen, done-call, mark-done, take-first, back-over, back-take, walking-up}
@@ -114,7 +114,11 @@ pub record Since (bodies : Bodies) (Root : ℕ → State → Type 0) (r : ℕ) (
 abbrev pub Old : Before → ℕ → Type 0
 Old P row = (P .first ≤ row) × (row < P .old)
 
--- What does not change while a body is walked from a call record.
+-- All answers found in the round so far are of call records up to this one.
+abbrev pub Latest : Before → ℕ → Tables → Type 0
+Latest P row b = (x : ℕ) → P .base .answers .count ≤ x → x < b .answers .count → b .answers .call x ≤ row
+
+-- What does not change while a body is walked from a call record: among other things, that the rules of lower numbers give no more from it.
 pub record Given (bodies : Bodies) (Root : ℕ → State → Type 0) (b : Tables) (known rule row : ℕ) (P : Before) (body : List ℕ) : Type 0 where
   pub proper : Proper bodies
   pub valid : Valid bodies Root b
@@ -123,7 +127,10 @@ pub record Given (bodies : Bodies) (Root : ℕ → State → Type 0) (b : Tables
   pub fits : bodies .fits rule (b .calls .action row) ≡ true
   pub words : body ≡ bodies .words rule
   pub past : Old P row → Past b (P .notes) (P .seen) known (P .warm) row body
+  pub lower : (i : ℕ) → i < rule → bodies .fits i (b .calls .action row) ≡ true → (f : State)
+      → Reach (EdgeT b known (bodies .words i)) 0 (b .calls .state row) (length (bodies .words i)) f → Held b row f
   pub row-old : row < P .base .calls .count
+  pub row-last : Latest P row b
   pub since : Since bodies Root (P .round) (P .base) known b
 
 -- The answer that a walk takes first: the first of all; or, where a record walked before is walked again by old answers, the first that is
@@ -149,6 +156,7 @@ module _ (bodies : Bodies) (Root : ℕ → State → Type 0) (b : Tables) (known
     pub valid : Valid bodies Root t
     pub grew : Grew b t
     pub made : Made bodies (P .round) (P .base) t
+    pub latest : Latest P row t
     pub noted : UsesGrew (P .notes) uses
     pub stamped : Stamped marks walk
     pub chosen-long : length chosen ≡ 16
@@ -165,6 +173,7 @@ module _ (bodies : Bodies) (Root : ℕ → State → Type 0) (b : Tables) (known
     pub valid : Valid bodies Root t
     pub grew : Grew b t
     pub made : Made bodies (P .round) (P .base) t
+    pub latest : Latest P row t
     pub stamped : Stamped marks walk
     pub swept : Swept (EdgeN b known body) (GoodN b known body (HeldUsed t uses row) (Held t row)) 0 from
 
@@ -174,12 +183,13 @@ module _ (bodies : Bodies) (Root : ℕ → State → Type 0) (b : Tables) (known
   pub body-short : Given bodies Root b known rule row P body → length body ≤ 16
   body-short G = rw (G .words) (G .proper .short rule _ (G .fits))
 
-  turning-up : {t u : Tables} {marks uses uses′ chosen : List ℕ} {at : ℕ} {s : Node} → Turning t marks uses chosen at s → Grew t u → UsesGrew uses uses′ → Valid bodies Root u → Made bodies (P .round) (P .base) u → Turning u marks uses′ chosen at s
-  turning-up T g w v m = record {
+  turning-up : {t u : Tables} {marks uses uses′ chosen : List ℕ} {at : ℕ} {s : Node} → Turning t marks uses chosen at s → Grew t u → UsesGrew uses uses′ → Valid bodies Root u → Made bodies (P .round) (P .base) u → Latest P row u → Turning u marks uses′ chosen at s
+  turning-up T g w v m k = record {
     given = T .given;
     valid = v;
     grew = grew-trans (T .grew) g;
     made = m;
+    latest = k;
     noted = uses-trans (T .noted) w;
     stamped = T .stamped;
     chosen-long = T .chosen-long;
@@ -195,6 +205,7 @@ module _ (bodies : Bodies) (Root : ℕ → State → Type 0) (b : Tables) (known
     valid = G .valid;
     grew = grew-refl b;
     made = G .since .made;
+    latest = G .row-last;
     noted = w;
     stamped = s;
     chosen-long = long;
@@ -219,6 +230,7 @@ module _ (bodies : Bodies) (Root : ℕ → State → Type 0) (b : Tables) (known
       valid = T .valid;
       grew = T .grew;
       made = T .made;
+      latest = T .latest;
       noted = T .noted;
       stamped = T .stamped;
       chosen-long = simp length-set (T .chosen-long);
@@ -269,7 +281,7 @@ module _ (bodies : Bodies) (Root : ℕ → State → Type 0) (b : Tables) (known
       pub turn-called : {calls′ : Calls} {r places : ℕ} {full : Bool} → CallPut places (t .calls) (getD body at 0 % 256) (s .0) (P .round) calls′ r full → full ≡ false
           → Turning (tables calls′ (t .answers)) marks uses chosen at s × (r < calls′ .count) × CallAt calls′ r (getD body at 0 % 256) (s .0)
       turn-called (call-stood f l k z) n = rw z (T, l, k)
-      turn-called (call-added f i l none p) n = (turning-up T (grew-call t p) (uses-refl uses) (valid-call (T .valid) (T .given .proper) p none came) (made-call (T .made) p found), omega (arith, p .count), rw i (p .new))
+      turn-called (call-added f i l none p) n = (turning-up T (grew-call t p) (uses-refl uses) (valid-call (T .valid) (T .given .proper) p none came) (made-call (T .made) p found) (T .latest), omega (arith, p .count), rw i (p .new))
       turn-called (call-no-room f i none z) n = absurd (true-not-false (sym f ∙ n))
 
       -- or there is no room for it
@@ -280,7 +292,7 @@ module _ (bodies : Bodies) (Root : ℕ → State → Type 0) (b : Tables) (known
 
       -- and is noted
       pub turn-noted : {uses′ : List ℕ} {r : ℕ} → Noted uses uses′ row (s .1) r → Turning t marks uses′ chosen at s
-      turn-noted w = turning-up T (grew-refl t) (w .grew) (T .valid) (T .made)
+      turn-noted w = turning-up T (grew-refl t) (w .grew) (T .valid) (T .made) (T .latest)
 
       -- a way by old answers is one of the earlier walk
       old-way : ((q : ℕ) → q < at → getD chosen q 0 < P .seen) → Reach (EdgeN b (P .seen) body) 0 from at s
@@ -368,6 +380,7 @@ module _ (bodies : Bodies) (Root : ℕ → State → Type 0) (b : Tables) (known
                 valid = T .valid;
                 grew = T .grew;
                 made = T .made;
+                latest = T .latest;
                 noted = T .noted;
                 stamped = mark-stamped marks walk at r (place-low h) long free (T .stamped);
                 chosen-long = T .chosen-long;
@@ -396,6 +409,7 @@ module _ (bodies : Bodies) (Root : ℕ → State → Type 0) (b : Tables) (known
               valid = T .valid;
               grew = T .grew;
               made = T .made;
+              latest = T .latest;
               noted = T .noted;
               stamped = mark-stamped marks walk at r (place-low h) long free (T .stamped);
               chosen-long = simp length-set (T .chosen-long);
@@ -416,12 +430,52 @@ module _ (bodies : Bodies) (Root : ℕ → State → Type 0) (b : Tables) (known
           let G = T .given in
           rw (T .grew .action-same (G .row-in), T .grew .state-same (G .row-in)) (way-ends b known body (G .valid) (G .enough) (has-body G) end-way)
 
-      end-found : FoundAnswer bodies (P .base) (P .base .answers .count) row (s .0)
+      -- it is found over the tables that the round began with
+      end-found : FoundBy bodies (P .base) (P .base .answers .count) row rule (λ q. getD chosen q 0) (s .0)
       end-found =
           let G = T .given in
           let S = G .since in
-          let r = base-reach (length body) (s .0) (way-reach {Edge′ = EdgeT b known body} end-way (λ q l. end-way .edges q l)) in
-          record { row-in = G .row-old; rule = rule; fits = rw (S .made .grew .action-same (G .row-old)) at (G .fits); way = rw (G .words) at r }
+          let e : known ≤ P .base .answers .count = omega (arith, S .all-known) in
+          let w = way-down (S .made .grew) known e (λ x l. inside-of (S .base-valid) x (omega arith)) body end-way in
+          record {
+            row-in = G .row-old;
+            fits = rw (S .made .grew .action-same (G .row-old)) at (G .fits);
+            way = rw (S .all-known, S .made .grew .state-same (G .row-old), G .words) at w;
+          }
+
+      -- and as well as any, where it is new: lower rules give nothing new, and the search comes along the least way
+      end-best : NoAnswer (t .answers) row (s .0) → (rule′ : ℕ) (ev′ : ℕ → ℕ) → FoundBy bodies (P .base) (P .base .answers .count) row rule′ ev′ (s .0)
+          → AsGood (length (bodies .words rule)) rule (λ q. getD chosen q 0) rule′ ev′
+      end-best none rule′ ev′ F = by (decLt rule′ rule) (decLt rule rule′)
+        where
+          fits′ : bodies .fits rule′ (b .calls .action row) ≡ true
+          fits′ = rw (T .given .since .made .grew .action-same (T .given .row-old)) (F .fits)
+
+          base-way : Way (EdgeT (P .base) known (bodies .words rule′)) ev′ (b .calls .state row) (length (bodies .words rule′)) (s .0)
+          base-way = rw (T .given .since .all-known, T .given .since .made .grew .state-same (T .given .row-old)) (F .way)
+
+          way′ : Way (EdgeT b known (bodies .words rule′)) ev′ (b .calls .state row) (length (bodies .words rule′)) (s .0)
+          way′ = way-up (T .given .since .made .grew) known (omega (arith, T .given .since .all-known))
+              (λ x l. inside-of (T .given .since .base-valid) x (omega (arith, T .given .since .all-known))) (bodies .words rule′) base-way
+
+          same-rule : rule ≡ rule′ → Way (EdgeT b known body) ev′ (from .0) at (s .0)
+          same-rule e =
+              let z : at ≡ length body = omega (arith, T .walking .inside) in
+              let w : Way (EdgeT b known (bodies .words rule)) ev′ (from .0) (length (bodies .words rule)) (s .0) = rw e way′ in
+              rw (z, T .given .words) w
+
+          not-good : {l : ℕ} → GoodN b known body (HeldUsed t uses row) (Held t row) at (s .0, l) → ⊥
+          not-good g = let (x, i, a) = g .ends (omega (arith, T .walking .inside)) in none x i a
+
+          by : Dec (rule′ < rule) → Dec (rule < rule′) → AsGood (length (bodies .words rule)) rule (λ q. getD chosen q 0) rule′ ev′
+          by (yes l) d =
+              let (x, i, a) = held-up (T .grew) row (s .0) (T .given .lower rule′ l fits′ (s .0) (way-reach {Edge′ = EdgeT b known (bodies .words rule′)} way′ (λ q k. way′ .edges q k))) in
+              absurd (none x i a)
+          by (no n) (yes l) = inl l
+          by (no n) (no m) =
+              let e : rule ≡ rule′ = omega arith in
+              let z : at ≡ length (bodies .words rule) = omega (arith, T .walking .inside, ap length (T .given .words)) in
+              inr (e, rw z at (least (EdgeN b known body) (leads step-at (of-at b known) (final-at b) 0 body) (T .walking .search) (way-numbered b known body (same-rule e)) not-good))
 
       -- the answers chosen are of earlier rounds
       end-sooner : {answers′ : Answers} → AnswerAdded (t .answers) row (s .0) rule chosen (P .round) answers′ → (x : ℕ) → x < known → answers′ .round x < answers′ .round (t .answers .count)
@@ -444,11 +498,21 @@ module _ (bodies : Bodies) (Root : ℕ → State → Type 0) (b : Tables) (known
             followed = rw (p .new-rule, p .new .has-call, T .grew .state-same (G .row-in), ← (G .words)) w;
           }
 
+      valid-short : (x : ℕ) → x < t .answers .count → length (bodies .words (t .answers .rule x)) ≤ 16
+      valid-short x l = T .given .proper .short _ _ (T .valid .justified x l .fits)
+
+      latest-more : {answers′ : Answers} → AnswerAdded (t .answers) row (s .0) rule chosen (P .round) answers′ → Latest P row (tables (t .calls) answers′)
+      latest-more {answers′} p x h l = by (decLt x (t .answers .count))
+        where
+          by : Dec (x < t .answers .count) → answers′ .call x ≤ row
+          by (yes k) = omega (arith, p .call-kept x k, T .latest x h k)
+          by (no k) = let z : x ≡ t .answers .count = omega (arith, p .count) in rw (z, p .new .has-call) (omega arith)
+
       pub turn-ended : {answers′ : Answers} {places : ℕ} {full : Bool} → AnswerPut places (t .answers) row (s .0) rule chosen (P .round) answers′ full → full ≡ false → Turned (tables (t .calls) answers′) marks uses chosen at s
       turn-ended (answer-stood f k z) n = rw z (record { turning = T; done = done-end body b known walk (HeldUsed t uses row) (Held t row) from (T .walking) h k })
       turn-ended {answers′} (answer-added f l none p) n =
           let u : Tables = tables (t .calls) answers′ in
-          let w : Turning u marks uses chosen at s = turning-up T (grew-answer t p) (uses-refl uses) (valid-answer (T .valid) (T .given .proper) p none (end-justified p)) (made-answer (T .made) p end-found) in
+          let w : Turning u marks uses chosen at s = turning-up T (grew-answer t p) (uses-refl uses) (valid-answer (T .valid) (T .given .proper) p none (end-justified p)) (made-answer (T .made) p valid-short (rw (T .given .words) at (body-short (T .given))) end-found (end-best none) (T .latest)) (latest-more p) in
           record { turning = w; done = done-end body b known walk (HeldUsed u uses row) (Held u row) from (w .walking) h (t .answers .count, omega (arith, p .count), p .new) }
       turn-ended (answer-no-room f i none z) n = absurd (true-not-false (sym f ∙ n))
 
@@ -467,7 +531,7 @@ module _ (bodies : Bodies) (Root : ℕ → State → Type 0) (b : Tables) (known
     pub turned-over : {j : ℕ} → RetreatRow body (t .answers) known chosen at 0 j → Over t marks uses
     turned-over R =
         let U = T .turning in
-        record { valid = U .valid; grew = U .grew; made = U .made; stamped = U .stamped; swept = back-over body b known walk (HeldUsed t uses row) (Held t row) from (U .walking) (T .done) (old R) }
+        record { valid = U .valid; grew = U .grew; made = U .made; latest = U .latest; stamped = U .stamped; swept = back-over body b known walk (HeldUsed t uses row) (Held t row) from (U .walking) (T .done) (old R) }
 
     pub turned-take : {j : ℕ} (p : ℕ) → RetreatRow body (t .answers) known chosen at (p + 1) j → Turning t marks uses (set chosen p j) (p + 1) (t .answers .final j, j + 1)
     turned-take {j} p R =
@@ -481,6 +545,7 @@ module _ (bodies : Bodies) (Root : ℕ → State → Type 0) (b : Tables) (known
           valid = U .valid;
           grew = U .grew;
           made = U .made;
+          latest = U .latest;
           noted = U .noted;
           stamped = U .stamped;
           chosen-long = simp length-set (U .chosen-long);

@@ -13,7 +13,7 @@ use lib.Seq.{getD-set-same, getD-set-other}
 use Rattle.steps.specs.State.{State}
 use Rattle.records.specs.Records.{Calls, Answers, answer-table, answer-width}
 use Rattle.records.specs.Storage.{CallAt, FindCall, CallAdded, FindAnswer, AnswerAdded, NextAnswer, calls-in}
-use Rattle.notes.specs.Index.{bucket, Latest, Covers, Queued, Reaches, Sought, Keyed, CallIndex, AnswerIndex, noted, Tail, joined, behind, alone}
+use Rattle.notes.specs.Index.{bucket, Latest, Covers, Queued, Reaches, Sought, Keyed, CallIndex, AnswerIndex, noted, forgotten, Chained, Tail, joined, behind, alone}
 
 pub bucket-small : (a s : ℕ) → bucket a s < 57344
 unfolding bucket
@@ -57,6 +57,47 @@ module _ (key key′ heads heads′ links links′ : ℕ → ℕ) (n k : ℕ) wh
           let t = links-kept i m in
           let (x, y, g) = c .link i j m b (sym (kept j (omega arith)) ∙ e ∙ kept i m) in
           (omega arith, ap key′ t ∙ kept (links i) (omega arith) ∙ y ∙ sym (kept i m), omega arith)
+
+-- The latest record taken back: the head of its key is again the one before it.
+module _ (key heads heads′ links links′ : ℕ → ℕ) (n : ℕ) where
+  pub covers-less : Covers key (n + 1) heads links → heads′ (key n) ≡ links n → ((i : ℕ) → i ≢ key n → heads′ i ≡ heads i)
+      → ((i : ℕ) → links′ i ≡ links i) → Covers key n heads′ links′
+  covers-less c top kept links-kept = record { head = λ h j s l e. by-head h j s l e (ℕ-discrete h (key n)); link = by-link }
+    where
+      by-head : (h j : ℕ) → h < 57344 → j < n → key j ≡ h → Dec (h ≡ key n) → (heads′ h < n) × (key (heads′ h) ≡ h) × (j ≤ heads′ h)
+      by-head h j s l e (yes z) =
+          let t : heads′ h ≡ links n = rw z top in
+          let (a, b, g) = c .link n j (omega arith) l (e ∙ z) in
+          (omega arith, ap key t ∙ b ∙ sym z, omega arith)
+      by-head h j s l e (no d) =
+          let t = kept h d in
+          let (a, b, g) = c .head h j s (omega arith) e in
+          let other : heads h ≢ n = λ z. d (sym b ∙ ap key z) in
+          (omega arith, ap key t ∙ b, omega arith)
+
+      by-link : (i j : ℕ) → i < n → j < i → key j ≡ key i → (links′ i < i) × (key (links′ i) ≡ key i) × (j ≤ links′ i)
+      by-link i j l b e =
+          let t = links-kept i in
+          let (x, y, g) = c .link i j (omega arith) b e in
+          (omega arith, ap key t ∙ y, omega arith)
+
+-- Other words with the same keys are covered as well.
+pub covers-same : {key key′ heads links : ℕ → ℕ} {n : ℕ} → Covers key n heads links → ((i : ℕ) → i < n → key′ i ≡ key i) → Covers key′ n heads links
+covers-same {key} {key′} {heads} {links} {n} c same = record {
+  head = λ k j s l e. let (a, b, g) = c .head k j s l (sym (same j l) ∙ e) in (a, same (heads k) a ∙ b, g);
+  link = λ i j l b e. let (x, y, g) = c .link i j l b (sym (same j (omega arith)) ∙ e ∙ same i l) in (x, same (links i) (omega arith) ∙ y ∙ sym (same i l), g);
+}
+
+-- Answers with the same call records are queued by the same words.
+pub queued-same : (call call′ firsts firsts′ lasts lasts′ nexts nexts′ : ℕ → ℕ) (m : ℕ) → Queued call m firsts lasts nexts
+    → ((x : ℕ) → x < m → call′ x ≡ call x) → ((r : ℕ) → firsts′ r ≡ firsts r) → ((r : ℕ) → lasts′ r ≡ lasts r) → ((x : ℕ) → nexts′ x ≡ nexts x)
+    → Queued call′ m firsts′ lasts′ nexts′
+queued-same call call′ firsts firsts′ lasts lasts′ nexts nexts′ m q same f g h = record {
+  first = λ r y s l e. let (a, b, d) = q .first r y s l (sym (same y l) ∙ e) in rw (f r) (a, same (firsts r) a ∙ b, d);
+  last = λ r y s l e. let (a, b, d) = q .last r y s l (sym (same y l) ∙ e) in rw (g r) (a, same (lasts r) a ∙ b, d);
+  next = λ x y b l e. let (u, v, w, d) = q .next x y b l (sym (same y l) ∙ e ∙ same x (omega arith)) in
+      rw (h x) (u, v, same (nexts x) v ∙ w ∙ sym (same x (omega arith)), d);
+}
 
 pub queued-none : (call : ℕ → ℕ) (m : ℕ) (firsts lasts nexts : ℕ → ℕ) → m ≡ 0 → Queued call m firsts lasts nexts
 queued-none call m firsts lasts nexts e = record { first = λ r y s l. absurd (omega arith); last = λ r y s l. absurd (omega arith); next = λ x y b l. absurd (omega arith) }
@@ -252,6 +293,51 @@ call-index-more {calls} {calls′} {a} {k} {D = D} {index} {index′} c p few e 
           (noted-link index k n s inside)
           (λ i l. noted-other index k n s inside (57344 + i) (omega arith) (omega arith)));
     })
+
+forgotten-long : (index : List ℕ) (k n : ℕ) → length (forgotten index k n) ≡ length index
+unfolding forgotten
+forgotten-long index k n = length-set index k (getD index (57344 + n) 0)
+
+forgotten-head : (index : List ℕ) (k n : ℕ) → k < length index → getD (forgotten index k n) k 0 ≡ getD index (57344 + n) 0
+unfolding forgotten
+forgotten-head index k n l = getD-set-same index k (getD index (57344 + n) 0) 0 l
+
+forgotten-other : (index : List ℕ) (k n i : ℕ) → i ≢ k → getD (forgotten index k n) i 0 ≡ getD index i 0
+unfolding forgotten
+forgotten-other index k n i d = getD-set-other index k i (getD index (57344 + n) 0) 0 d
+
+-- ---- the heads and links of a table's first records, taken out from the latest down and noted from the first up
+module _ (width : ℕ) (words index₀ : List ℕ) where
+  pub chained-start : (n : ℕ) → Keyed (calls-in width words n) index₀ → Chained width words n index₀ index₀
+  chained-start n k = record { long = refl; keyed = k; past = λ i l. refl }
+
+  module _ (i k : ℕ) (long : 122880 ≤ length index₀) (few : i < 65536)
+      (e : k ≡ bucket (getD words (width * i) 0) (getD words (width * i + 1) 0)) where
+    small : k < 57344
+    small = omega (arith, bucket-small (getD words (width * i) 0) (getD words (width * i + 1) 0))
+
+    pub chained-less : {index index′ : List ℕ} → Chained width words (i + 1) index₀ index → index′ ≡ forgotten index k i → Chained width words i index₀ index′
+    chained-less {index} c z = rw z (record {
+      long = forgotten-long index k i ∙ c .long;
+      keyed = covers-less _ _ _ _ _ i (c .keyed)
+          (rw (← e) (forgotten-head index k i (omega (arith, small, c .long))))
+          (λ j d. forgotten-other index k i j (λ y. d (y ∙ e)))
+          (λ j. forgotten-other index k i (57344 + j) (omega (arith, small)));
+      past = λ j l. forgotten-other index k i j (omega (arith, small)) ∙ c .past j l;
+    })
+
+    pub chained-more : {index index′ : List ℕ} → Chained width words i index₀ index → index′ ≡ noted index k i → Chained width words (i + 1) index₀ index′
+    chained-more {index} c z =
+        let inside : 57344 + i < length index = omega (arith, c .long) in
+        rw z (record {
+          long = noted-long index k i ∙ c .long;
+          keyed = covers-more _ _ _ _ _ _ i k (c .keyed) (λ j l. refl) (sym e) small
+              (noted-head index k i small inside)
+              (λ j l d. noted-other index k i small inside j d (omega arith))
+              (noted-link index k i small inside)
+              (λ j l. noted-other index k i small inside (57344 + j) (omega (arith, small)) (omega arith));
+          past = λ j l. noted-other index k i small inside j (omega (arith, small)) (omega arith) ∙ c .past j l;
+        })
 
 pub joined-long : (index : List ℕ) (place row m : ℕ) → length (joined index place row m) ≡ length index
 unfolding joined

@@ -6,7 +6,7 @@ use mathlib.Core.List.{List}
 use lib.ListN.{length, getD, set}
 use Rattle.steps.specs.State.{State}
 use Rattle.records.specs.Records.{Calls, Answers}
-use Rattle.records.specs.Storage.{CallAt}
+use Rattle.records.specs.Storage.{CallAt, calls-in}
 
 -- The bucket of a record, by its first two words.
 unfoldable pub bucket : ℕ → ℕ → ℕ
@@ -62,6 +62,16 @@ pub record AnswerIndex (answers : Answers) (index : List ℕ) : Type 0 where
 -- The words with record n noted as the latest of bucket k.
 unfoldable pub noted : List ℕ → ℕ → ℕ → List ℕ
 noted index k n = set (set index (57344 + n) (getD index k 0)) k n
+
+-- The words with record n, the latest of bucket k, taken back out.
+unfoldable pub forgotten : List ℕ → ℕ → ℕ → List ℕ
+forgotten index k n = set index k (getD index (57344 + n) 0)
+
+-- The words index′ differ from index at most in heads and links, and these are of the first n records of a table.
+pub record Chained (width : ℕ) (words : List ℕ) (n : ℕ) (index index′ : List ℕ) : Type 0 where
+  pub long : length index′ ≡ length index
+  pub keyed : Keyed (calls-in width words n) index′
+  pub past : (i : ℕ) → 122880 ≤ i → getD index′ i 0 ≡ getD index i 0
 
 -- Where the number of one more answer of call record `row` goes: the next of its last answer, or its first where it has none.
 pub data Tail (answers : Answers) (index : List ℕ) (row place : ℕ) : Type 0 where

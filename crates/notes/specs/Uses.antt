@@ -1,6 +1,6 @@
 -- What a run notes of each call record: its callers, after which answers walks come to it, and from which answer on it is looked at anew.
 -- Read by the proofs alone. Assumes nothing.
-use Prim.Native.Nat.{ℕ, _+_, _-_, _*_, _<_, _≤_, min, max}
+use Prim.Native.Nat.{ℕ, _+_, _-_, _*_, _/_, _%_, _<_, _≤_, min, max}
 use mathlib.Core.Path.{_≡_}
 use mathlib.Core.Bool.{Bool, true, cond}
 use mathlib.Core.List.{List}
@@ -43,6 +43,17 @@ Came uses last k = (last ≡ 0) ⊎ ((via uses k ≡ last) ⊎ (via uses k ≡ 6
 -- The numbers with `row` among the records that come to record i.
 unfoldable pub with-use : List ℕ → ℕ → ℕ → List ℕ
 with-use uses row i = set (set uses (3 * i) (65535 - min (least uses i) row)) (3 * i + 1) (max (greatest uses i) row)
+
+-- ---- callers and answer before in one number
+pub record Packs (uses : List ℕ) (k number : ℕ) : Type 0 where
+  pub first : number % 65536 ≡ getD uses (3 * k) 0
+  pub second : number / 65536 % 65536 ≡ getD uses (3 * k + 1) 0
+  pub third : number / 4294967296 % 65536 ≡ getD uses (3 * k + 2) 0
+
+-- The numbers with what such a number holds as record k's.
+unfoldable pub unpacked : List ℕ → ℕ → ℕ → List ℕ
+unpacked uses k number =
+    set (set (set uses (3 * k) (number % 65536)) (3 * k + 1) (number / 65536 % 65536)) (3 * k + 2) (number / 4294967296 % 65536)
 
 -- Nothing noted is forgotten.
 pub record UsesKept (uses uses′ : List ℕ) : Type 0 where

@@ -13,7 +13,7 @@ ghost use Prim.Native.Nat.{ℕ, _+_, _*_, _<_, _≤_};
 ghost use lib.ListN.{length, getD};
 ghost use Rattle.records.specs.Records.{Answers, call-table, answer-table, call-width, answer-width};
 ghost use Rattle.records.specs.Storage.{Stored, FindCall, FindAnswer, NextAnswer, CallStored, AnswerStored, AnswerAdded, calls-in};
-ghost use Rattle.notes.specs.Index.{bucket, Keyed, OfRow, Tail, noted, joined, CallIndex, AnswerIndex};
+ghost use Rattle.notes.specs.Index.{bucket, Keyed, OfRow, Tail, noted, forgotten, joined, Chained, CallIndex, AnswerIndex};
 
 // Where the parts of an index begin, after the heads.
 const LINKS: usize = 57344;
@@ -77,6 +77,48 @@ fn note(index: &mut [u16], k: usize, n: usize)
 {
     index[LINKS + n] = index[k];
     index[k] = n as u16;
+}
+
+// Takes record n, the latest of bucket k, back out.
+fn forget(index: &mut [u16], k: usize, n: usize)
+    requires { ⌜ (122880 ≤ length (now index)) × (k < 57344) × (n < 65536) ⌝ }
+    ensures { λ _. ⌜ now (index .exit) ≡ forgotten (now (index .entry)) k n ⌝ }
+{
+    index[k] = index[LINKS + n];
+}
+
+// The bucket of record i, of `width` words.
+fn bucket_of(words: &[u64], width: usize, i: usize) -> usize
+    requires { ⌜ width * i + 2 ≤ length (now words) ⌝ }
+    ensures { λ r. ⌜ r ≡ bucket (getD (now (words .entry)) (width * i) 0) (getD (now (words .entry)) (width * i + 1) 0) ⌝ }
+{
+    bucket(words[width * i], words[width * i + 1])
+}
+
+// Takes the records of `width` words from n0 up to n out of the heads and links, the latest first. The rest of the index stays.
+pub fn forget_from(words: &[u64], width: usize, n0: usize, n: usize, index: &mut [u16])
+    requires { ⌜ (2 ≤ width) × (width * n ≤ length (now words)) × (n0 ≤ n) × (n ≤ 65536) × (122880 ≤ length (now index)) ⌝ }
+    requires { ⌜ Keyed (calls-in width (now words) n) (now index) ⌝ }
+    ensures { λ _. ⌜ Chained width (now (words .entry)) n0 (now (index .entry)) (now (index .exit)) ⌝ }
+{
+    let mut i = n;
+    while n0 < i {
+        i -= 1;
+        forget(index, bucket_of(words, width, i), i);
+    }
+}
+
+// Notes them in the heads and links. The rest of the index stays.
+pub fn note_from(words: &[u64], width: usize, n0: usize, n: usize, index: &mut [u16])
+    requires { ⌜ (2 ≤ width) × (width * n ≤ length (now words)) × (n0 ≤ n) × (n ≤ 65536) × (122880 ≤ length (now index)) ⌝ }
+    requires { ⌜ Keyed (calls-in width (now words) n0) (now index) ⌝ }
+    ensures { λ _. ⌜ Chained width (now (words .entry)) n (now (index .entry)) (now (index .exit)) ⌝ }
+{
+    let mut i = n0;
+    while i < n {
+        note(index, bucket_of(words, width, i), i);
+        i += 1;
+    }
 }
 
 // The record of the call, which is added to the table with its round and noted in the index if there is none.

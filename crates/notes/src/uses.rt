@@ -11,7 +11,7 @@ ghost use mathlib.Core.List.{List};
 ghost use Prim.Native.Nat.{ℕ, _+_, _-_, _*_, _<_, _≤_, min, max};
 ghost use lib.ListN.{length, getD};
 ghost use Rattle.records.specs.Records.{answer-table, answer-width};
-ghost use Rattle.notes.specs.Uses.{with-use, with-via, after-both, least, greatest, via, start, heat};
+ghost use Rattle.notes.specs.Uses.{Packs, unpacked, with-use, with-via, after-both, least, greatest, via, start, heat};
 ghost use Rattle.notes.specs.Uses.{Used, Came, Noted, Spans, FirstHot, FirstNew, with-start, Lighted, Looked, Begun};
 ghost use Rattle.notes.specs.Index.{AnswerIndex};
 
@@ -93,6 +93,27 @@ fn heat_of(uses: &[u16], k: usize) -> usize
     ensures { λ r. ⌜ (r ≡ heat (now (uses .entry)) k) × (r ≤ 65535) ⌝ }
 {
     number(uses, HEATS + 2 * k)
+}
+
+// What is noted of the callers of record k and of the answer before it, as one number.
+pub fn pack(uses: &[u16], k: usize) -> u64
+    requires { ⌜ (length (now uses) ≡ 327680) × (k < 65536) ⌝ }
+    ensures { λ r. ⌜ Packs (now (uses .entry)) k r ⌝ }
+{
+    let low = number(uses, 3 * k);
+    let high = number(uses, 3 * k + 1);
+    let last = number(uses, 3 * k + 2);
+    (low + 65536 * high + 4294967296 * last) as u64
+}
+
+// Notes of record k what such a number holds.
+pub fn unpack(uses: &mut [u16], k: usize, number: u64)
+    requires { ⌜ (length (now uses) ≡ 327680) × (k < 65536) ⌝ }
+    ensures { λ _. ⌜ now (uses .exit) ≡ unpacked (now (uses .entry)) k number ⌝ }
+{
+    uses[3 * k] = (number % 65536) as u16;
+    uses[3 * k + 1] = (number / 65536 % 65536) as u16;
+    uses[3 * k + 2] = (number / 4294967296 % 65536) as u16;
 }
 
 // Notes that a walk of record `row` has come to record `callee`.

@@ -1,6 +1,7 @@
 -- The rules by their numbers: those of the rule words in order, then 256 for the goal; and what acceptance says of their bodies. Assumes nothing.
-use Prim.Native.Nat.{ℕ, _+_, _/_, _<_}
+use Prim.Native.Nat.{ℕ, _+_, _/_, _<_, _≤_}
 use native.Mathlib.Omega.{arith}
+use native.Mathlib.Decide.{decLt}
 use mathlib.Core.Path.{_≡_, refl, sym}
 use mathlib.Core.Bool.{Bool, true, false, cond, _&&_}
 use mathlib.Core.List.{List, List·Memᴰ}
@@ -33,6 +34,24 @@ module _ (rules goal : List ℕ) where
   numbers-all i a e = fits-cases i a e _
       (λ z g. (length rules / rule-width, omega arith, rw (le-ltb (length rules / rule-width) (length rules / rule-width) (omega arith)) (sym z)))
       (λ n l h. (i, omega arith, rw (lt-ltb i (length rules / rule-width) l) refl))
+
+  -- rules are walked in the order of their numbers
+  pub lower-number : length rules / rule-width ≤ goal-rule → (i a k : ℕ) → bodies-of rules goal .fits i a ≡ true → k ≤ length rules / rule-width → i < number-at (length rules / rule-width) k → (j : ℕ) × (j < k) × (number-at (length rules / rule-width) j ≡ i)
+  unfolding number-at
+  lower-number few i a k f h l = let (j, g, e) = numbers-all i a f in by j g e (decLt j k)
+    where
+      low : (j : ℕ) → k ≤ j → j < length rules / rule-width + 1 → cond (ltb k (length rules / rule-width)) k goal-rule ≤ cond (ltb j (length rules / rule-width)) j goal-rule
+      low j x y = cases (decLt k (length rules / rule-width)) (decLt j (length rules / rule-width))
+        where
+          cases : Dec (k < length rules / rule-width) → Dec (j < length rules / rule-width) → cond (ltb k (length rules / rule-width)) k goal-rule ≤ cond (ltb j (length rules / rule-width)) j goal-rule
+          cases (yes p) (yes q) = rw (lt-ltb k (length rules / rule-width) p, lt-ltb j (length rules / rule-width) q) x
+          cases (yes p) (no q) = rw (lt-ltb k (length rules / rule-width) p, le-ltb j (length rules / rule-width) (omega arith)) (omega arith)
+          cases (no p) (yes q) = absurd (omega arith)
+          cases (no p) (no q) = rw (le-ltb k (length rules / rule-width) (omega arith), le-ltb j (length rules / rule-width) (omega arith)) (omega arith)
+
+      by : (j : ℕ) → j < length rules / rule-width + 1 → cond (ltb j (length rules / rule-width)) j goal-rule ≡ i → Dec (j < k) → (j : ℕ) × (j < k) × (cond (ltb j (length rules / rule-width)) j goal-rule ≡ i)
+      by j g e (yes q) = (j, q, e)
+      by j g e (no q) = absurd (omega (arith, low j (omega arith) g))
 
   -- the words of a rule and of the goal
   pub words-goal : (i : ℕ) → i ≡ goal-rule → bodies-of rules goal .words i ≡ goal

@@ -45,7 +45,7 @@ fn add(words: &mut [u64], at: usize, set: u64, round: u64) -> bool {
 }
 
 // The answers that have a round, as a relation table.
-fn answered(answers: &[u64; 264]) -> [u64; 32] {
+pub fn answered(answers: &[u64; 264]) -> [u64; 32] {
     let mut rel = [0u64; 32];
     for at in 0..32usize {
         rel[at] = found(answers, at * 8);

@@ -1,10 +1,12 @@
 // A separately written evaluator, by another method, for at most 3 fluents (8 states), 4 actions and 6 rules. The relation of an
 // action holds, for each state, the set of its final states as bits of a word; all relations grow together until nothing is
-// added. Calls come afterwards, by reachability. How many rounds that takes is told apart (`depth`).
+// added. Calls come afterwards, by reachability. How many rounds that takes is told apart (`depth`),
+// and so are the words of the tables (`order`).
 //
 // A book is 7 records of 18 words: the rules, and the goal as the last. A relation table is 32 words, at 8 times the action
 // plus the state. Only safety is proved here, so indices are taken modulo the length of their array.
 pub mod depth;
+pub mod order;
 pub mod random;
 
 ghost use Prim.Native.Nat.{_≤_};

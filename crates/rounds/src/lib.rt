@@ -3,8 +3,9 @@
 // A round walks every body of every call record that stood when it began, with only the answers that stood then, and adds what it finds; a
 // round that adds nothing is the last. A record whose callees have gained no answer since it was walked has nothing to add, and is passed; a
 // walk that was done before passes over the answers that lead to nothing new (`notes::uses`). A walk is a depth-first search over answers in
-// rising order (crate `walk`). Tables that a round adds nothing to are closed, and every record in them is reached or justified: so they hold
-// exactly the run's calls and answers.
+// rising order (crate `walk`), so that a new answer comes by the least evidence of the lowest rule; at its end a round's records are put in order
+// (crate `ordering`). Tables that a round adds nothing to are closed, and every record in them is reached or justified: so they hold exactly the
+// run's calls and answers.
 use notes::marks;
 use notes::uses;
 use records::bodies;
@@ -176,7 +177,7 @@ fn round<'a>(
 
 // Rounds over the call records from `first` on until one adds nothing, under the rules and the goal, or until a table is full. The tables hold
 // n0 call records and m0 answers at first, which have come in no round; what they can hold is fixed by the lengths of the lent words. The rounds
-// are counted from 1, and each record gets the number of the round that adds it.
+// are counted from 1, and each record gets the number of the round that adds it; at a round's end its records are put in order.
 pub fn fill<'a>(
     rules: &'a [u16],
     goal: &'a [u16],
@@ -245,6 +246,8 @@ pub fn fill<'a>(
                 rounds: rounds,
             };
         }
+        ordering::order_calls(calls, n, rows, call_index, uses, rounds + 1);
+        ordering::order_answers(answers, m, known, answer_index);
         walked = n;
         seen = m;
         n = rows;

@@ -1,6 +1,9 @@
--- Laws of the definitions. SortedLaws is for the crates above; the others are for this crate's proofs.
-pub mod Places
-pub mod Rearrangements
+-- Laws of the definitions. Shuffles and SortedLaws are for the crates above; the others are for this crate's proofs.
+pub mod Shuffles
+pub mod Orders
+pub mod Ascents
+pub mod Keys
+pub mod Exchanges
 pub mod HeapLaws
 pub mod Sinking
 pub mod Selection

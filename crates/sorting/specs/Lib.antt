@@ -1,3 +1,3 @@
--- What a reader must believe of sorting: Sorted is the contract of `sort`; Heap has what the functions inside it say to one another.
-pub mod Sorted
+-- What a reader must believe of sorting: Sorted (in Shuffled) is the contract of `sort`; Heap has what the functions inside it say to one another.
+pub mod Shuffled
 pub mod Heap

@@ -7,4 +7,5 @@ pub mod Evidence
 pub mod Adding
 pub mod Closed
 pub mod Found
+pub mod Resorted
 pub mod RunTables

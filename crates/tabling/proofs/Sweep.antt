@@ -193,7 +193,7 @@ module _ {St : Type 0} (Edge : ℕ → St → ℕ → St → Type 0) where
     pub passed : {Good : ℕ → St → Type 0} {q x : ℕ} {s t : St} → Link Good q s x t → Swept Good (suc q) t → Upto Good q s (suc x)
     passed {Good} {q} {x} {s} {t} l k = upto-suc Good (l .upto) (λ t′ e. subst (Swept Good (suc q)) (leads q s x t t′ (l .edge) e) k)
 
-    -- ---- the labels in order: of all ways to a state that is not good yet, the search comes along the least
+    -- ---- the labels in order: no way to a node that is not good yet is less than the one along which the search comes
     module _ {Good : ℕ → St → Type 0} {D s s′ : St} {mark : ℕ → St → Type 0} {ev ev′ : ℕ → ℕ} {top n : ℕ}
         (S : Search Good D mark ev top n s) (W : Way ev′ D n s′) where
       abbrev Same : ℕ → Type 0
@@ -215,8 +215,8 @@ module _ {St : Type 0} (Edge : ℕ → St → ℕ → St → Type 0) where
           ⊎-elim (⊎-elim (λ same. order-same k h same (decLt (ev′ k) (ev k)) (decLt (ev k) (ev′ k))) (λ (q, l, a, b). inl (inr (q, omega arith, a, b))))
           (λ w. inr (λ p t r. w p t (more (W .edges k h) r))) (order k (omega arith))
 
-      pub least : ¬ Good n s → s′ ≡ s → ((q : ℕ) → q < n → ev q ≡ ev′ q) ⊎ Less ev ev′ n
-      least new e = ⊎-elim (⊎-elim (λ same. inl (same .0)) inr) (λ w. absurd (new (rw (← e, ← (W .now)) (w n (W .st n) here)))) (order n (omega arith))
+      pub least : ¬ Good n s′ → ((q : ℕ) → q < n → ev q ≡ ev′ q) ⊎ Less ev ev′ n
+      least new = ⊎-elim (⊎-elim (λ same. inl (same .0)) inr) (λ w. absurd (new (rw (← (W .now)) (w n (W .st n) here)))) (order n (omega arith))
 
 -- another graph with no more edges
 module _ {St : Type 0} {Edge Edge′ : ℕ → St → ℕ → St → Type 0} (back : (q : ℕ) (s : St) (x : ℕ) (t : St) → Edge′ q s x t → Edge q s x t) where

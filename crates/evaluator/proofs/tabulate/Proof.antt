@@ -14,7 +14,7 @@ use Rattle.notes.proofs.MarksLaws.{zeros-stamped, zeros-at}
 use Rattle.notes.proofs.IndexLaws.{call-index-none, answer-index-none}
 use Rattle.loops.proofs.Going.{in-words}
 use Rattle.loops.proofs.Filling.{first-valid, first-full}
-use Rattle.canonical.proofs.Telling.{Begins}
+use Rattle.canonical.proofs.Beginning.{Begins}
 use Rattle.evaluator.proofs.Outcomes.{zeros-stored, first-begins}
 use Rattle.evaluator.proofs.tabulate.Statement.{statement}
 use Rattle.evaluator.proofs.tabulate.Tie as tie

@@ -7,6 +7,8 @@ use lib.ListN.{length}
 use Rattle.steps.proofs.EachBelow.{true-not-false}
 use Rattle.loops.proofs.Rounds.{round-start}
 use Rattle.loops.proofs.Filling.{Rounding}
+use Rattle.loops.proofs.Ordering.{round-ordered, sooner-ordered, gathered-rounded, gathered-still}
+use Rattle.records.proofs.Numbers.{proper-of}
 use Rattle.tabling.proofs.Found.{begun, went}
 use borrow.Author.Needs.{needs}
 use Rattle.rounds.proofs.fill.Statement.{statement}
@@ -115,11 +117,27 @@ returns c =
       outgrown = λ _. rw (l .calls-long, l .answers-long) at (w .outgrown (c .if1 .taken) roots (l .round roots v));
     })
 
-add-t22 : tie.Need-add-t22 Inv-loop μ-loop
-add-t22 c = let l = c .loop .inv in omega (arith, l .few, l .kept .calls-stored .most, l .kept .answers-stored .most)
+add-order-calls : tie.Need-add-order-calls Inv-loop μ-loop
+add-order-calls c = let l = c .loop .inv in omega (arith, l .few, l .kept .calls-stored .most, l .kept .answers-stored .most)
 
 add-rounds : tie.Need-add-rounds Inv-loop μ-loop
-add-rounds c = let l = c .before .before .before .before .before .before .before .before .before .before .before .before .before .before .before .before .before .before .before .before .before .loop .inv in omega (arith, l .few, l .kept .calls-stored .most, l .kept .answers-stored .most)
+add-rounds c = let l = c .before .before .before .before .before .before .before .before .before .before .before .before .before .before .before .before .before .before .before .before .before .before .before .before .before .before .before .before .before .before .before .before .before .before .before .before .before .before .loop .inv in omega (arith, l .few, l .kept .calls-stored .most, l .kept .answers-stored .most)
+
+add-order-calls-2 : tie.Need-add-order-calls-2 Inv-loop μ-loop
+add-order-calls-2 c = let l = c .before .before .before .before .before .before .before .before .before .before .before .before .before .before .before .before .before .before .before .before .before .before .before .before .loop .inv in omega (arith, l .few, l .kept .calls-stored .most, l .kept .answers-stored .most)
+
+order-calls-requires : tie.Need-order-calls-requires Inv-loop μ-loop
+order-calls-requires c κs =
+    let w = c .before .before .before .before .before .before .before .before .before .before .before .before .before .before .before .before .before .round .ensures in
+    let l = c .before .before .before .before .before .before .before .before .before .before .before .before .before .before .before .before .before .before .before .before .before .before .before .before .loop .inv in
+    let no = c .before .before .before .before .if1 .left in
+    ((w .kept .calls-stored, w .indexed .of-calls, w .rows-in no, w .uses-long ∙ l .uses-long ∙ c .before .before .before .before .before .before .before .before .before .before .before .before .before .before .before .before .before .before .before .before .before .before .before .before .before .before .before .before .before .before .before .before .before .pre .0 .4), λ k h i. w .made no .call-found k h i .1)
+
+order-answers-requires : tie.Need-order-answers-requires Inv-loop μ-loop
+order-answers-requires c κs =
+    let w = c .before .before .before .before .before .before .before .before .before .before .before .before .before .before .before .before .before .before .before .before .before .before .before .before .before .before .round .ensures in
+    let no = c .before .before .before .before .before .before .before .before .before .before .before .before .before .if1 .left in
+    (w .kept .answers-stored, w .indexed .of-answers, w .known-in no, w .made no .by-row)
 
 add-if2 : tie.Need-add-if2 Inv-loop μ-loop
 add-if2 c = let k =
@@ -170,6 +188,7 @@ same-length-12 c =
 returns-2 : tie.Need-returns-2 Inv-loop μ-loop
 returns-2 c =
     let at-round = c .before .before .before .before .before .before .before .before .before .before .before .before .before .before in
+    let entry = c .before .before .before .before .before .before .before .before .before .before .before .before .before .before .before .before .before .before .before .before .before .before .before .before .before .before .before .before .before .before in
     let at-loop = c .before .before .before .before .before .before .before .before .before .before .before .before .before .before .before .before .before .before .before .before .before in
     λ roots v.
     (let w = at-round .round .ensures in
@@ -180,35 +199,54 @@ returns-2 c =
       kept = w .kept;
       closed = λ _. w .next (c .before .if1 .left) roots (l .round roots v) .1 (c .if2 .taken);
       rounded = λ _ z.
-          record { last = _; rounds = l .rounded z; still = rw (plus-one (at-loop .loop .rounds)) at (w .rounded (c .before .if1 .left) z); same = sym (c .if2 .taken) };
+          (let (fluents, actions, words) = entry .pre .1 .0 in
+          let (rs, valid) = entry .pre .1 .1 in
+          let S = l .round rs valid in
+          record {
+            last = _;
+            rounds = l .rounded z;
+            still = rw (plus-one (at-loop .loop .rounds)) at (gathered-still (proper-of _ _ words) (S .valid) (w .next (c .before .if1 .left) rs S .0 .valid) (w .gathered (c .before .if1 .left) z) (sym (c .if2 .taken)));
+            same = sym (c .if2 .taken);
+          });
       outgrown = λ e. absurd (true-not-false (sym e));
     })
 
 loop-less : tie.Need-loop-less Inv-loop μ-loop
 loop-less c =
-    let at-round = c .before .before .before .before .before .before .before .before .before .before .before .before .before .before in
+    let at-round = c .before .before .before .before .before .before .before .before .before .before .before .before .before .before .before .before .before .before .before .before .before .before .before .before .before .before .before .before .before .before .before in
     let w = at-round .round .ensures in
-    omega (arith, w .kept .calls-stored .most, w .kept .answers-stored .most, w .rows-in (c .before .if1 .left), w .known-in (c .before .if1 .left), c .if2 .left)
+    omega (arith, w .kept .calls-stored .most, w .kept .answers-stored .most, w .rows-in (c .before .before .before .before .before .before .before .before .before .before .before .before .before .before .before .before .before .before .if1 .left), w .known-in (c .before .before .before .before .before .before .before .before .before .before .before .before .before .before .before .before .before .before .if1 .left), c .before .before .before .before .before .before .before .before .before .before .before .before .before .before .before .before .before .if2 .left)
 
 loop-again : tie.Need-loop-again Inv-loop μ-loop
 loop-again c =
-    let at-round = c .before .before .before .before .before .before .before .before .before .before .before .before .before .before in
-    let at-loop = c .before .before .before .before .before .before .before .before .before .before .before .before .before .before .before .before .before .before .before .before .before in
-    let w = at-round .round .ensures in
+    let w = c .before .before .before .before .before .before .before .before .before .before .before .before .before .before .before .before .before .before .before .before .before .before .before .before .before .before .before .before .before .before .before .round .ensures in
+    let at-loop = c .before .before .before .before .before .before .before .before .before .before .before .before .before .before .before .before .before .before .before .before .before .before .before .before .before .before .before .before .before .before .before .before .before .before .before .before .before .before in
     let l = at-loop .loop .inv in
-    let no = c .before .if1 .left in
+    let entry = c .before .before .before .before .before .before .before .before .before .before .before .before .before .before .before .before .before .before .before .before .before .before .before .before .before .before .before .before .before .before .before .before .before .before .before .before .before .before .before .before .before .before .before .before .before .before .before in
+    let no = c .before .before .before .before .before .before .before .before .before .before .before .before .before .before .before .before .before .before .if1 .left in
+    let oc = c .before .before .before .before .before .before .before .before .before .before .before .before .before .order-calls .ensures in
+    let oa = c .before .before .before .before .order-answers .ensures in
+    let (fluents, actions, words) = entry .pre .1 .0 in
+    let (rs, valid) = entry .pre .1 .1 in
+    let proper = proper-of (entry .args .rules .now) (entry .args .goal .now) words in
+    let most = w .kept .calls-stored .most in
     record {
-      calls-long = w .calls-long ∙ l .calls-long;
-      answers-long = w .answers-long ∙ l .answers-long;
-      kept = w .kept;
-      indexed = w .indexed;
-      uses-long = w .uses-long ∙ l .uses-long;
-      stale = w .stale;
+      calls-long = oc .2 .sorted .shuffled .size ∙ w .calls-long ∙ l .calls-long;
+      answers-long = oa .2 .sorted .shuffled .size ∙ w .answers-long ∙ l .answers-long;
+      kept = record { calls-stored = oc .0; answers-stored = oa .0 };
+      indexed = record { of-calls = oc .1; of-answers = oa .1 };
+      uses-long = oc .2 .moved .long ∙ w .uses-long ∙ l .uses-long;
+      stale = λ k. omega (arith, oc .2 .moved .heats k, w .stale k);
       stamped = w .stamped no;
-      few = omega (arith, l .few, w .rows-in no, w .known-in no, c .if2 .left);
-      sooner = w .sooner no;
-      rounded = λ z. rw (plus-one (at-loop .loop .rounds)) (went (l .rounded z) (rw (plus-one (at-loop .loop .rounds)) at (w .rounded no z)) (omega (arith, w .rows-in no, w .known-in no, c .if2 .left)));
-      round = λ roots v. w .next no roots (l .round roots v) .0;
+      few = omega (arith, l .few, w .rows-in no, w .known-in no, c .before .before .before .before .before .before .before .before .before .before .before .before .before .before .before .before .before .if2 .left);
+      sooner = sooner-ordered (at-loop .loop .calls) (at-loop .loop .n) (at-loop .loop .answers) (at-loop .loop .m) _ _ _ _ _ _ _ _ (oc .2) (oa .2) (w .rows-in no) (w .known-in no) most _ (w .sooner no);
+      rounded = λ z.
+          (let S = l .round rs valid in
+          let R = gathered-rounded (at-loop .loop .calls) (at-loop .loop .n) (at-loop .loop .answers) (at-loop .loop .m) _ _ _ _ _ _ _ _ (oc .2) (oa .2) (w .rows-in no) (w .known-in no) most proper (S .valid) (w .next no rs S .0 .valid) (w .gathered no z) in
+          rw (plus-one (at-loop .loop .rounds)) (went (l .rounded z) (rw (plus-one (at-loop .loop .rounds)) at R) (omega (arith, w .rows-in no, w .known-in no, c .before .before .before .before .before .before .before .before .before .before .before .before .before .before .before .before .before .if2 .left))));
+      round = λ roots v.
+          (let S = l .round roots v in
+          round-ordered (at-loop .loop .calls) (at-loop .loop .n) (at-loop .loop .answers) (at-loop .loop .m) _ _ _ _ _ _ _ _ (oc .2) (oa .2) (w .rows-in no) (w .known-in no) most proper (S .valid) (w .made no) (w .next no roots S .0));
     }
 
 pub fill-spec : {M : Type 1} → statement M
@@ -218,7 +256,7 @@ fill-spec =
     Inv-loop
     μ-loop
     loop-holds
-    add-t22
+    add-order-calls
     round-requires
     same-length
     same-length-2
@@ -236,6 +274,9 @@ fill-spec =
     same-length-11
     same-length-12
     returns-2
+    add-order-calls-2
+    order-calls-requires
+    order-answers-requires
     add-rounds
     loop-less
     loop-again)

@@ -9,7 +9,7 @@ use lib.ListN.{length, length-replicate}
 use borrow.Author.Tests.{not-true, not-false}
 use Rattle.steps.proofs.EachBelow.{true-not-false}
 use Rattle.steps.specs.Widths.{rule-width}
-use Rattle.records.specs.Records.{bodies-of}
+use Rattle.records.specs.Records.{bodies-of, call-table}
 use Rattle.records.proofs.BodyLaws.{short-of}
 use Rattle.notes.specs.Uses.{UsesGrew, Lit}
 use Rattle.notes.proofs.UsesLaws.{kept-same, uses-refl, uses-trans}
@@ -17,13 +17,13 @@ use Rattle.tabling.proofs.Evidence.{Among, inside-of}
 use Rattle.notes.proofs.MarksLaws.{zeros-at}
 use Rattle.tabling.proofs.Measure.{left}
 use Rattle.records.specs.Bodies.{number-at}
-use Rattle.records.proofs.Numbers.{numbers-all, proper-of}
+use Rattle.records.proofs.Numbers.{numbers-all, proper-of, lower-number}
 use Rattle.loops.proofs.Turn.{Begin, begin, before, Given, turn-start, body-short}
 use Rattle.walk.specs.Leaving.{spot-of}
 use Rattle.records.proofs.Growth.{Tables}
 use Rattle.loops.proofs.Cold.{Past}
 use Rattle.loops.proofs.Going.{in-words, Going, going-start, going-on, going-back, going-fits, on-less, back-less}
-use Rattle.loops.proofs.Rounds.{Round, Rows, Rules, round-kept, rows-past, rows-start, rows-round, rows-passed, rules-start, rules-skip, rules-next, rows-next, rows-finished, rows-rounded, rows-sooner}
+use Rattle.loops.proofs.Rounds.{Round, Rows, Rules, round-kept, rows-past, rows-start, rows-round, rows-passed, rules-start, rules-skip, rules-next, rows-next, rows-finished, rows-gathered, rows-sooner, rules-lower}
 use Rattle.loops.proofs.Filling.{Begins, RowsDone, RulesDone, Walked}
 use borrow.Author.Needs.{needs}
 use Rattle.rounds.proofs.round.Statement.{statement}
@@ -110,6 +110,8 @@ given-at f rs begun R =
       fits = rw (f .before .before .before .before .before .before .before .number-of .ensures, ← f .before .before .before .before .before .before .before .before .before .before .action-of .ensures) (sym (f .before .before .before .before .before .before .before .before .before .is-at .ensures) ∙ not-false _ (f .before .before .before .before .before .before .before .before .if3 .left));
       words = f .before .before .steps-of .ensures .0;
       past = λ (h, k). past-words (f .before .before .steps-of .ensures .0) (rows-past _ _ (R .rows-closed) (f .before .before .before .before .before .before .before .number-of .result) (rw (f .before .before .before .before .before .before .before .number-of .ensures, ← f .before .before .before .before .before .before .before .before .before .before .action-of .ensures) (sym (f .before .before .before .before .before .before .before .before .before .is-at .ensures) ∙ not-false _ (f .before .before .before .before .before .before .before .before .if3 .left))) h k);
+      lower = λ j k e g w. rules-lower _ _ _ R j (lower-number (i .args .rules .now) (i .args .goal .now) (i .pre .accepted .few-rules) j (call-table (f .before .before .before .before .before .before .before .before .before .before .before .before .before .loop2 .calls) (f .before .before .before .before .before .before .before .before .before .before .before .before .before .loop2 .n) .action (f .before .before .before .before .before .before .before .before .before .before .before .before .before .before .before .before .loop .row)) (f .before .before .before .before .before .before .before .before .before .before .before .before .before .loop2 .rule) e (omega (arith, f .before .before .before .before .before .before .before .before .before .before .before .before .loop2-test .taken)) (rw (f .before .before .before .before .before .before .before .number-of .ensures) at k)) e g w;
+      row-last = λ x h l. R .rows-closed .latest x (omega (arith, R .rows-closed .since .all-known)) l;
       row-old = omega (arith, R .rows-closed .base-rows, f .before .before .before .before .before .before .before .before .before .before .before .before .before .before .before .loop-test .taken, f .before .before .before .before .before .before .before .before .before .before .before .before .before .before .before .before .before .before .before .before .span-of .ensures .0 .top-in);
       since = R .rows-closed .since;
     }
@@ -366,7 +368,7 @@ loop2-again-2 c =
       known-in = omega (arith, l .known-in, O .grew .answers-more);
       closed = λ roots begun R.
           (let end = rw (c .enum-told .given .1) at (at-turn .turn .ensures .1 _ _ _ _ (w .going roots begun (given-at f roots begun (l .closed roots begun R)) (l .closed roots begun R .rows-closed .noted))) in
-          rules-next _ _ _ (l .closed roots begun R) (omega (arith, at-loop-test .loop-test .taken, at-span-of .span-of .ensures .0 .top-in)) (at-number-of .number-of .ensures) (at-steps-of .steps-of .ensures .0) more (end .made) end);
+          rules-next _ _ _ (l .closed roots begun R) (omega (arith, at-loop-test .loop-test .taken, at-span-of .span-of .ensures .0 .top-in)) (at-number-of .number-of .ensures) (at-steps-of .steps-of .ensures .0) more (end .made) (λ x h k. end .latest x (omega (arith, l .closed roots begun R .rows-closed .since .all-known)) k) end);
     }
 
 add-row-2 : tie.Need-add-row-2 Inv-loop3 μ-loop3 Inv-loop2 μ-loop2 Inv-loop μ-loop Inv-round μ-round
@@ -441,7 +443,8 @@ returns c =
       uses-long = u .long ∙ at-span-of .span-of .ensures .1 .long;
       stale = λ k. omega (arith, u .heats k, at-span-of .span-of .ensures .1 .stale k);
       sooner = λ _. rows-sooner _ _ R₀;
-      rounded = λ _ z. rw (r .calls-same, r .answers-same, r .rows-all, r .known-all) at (rows-rounded _ _ (rw z at R₀) (c .loop-test .left));
+      made = λ _. rw (r .calls-same, r .answers-same, r .rows-all, r .known-all) at (R₀ .since .made);
+      gathered = λ _ z. rw (r .calls-same, r .answers-same, r .rows-all, r .known-all) at (rows-gathered _ _ (rw z at R₀) (c .loop-test .left));
       next = λ _ roots S. (let R = rows-at (c .before) roots S in (rows-round _ _ R (c .loop-test .left), λ e. rows-finished _ _ R (c .loop-test .left) e));
       outgrown = λ e. absurd (true-not-false (sym e));
     }
@@ -503,7 +506,8 @@ returns-2 c =
       known-in = λ e. absurd (true-not-false e);
       stamped = λ e. absurd (true-not-false e);
       sooner = λ e. absurd (true-not-false e);
-      rounded = λ e. absurd (true-not-false e);
+      made = λ e. absurd (true-not-false e);
+      gathered = λ e. absurd (true-not-false e);
       uses-long = u .long ∙ at-span-of .span-of .ensures .1 .long;
       stale = λ k. omega (arith, u .heats k, at-span-of .span-of .ensures .1 .stale k);
       next = λ e. absurd (true-not-false e);

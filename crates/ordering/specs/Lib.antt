@@ -1,0 +1,2 @@
+-- What the records of a round put in order are.
+pub mod Order
