@@ -16,7 +16,8 @@ use Rattle.canonical.specs.Order.{Key}
 use Rattle.canonical.specs.Rows.{CallRow, AnswerRow, Rows, call-key, answer-key}
 use Rattle.canonical.specs.Rounds.{add-round, after-round, Settled}
 use Rattle.canonical.proofs.Ordered.{Ordered, none, more, ordered-one, ordered-append}
-use Rattle.canonical.proofs.Keys.{Before, Rising, Keyed, before-not}
+use Rattle.sorting.specs.Shuffled.{Before}
+use Rattle.canonical.proofs.Keys.{Rising, Keyed, before-not}
 use Rattle.canonical.proofs.Onward.{answer-at, no-answer}
 use Rattle.canonical.proofs.Found.{CallFound, AnswerFound}
 use Rattle.canonical.proofs.OneRound.{Grown, grown-is, round-grown}

@@ -28,7 +28,7 @@ use Rattle.tabling.proofs.Moves.{Of, final, front, move-step, move-call}
 use Rattle.tabling.proofs.Closed.{A}
 use Rattle.canonical.specs.Order.{Key}
 use Rattle.canonical.specs.Rows.{CallRow, AnswerRow, Rows, call-key, call-at, no-call}
-use Rattle.canonical.specs.Rounds.{called, onward, after-round}
+use Rattle.canonical.specs.Rounds.{called, leads-to, after-round}
 use Rattle.canonical.proofs.Onward.{answer-at, no-answer, row-call, onward-leads}
 use Rattle.canonical.proofs.Ways.{Along, ended, step, Comes, now, past}
 use Rattle.canonical.proofs.Routes.{along-way}
@@ -57,7 +57,7 @@ module _ (t : Rows) where
   took (delete p) s e u l = did (delete p) s e u (elementary (delete p) s) refl l
   took (deny p) s e u l = did (deny p) s e u (elementary (deny p) s) refl l
 
-  onward-took : {e : ℕ} {u : State} (x : Step) (s : State) → List·Memᴰ {A = ℕ × State} (e, u) (onward t x s) → Took x s e u
+  onward-took : {e : ℕ} {u : State} (x : Step) (s : State) → List·Memᴰ {A = ℕ × State} (e, u) (leads-to t x s) → Took x s e u
   onward-took {e} {u} x s m = took x s e u (onward-leads t (view-shows t) x s m)
 
   took-walk : {x : Step} {s u f : State} {e : ℕ} {rest left : Body} → Took x s e u → Walk Does Taken u rest f left → Walk Does Taken s (x ∷ rest) f left

@@ -8,14 +8,11 @@ use mathlib.Core.List.{List, [], _∷_, List·Memᴰ, List·Memᴰ·head, List·
 use mathlib.Core.Logic.{_⊎_, inl, inr, ⊎-elim, _↔_}
 use lib.Dec.{eqb}
 use borrow.Author.Tests.{lt-ltb, le-ltb, eq-eqb, ne-eqb, eqb-true}
+use Rattle.sorting.specs.Shuffled.{Before}
 use Rattle.canonical.specs.Order.{Key, before, same, holds-key, put, in-order, new-to}
 use Rattle.canonical.proofs.Ordered.{Ordered, none, more}
 
 -- ---- keys
-
--- The first number decides, then the second.
-abbrev pub Before : Key → Key → Type 0
-Before x y = (x .0 < y .0) ⊎ ((x .0 ≡ y .0) × (x .1 < y .1))
 
 -- How two keys stand to each other, with what the tests say.
 pub data Compared (x y : Key) : Type 0 where

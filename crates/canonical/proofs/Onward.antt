@@ -14,7 +14,7 @@ use Rattle.tabling.proofs.Graph.{Leads}
 use Rattle.tabling.proofs.Moves.{Of, call-of, final, front, move-step}
 use Rattle.canonical.specs.Order.{same}
 use Rattle.canonical.specs.Rows.{AnswerRow, Rows, call-key, call-at}
-use Rattle.canonical.specs.Rounds.{called, goes, answers-of, onward}
+use Rattle.canonical.specs.Rounds.{called, goes, answers-of, leads-to}
 use Rattle.canonical.proofs.Ordered.{Ordered, none, more}
 use Rattle.canonical.proofs.Keys.{same-true, same-of}
 
@@ -86,8 +86,8 @@ module _ (t : Rows) where
   rise-goes (on u) = more (λ y m. absurd (List·Memᴰ·not-nil m)) none
   rise-goes stuck = none
 
-  pub onward-rise : (x : Step) (s : State) → Ordered (λ (p q : ℕ × State). p .0 < q .0) (onward t x s)
-  unfolding onward called flatMap elementary
+  pub onward-rise : (x : Step) (s : State) → Ordered (λ (p q : ℕ × State). p .0 < q .0) (leads-to t x s)
+  unfolding leads-to called flatMap elementary
   onward-rise (query p) s = rise-goes (elementary (query p) s)
   onward-rise (insert p) s = rise-goes (elementary (insert p) s)
   onward-rise (delete p) s = rise-goes (elementary (delete p) s)
@@ -108,8 +108,8 @@ module _ (t : Rows) where
     goes-in e u (on v) (z, f) = List·Memᴰ·head (ap₂ (λ (n : ℕ) (s : State). (n, s)) z (sym f))
     goes-in e u stuck l = absurd l
 
-    pub onward-leads : {e : ℕ} {u : State} (x : Step) (s : State) → List·Memᴰ {A = ℕ × State} (e, u) (onward t x s) → Leads (Of b known) (final b) (move-step x s) e u
-    unfolding onward called flatMap elementary move-step
+    pub onward-leads : {e : ℕ} {u : State} (x : Step) (s : State) → List·Memᴰ {A = ℕ × State} (e, u) (leads-to t x s) → Leads (Of b known) (final b) (move-step x s) e u
+    unfolding leads-to called flatMap elementary move-step
     onward-leads (query p) s m = goes-out (elementary (query p) s) m
     onward-leads (insert p) s m = goes-out (elementary (insert p) s) m
     onward-leads (delete p) s m = goes-out (elementary (delete p) s) m
@@ -127,8 +127,8 @@ module _ (t : Rows) where
             (record { below = h; action = ap (λ (p : ℕ × State). p .0) g; state = ap (λ (p : ℕ × State). p .1) g }, shows .to-final e h ∙ f′)
         by (inr k) = absurd (List·Memᴰ·not-nil k)
 
-    pub leads-onward : (e : ℕ) (u : State) (x : Step) (s : State) → Leads (Of b known) (final b) (move-step x s) e u → List·Memᴰ {A = ℕ × State} (e, u) (onward t x s)
-    unfolding onward called flatMap elementary move-step
+    pub leads-onward : (e : ℕ) (u : State) (x : Step) (s : State) → Leads (Of b known) (final b) (move-step x s) e u → List·Memᴰ {A = ℕ × State} (e, u) (leads-to t x s)
+    unfolding leads-to called flatMap elementary move-step
     leads-onward e u (query p) s l = goes-in e u (elementary (query p) s) l
     leads-onward e u (insert p) s l = goes-in e u (elementary (insert p) s) l
     leads-onward e u (delete p) s l = goes-in e u (elementary (delete p) s) l

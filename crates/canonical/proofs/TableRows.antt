@@ -15,7 +15,8 @@ use Rattle.tabling.proofs.Closed.{ClosedAt}
 use Rattle.canonical.specs.Order.{Key}
 use Rattle.canonical.specs.Rows.{CallRow, AnswerRow, Rows, call-key, answer-key, call-at, numbers, no-call}
 use Rattle.canonical.proofs.Ordered.{Ordered, none, more}
-use Rattle.canonical.proofs.Keys.{Before, Keyed}
+use Rattle.sorting.specs.Shuffled.{Before}
+use Rattle.canonical.proofs.Keys.{Keyed}
 use Rattle.canonical.proofs.Onward.{answer-at, no-answer, Shows}
 use Rattle.canonical.proofs.Ways.{Along, Comes}
 use Rattle.canonical.proofs.Routes.{along-reach, comes-reach}

@@ -8,7 +8,7 @@ use lib.ListN.{length}
 use Rattle.steps.specs.State.{State}
 use Rattle.steps.specs.Step.{Step, Body}
 use Rattle.canonical.specs.Rows.{Rows}
-use Rattle.canonical.specs.Rounds.{Route, called, onward, ways, comes-to}
+use Rattle.canonical.specs.Rounds.{Route, called, leads-to, ways, comes-to}
 use Rattle.canonical.proofs.Ordered.{Ordered, ordered-one, ordered-map, ordered-flat, flat-out, flat-in}
 use Rattle.canonical.proofs.Keys.{First, first-member, first-least, least-first}
 use Rattle.canonical.proofs.Onward.{onward-rise}
@@ -28,12 +28,12 @@ module _ (t : Rows) where
   -- The steps of a body lead from a state along this evidence to another.
   pub data Along : Body → State → List ℕ → State → Type 0 where
     ended : {s : State} → Along [] s [] s
-    step : {x : Step} {rest : Body} {s u f : State} {e : ℕ} {es : List ℕ} → List·Memᴰ {A = ℕ × State} (e, u) (onward t x s) → Along rest u es f → Along (x ∷ rest) s (e ∷ es) f
+    step : {x : Step} {rest : Body} {s u f : State} {e : ℕ} {es : List ℕ} → List·Memᴰ {A = ℕ × State} (e, u) (leads-to t x s) → Along rest u es f → Along (x ∷ rest) s (e ∷ es) f
 
   -- They come to a call.
   pub data Comes : Body → State → ℕ × State → Type 0 where
     now : {x : Step} {rest : Body} {s : State} {c : ℕ × State} → List·Memᴰ c (called x s) → Comes (x ∷ rest) s c
-    past : {x : Step} {rest : Body} {s u : State} {e : ℕ} {c : ℕ × State} → List·Memᴰ {A = ℕ × State} (e, u) (onward t x s) → Comes rest u c → Comes (x ∷ rest) s c
+    past : {x : Step} {rest : Body} {s u : State} {e : ℕ} {c : ℕ × State} → List·Memᴰ {A = ℕ × State} (e, u) (leads-to t x s) → Comes rest u c → Comes (x ∷ rest) s c
 
   pub along-long : {body : Body} {s f : State} {es : List ℕ} → Along body s es f → length es ≡ length body
   along-long ended = refl
@@ -44,7 +44,7 @@ module _ (t : Rows) where
   unfolding ways
   ways-out {w} [] s m = let e = List·Memᴰ·eq-of-singleton m in subst (λ (v : Route). Along [] s (v .0) (v .1)) (sym e) ended
   ways-out {w} (x ∷ rest) s m =
-      let (o, k, n) = flat-out (λ (o : ℕ × State). map (λ (w : Route). (o .0 ∷ w .0, w .1)) (ways t rest (o .1))) (onward t x s) m in
+      let (o, k, n) = flat-out (λ (o : ℕ × State). map (λ (w : Route). (o .0 ∷ w .0, w .1)) (ways t rest (o .1))) (leads-to t x s) m in
       let (v, l, e) = Memᴰ·of-map (λ (w : Route). (o .0 ∷ w .0, w .1)) (ways t rest (o .1)) n in
       subst (λ (v : Route). Along (x ∷ rest) s (v .0) (v .1)) e (step {u = o .1} k (ways-out rest (o .1) l))
 
@@ -77,9 +77,9 @@ module _ (t : Rows) where
   pub comes-out : {c : ℕ × State} (body : Body) (s : State) → List·Memᴰ c (comes-to t body s) → Comes body s c
   unfolding comes-to
   comes-out [] s m = absurd (List·Memᴰ·not-nil m)
-  comes-out {c} (x ∷ rest) s m = ⊎-elim now (λ k. (let (o, l, n) = flat-out (λ (o : ℕ × State). comes-to t rest (o .1)) (onward t x s) k in past {u = o .1} {e = o .0} l (comes-out rest (o .1) n))) (List·Memᴰ·append-cases (called x s) m)
+  comes-out {c} (x ∷ rest) s m = ⊎-elim now (λ k. (let (o, l, n) = flat-out (λ (o : ℕ × State). comes-to t rest (o .1)) (leads-to t x s) k in past {u = o .1} {e = o .0} l (comes-out rest (o .1) n))) (List·Memᴰ·append-cases (called x s) m)
 
   pub comes-in : {c : ℕ × State} {body : Body} {s : State} → Comes body s c → List·Memᴰ c (comes-to t body s)
   unfolding comes-to
-  comes-in (now {x} {rest} {s} m) = Memᴰ·append-left (flatMap (λ (o : ℕ × State). comes-to t rest (o .1)) (onward t x s)) m
+  comes-in (now {x} {rest} {s} m) = Memᴰ·append-left (flatMap (λ (o : ℕ × State). comes-to t rest (o .1)) (leads-to t x s)) m
   comes-in (past {x} {rest} {s} m w) = Memᴰ·append-right (called x s) (flat-in (λ (o : ℕ × State). comes-to t rest (o .1)) m (comes-in w))

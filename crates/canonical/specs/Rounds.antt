@@ -40,21 +40,21 @@ module _ (t : Rows) where
       cond (same (call-key (call-at (t .calls) (r .call))) c) ((x, r .final) ∷ answers-of c (suc x) rs) (answers-of c (suc x) rs)
 
   -- Where a step leads, each time with its evidence, least first: a call takes each of its answers, another step goes on or not.
-  unfoldable pub onward : Step → State → List (ℕ × State)
+  unfoldable pub leads-to : Step → State → List (ℕ × State)
   unfolding called answers-of flatMap
-  onward x s = goes (elementary x s) ++ flatMap (λ (c : ℕ × State). answers-of c 0 (t .answers)) (called x s)
+  leads-to x s = goes (elementary x s) ++ flatMap (λ (c : ℕ × State). answers-of c 0 (t .answers)) (called x s)
 
   -- All ways through a body, the least evidence first, word by word from the first on.
   unfoldable pub ways : Body → State → List Route
-  unfolding onward flatMap
+  unfolding leads-to flatMap
   ways [] s = ([], s) ∷ []
-  ways (x ∷ rest) s = flatMap (λ (o : ℕ × State). map (λ (w : Route). (o .0 ∷ w .0, w .1)) (ways rest (o .1))) (onward x s)
+  ways (x ∷ rest) s = flatMap (λ (o : ℕ × State). map (λ (w : Route). (o .0 ∷ w .0, w .1)) (ways rest (o .1))) (leads-to x s)
 
   -- All calls that the walk of a body comes to.
   unfoldable pub comes-to : Body → State → List (ℕ × State)
-  unfolding called onward flatMap
+  unfolding called leads-to flatMap
   comes-to [] s = []
-  comes-to (x ∷ rest) s = called x s ++ flatMap (λ (o : ℕ × State). comes-to rest (o .1)) (onward x s)
+  comes-to (x ∷ rest) s = called x s ++ flatMap (λ (o : ℕ × State). comes-to rest (o .1)) (leads-to x s)
 
 module _ (rules goal : List ℕ) where
   -- The numbers of the rules of an action, in rising order, the goal's last.

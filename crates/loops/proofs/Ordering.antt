@@ -8,7 +8,7 @@ use mathlib.Core.List.{List}
 use mathlib.Core.Logic.{_⊎_, inl, inr}
 use lib.ListN.{getD, length}
 use Rattle.steps.specs.State.{State}
-use Rattle.sorting.specs.Shuffled.{Shuffled, Sorted}
+use Rattle.sorting.specs.Shuffled.{Before, Shuffled, Sorted}
 use Rattle.records.specs.Records.{Bodies, call-width, answer-width}
 use Rattle.records.specs.Storage.{CallAt}
 use Rattle.records.proofs.Growth.{Tables, Grew, Inside, CallsOnce, AnswersOnce}
@@ -20,7 +20,7 @@ use Rattle.tabling.proofs.Graph.{Front, numbered, Leads, Known}
 use Rattle.tabling.proofs.Graph as graph
 use Rattle.tabling.proofs.Evidence.{Valid, inside-of}
 use Rattle.tabling.proofs.Moves.{Node, move, step-at, of-at, final-at, EdgeN, GoodN}
-use Rattle.tabling.proofs.Found.{Made, Gathered, Rounded, Before, size}
+use Rattle.tabling.proofs.Found.{Made, Gathered, Rounded, size}
 use Rattle.tabling.proofs.Resorted.{SameCall, SameAnswer, Resorted, answer-was, held-now, made-now, closed-now, valid-now, calls-once-now, answers-once-now}
 use Rattle.loops.proofs.Going.{in-words}
 use Rattle.loops.proofs.Rounds.{NotedAt, Closing, Round}

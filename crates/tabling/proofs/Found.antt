@@ -12,6 +12,7 @@ use Rattle.steps.specs.State.{State}
 use Rattle.records.specs.Records.{Calls, Answers, Bodies}
 use Rattle.records.specs.Storage.{CallAdded, AnswerAdded}
 use Rattle.records.proofs.Growth.{Tables, tables, Grew, grew-refl, grew-trans, grew-call, grew-answer, Inside, CallsOnce, AnswersOnce}
+use Rattle.sorting.specs.Shuffled.{Before}
 use Rattle.tabling.proofs.Sweep.{Reach, reach-back, Way, Less}
 use Rattle.tabling.proofs.Graph.{Front, goes, calls, Leads, numbered}
 use Rattle.tabling.proofs.Graph as graph
@@ -57,10 +58,6 @@ pub record Made (bodies : Bodies) (r : ℕ) (b u : Tables) : Type 0 where
 pub record Gathered (bodies : Bodies) (r : ℕ) (b u : Tables) : Type 0 where
   pub made : Made bodies r b u
   pub closed : (row i : ℕ) → row < b .calls .count → bodies .fits i (b .calls .action row) ≡ true → ClosedAt (bodies .words i) u (b .answers .count) row
-
--- The first number decides, then the second.
-abbrev pub Before : ℕ × ℕ → ℕ × ℕ → Type 0
-Before x y = (x .0 < y .0) ⊎ ((x .0 ≡ y .0) × (x .1 < y .1))
 
 -- What it leaves: that in order, the calls by action and state, the answers by call record and final state, each once.
 pub record Rounded (bodies : Bodies) (r : ℕ) (b u : Tables) : Type 0 where

@@ -45,6 +45,48 @@ pub record Permuted (lo n : ℕ) : Type 0 where
   pub from-back : (i : ℕ) → lo ≤ i → i < n → from (back i) ≡ i
   pub back-from : (i : ℕ) → lo ≤ i → i < n → back (from i) ≡ i
 
+-- What stood at i before, and what stands there in the other order: the places below lo keep what stood there.
+module _ (Same : ℕ → ℕ → Type 0) {lo n : ℕ} (P : Permuted lo n) (more : lo ≤ n) (stays : (i : ℕ) → i < lo → Same i i)
+    (moved : (i : ℕ) → lo ≤ i → i < n → Same i (P .from i)) where
+  was : (i : ℕ) → i < n → (j : ℕ) × (j < n) × Same i j
+  was i l = by (decLt i lo)
+    where
+      by : Dec (i < lo) → (j : ℕ) × (j < n) × Same i j
+      by (yes h) = (i, l, stays i h)
+      by (no h) = (P .from i, P .from-in i (omega arith) l .1, moved i (omega arith) l)
+
+  now-at : (j : ℕ) → j < n → (i : ℕ) × (i < n) × Same i j
+  now-at j l = by (decLt j lo)
+    where
+      by : Dec (j < lo) → (i : ℕ) × (i < n) × Same i j
+      by (yes h) = (j, l, stays j h)
+      by (no h) = let (p, q) = P .back-in j (omega arith) l in (P .back j, q, subst (Same (P .back j)) (P .from-back j (omega arith) l) (moved (P .back j) p q))
+
+  -- what stands at one place alone stood at one place alone
+  module _ (At At′ : ℕ → Type 0) (back : (i j : ℕ) → Same i j → At′ i → At j) (once : (i j : ℕ) → i < j → j < n → At i → At j → ⊥) where
+    alone : (i j : ℕ) → i < n → j < n → At i → At j → i ≡ j
+    alone i j l h x y = by (decLt i j) (decLt j i)
+      where
+        by : Dec (i < j) → Dec (j < i) → i ≡ j
+        by (yes k) w = absurd (once i j k h x y)
+        by (no k) (yes w) = absurd (once j i w l y x)
+        by (no k) (no w) = omega arith
+
+    once-now : (i j : ℕ) → i < j → j < n → At′ i → At′ j → ⊥
+    once-now i j l h x y = by (decLt i lo) (decLt j lo)
+      where
+        by : Dec (i < lo) → Dec (j < lo) → ⊥
+        by (yes p) (yes q) = once i j l h (back i i (stays i p) x) (back j j (stays j q) y)
+        by (no p) (yes q) = omega arith
+        by (yes p) (no q) =
+            let (c, d) = P .from-in j (omega arith) h in
+            omega (arith, alone i (P .from j) (omega arith) d (back i i (stays i p) x) (back j (P .from j) (moved j (omega arith) h) y))
+        by (no p) (no q) =
+            let k : i < n = omega arith in
+            let e = alone (P .from i) (P .from j) (P .from-in i (omega arith) k .1) (P .from-in j (omega arith) h .1)
+                (back i (P .from i) (moved i (omega arith) k) x) (back j (P .from j) (moved j (omega arith) h) y) in
+            omega (arith, sym (P .back-from i (omega arith) k) ∙ ap (P .back) e ∙ P .back-from j (omega arith) h)
+
 -- v has the records of u, those of b as they were, the others in another order.
 pub record Resorted (b u v : Tables) : Type 0 where
   pub calls-count : v .calls .count ≡ u .calls .count
@@ -59,36 +101,16 @@ pub record Resorted (b u v : Tables) : Type 0 where
 module _ {b u v : Tables} (R : Resorted b u v) (more-calls : b .calls .count ≤ u .calls .count) (more-answers : b .answers .count ≤ u .answers .count) where
   -- where a record of v stood in u, and where one of u stands in v
   pub call-was : (i : ℕ) → i < v .calls .count → (j : ℕ) × (j < u .calls .count) × SameCall u v i j
-  call-was i l = by (decLt i (b .calls .count))
-    where
-      by : Dec (i < b .calls .count) → (j : ℕ) × (j < u .calls .count) × SameCall u v i j
-      by (yes h) = (i, omega arith, R .call-stays i h)
-      by (no h) = let k : i < u .calls .count = omega (arith, R .calls-count) in (R .of-calls .from i, R .of-calls .from-in i (omega arith) k .1, R .call-moved i (omega arith) k)
+  call-was i l = was (SameCall u v) (R .of-calls) more-calls (R .call-stays) (R .call-moved) i (omega (arith, R .calls-count))
 
   pub call-now : (j : ℕ) → j < u .calls .count → (i : ℕ) × (i < v .calls .count) × SameCall u v i j
-  call-now j l = by (decLt j (b .calls .count))
-    where
-      by : Dec (j < b .calls .count) → (i : ℕ) × (i < v .calls .count) × SameCall u v i j
-      by (yes h) = (j, omega (arith, R .calls-count), R .call-stays j h)
-      by (no h) =
-          let (p, q) = R .of-calls .back-in j (omega arith) l in
-          (R .of-calls .back j, omega (arith, R .calls-count), subst (SameCall u v (R .of-calls .back j)) (R .of-calls .from-back j (omega arith) l) (R .call-moved (R .of-calls .back j) p q))
+  call-now j l = let (i, h, s) = now-at (SameCall u v) (R .of-calls) more-calls (R .call-stays) (R .call-moved) j l in (i, omega (arith, R .calls-count), s)
 
   pub answer-was : (x : ℕ) → x < v .answers .count → (y : ℕ) × (y < u .answers .count) × SameAnswer u v x y
-  answer-was x l = by (decLt x (b .answers .count))
-    where
-      by : Dec (x < b .answers .count) → (y : ℕ) × (y < u .answers .count) × SameAnswer u v x y
-      by (yes h) = (x, omega arith, R .answer-stays x h)
-      by (no h) = let k : x < u .answers .count = omega (arith, R .answers-count) in (R .of-answers .from x, R .of-answers .from-in x (omega arith) k .1, R .answer-moved x (omega arith) k)
+  answer-was x l = was (SameAnswer u v) (R .of-answers) more-answers (R .answer-stays) (R .answer-moved) x (omega (arith, R .answers-count))
 
   pub answer-now : (y : ℕ) → y < u .answers .count → (x : ℕ) × (x < v .answers .count) × SameAnswer u v x y
-  answer-now y l = by (decLt y (b .answers .count))
-    where
-      by : Dec (y < b .answers .count) → (x : ℕ) × (x < v .answers .count) × SameAnswer u v x y
-      by (yes h) = (y, omega (arith, R .answers-count), R .answer-stays y h)
-      by (no h) =
-          let (p, q) = R .of-answers .back-in y (omega arith) l in
-          (R .of-answers .back y, omega (arith, R .answers-count), subst (SameAnswer u v (R .of-answers .back y)) (R .of-answers .from-back y (omega arith) l) (R .answer-moved (R .of-answers .back y) p q))
+  answer-now y l = let (x, h, s) = now-at (SameAnswer u v) (R .of-answers) more-answers (R .answer-stays) (R .answer-moved) y l in (x, omega (arith, R .answers-count), s)
 
   -- what they hold
   pub held-call-now : (c : ℕ × State) → HeldCall u c → HeldCall v c
@@ -98,64 +120,13 @@ module _ {b u v : Tables} (R : Resorted b u v) (more-calls : b .calls .count ≤
   held-now row f (y, l, k) = let (x, h, s) = answer-now y l in (x, h, record { has-call = s .call ∙ k .has-call; has-final = s .final ∙ k .has-final })
 
   -- each once
-  from-apart : {lo n : ℕ} (P : Permuted lo n) (i j : ℕ) → lo ≤ i → i < n → lo ≤ j → j < n → P .from i ≡ P .from j → i ≡ j
-  from-apart P i j a c d e z = sym (P .back-from i a c) ∙ ap (P .back) z ∙ P .back-from j d e
-
   pub calls-once-now : CallsOnce (u .calls) → CallsOnce (v .calls)
-  calls-once-now once i j a D l h c d = by (decLt i (b .calls .count)) (decLt j (b .calls .count))
-    where
-      n : j < u .calls .count
-      n = omega (arith, R .calls-count)
-
-      apart : (i′ j′ : ℕ) → i′ < u .calls .count → j′ < u .calls .count → SameCall u v i i′ → SameCall u v j j′ → i′ ≡ j′
-      apart i′ j′ p q s t =
-          let x : CallAt (u .calls) i′ a D = record { has-action = sym (s .action) ∙ c .has-action; has-state = sym (s .state) ∙ c .has-state } in
-          let y : CallAt (u .calls) j′ a D = record { has-action = sym (t .action) ∙ d .has-action; has-state = sym (t .state) ∙ d .has-state } in
-          go (decLt i′ j′) (decLt j′ i′) x y
-        where
-          go : Dec (i′ < j′) → Dec (j′ < i′) → CallAt (u .calls) i′ a D → CallAt (u .calls) j′ a D → i′ ≡ j′
-          go (yes k) w x y = absurd (once i′ j′ a D k q x y)
-          go (no k) (yes w) x y = absurd (once j′ i′ a D w p y x)
-          go (no k) (no w) x y = omega arith
-
-      by : Dec (i < b .calls .count) → Dec (j < b .calls .count) → ⊥
-      by (yes p) (yes q) = omega (arith, apart i j (omega arith) n (R .call-stays i p) (R .call-stays j q))
-      by (no p) (yes q) = omega arith
-      by (yes p) (no q) =
-          let (x, y) = R .of-calls .from-in j (omega arith) n in
-          omega (arith, apart i (R .of-calls .from j) (omega arith) y (R .call-stays i p) (R .call-moved j (omega arith) n))
-      by (no p) (no q) =
-          let (x, y) = R .of-calls .from-in i (omega arith) (omega arith) in
-          let (z, w) = R .of-calls .from-in j (omega arith) n in
-          omega (arith, from-apart (R .of-calls) i j (omega arith) (omega arith) (omega arith) n (apart (R .of-calls .from i) (R .of-calls .from j) y w (R .call-moved i (omega arith) (omega arith)) (R .call-moved j (omega arith) n)))
+  calls-once-now once i j a D l h = once-now (SameCall u v) (R .of-calls) more-calls (R .call-stays) (R .call-moved) (λ i. CallAt (u .calls) i a D) (λ i. CallAt (v .calls) i a D)
+      (λ i j s c. record { has-action = sym (s .action) ∙ c .has-action; has-state = sym (s .state) ∙ c .has-state }) (λ i j l h. once i j a D l h) i j l (omega (arith, R .calls-count))
 
   pub answers-once-now : AnswersOnce (u .answers) → AnswersOnce (v .answers)
-  answers-once-now once i j row f l h c d = by (decLt i (b .answers .count)) (decLt j (b .answers .count))
-    where
-      n : j < u .answers .count
-      n = omega (arith, R .answers-count)
-
-      apart : (i′ j′ : ℕ) → i′ < u .answers .count → j′ < u .answers .count → SameAnswer u v i i′ → SameAnswer u v j j′ → i′ ≡ j′
-      apart i′ j′ p q s t =
-          let x : AnswerAt (u .answers) i′ row f = record { has-call = sym (s .call) ∙ c .has-call; has-final = sym (s .final) ∙ c .has-final } in
-          let y : AnswerAt (u .answers) j′ row f = record { has-call = sym (t .call) ∙ d .has-call; has-final = sym (t .final) ∙ d .has-final } in
-          go (decLt i′ j′) (decLt j′ i′) x y
-        where
-          go : Dec (i′ < j′) → Dec (j′ < i′) → AnswerAt (u .answers) i′ row f → AnswerAt (u .answers) j′ row f → i′ ≡ j′
-          go (yes k) w x y = absurd (once i′ j′ row f k q x y)
-          go (no k) (yes w) x y = absurd (once j′ i′ row f w p y x)
-          go (no k) (no w) x y = omega arith
-
-      by : Dec (i < b .answers .count) → Dec (j < b .answers .count) → ⊥
-      by (yes p) (yes q) = omega (arith, apart i j (omega arith) n (R .answer-stays i p) (R .answer-stays j q))
-      by (no p) (yes q) = omega arith
-      by (yes p) (no q) =
-          let (x, y) = R .of-answers .from-in j (omega arith) n in
-          omega (arith, apart i (R .of-answers .from j) (omega arith) y (R .answer-stays i p) (R .answer-moved j (omega arith) n))
-      by (no p) (no q) =
-          let (x, y) = R .of-answers .from-in i (omega arith) (omega arith) in
-          let (z, w) = R .of-answers .from-in j (omega arith) n in
-          omega (arith, from-apart (R .of-answers) i j (omega arith) (omega arith) (omega arith) n (apart (R .of-answers .from i) (R .of-answers .from j) y w (R .answer-moved i (omega arith) (omega arith)) (R .answer-moved j (omega arith) n)))
+  answers-once-now once x y row f l h = once-now (SameAnswer u v) (R .of-answers) more-answers (R .answer-stays) (R .answer-moved) (λ x. AnswerAt (u .answers) x row f) (λ x. AnswerAt (v .answers) x row f)
+      (λ x y s c. record { has-call = sym (s .call) ∙ c .has-call; has-final = sym (s .final) ∙ c .has-final }) (λ x y l h. once x y row f l h) x y l (omega (arith, R .answers-count))
 
   -- the records of b stay
   pub grew-now : Grew b u → Grew b v
