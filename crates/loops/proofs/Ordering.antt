@@ -8,7 +8,8 @@ use mathlib.Core.List.{List}
 use mathlib.Core.Logic.{_⊎_, inl, inr}
 use lib.ListN.{getD, length}
 use Rattle.steps.specs.State.{State}
-use Rattle.sorting.specs.Shuffled.{Before, Shuffled, Sorted}
+use Rattle.sorting.specs.Shuffled.{Shuffled, Sorted}
+use Rattle.sorting.proofs.SortedLaws.{strictly-rising}
 use Rattle.records.specs.Records.{Bodies, call-width, answer-width}
 use Rattle.records.specs.Storage.{CallAt}
 use Rattle.records.proofs.Growth.{Tables, Grew, Inside, CallsOnce, AnswersOnce}
@@ -152,8 +153,12 @@ module _ (calls₀ : List ℕ) (n₀ : ℕ) (answers₀ : List ℕ) (m₀ : ℕ)
         made = made-now resorted more-calls more-answers (λ x l. proper .short _ _ (valid-u .justified x l .fits)) rows-rise (G .made);
         closed = λ row i l e. closed-now resorted more-calls more-answers (G .made .grew) (inside-of valid) (bodies .words i) row l (G .closed row i l e);
       };
-      calls-rise = λ i j h l k. by-calls i j l k (cs .sorted .rising i j h l k);
-      answers-rise = λ x y h l k. by-answers x y l k (ns .sorted .rising x y h l k);
+      calls-rise =
+          strictly-rising (omega arith) (cs .sorted)
+          (λ i j h l k e. valid-u .calls-once i j _ _ l k (record { has-action = ap (λ (p : ℕ × ℕ). p .0) e; has-state = ap (λ (p : ℕ × ℕ). p .1) e }) (record { has-action = refl; has-state = refl }));
+      answers-rise =
+          strictly-rising (omega arith) (ns .sorted)
+          (λ x y h l k e. valid-u .answers-once x y _ _ l k (record { has-call = ap (λ (p : ℕ × ℕ). p .0) e; has-final = ap (λ (p : ℕ × ℕ). p .1) e }) (record { has-call = refl; has-final = refl }));
     }
       where
         once : CallsOnce (v .calls)
@@ -161,22 +166,6 @@ module _ (calls₀ : List ℕ) (n₀ : ℕ) (answers₀ : List ℕ) (m₀ : ℕ)
 
         answers-once : AnswersOnce (v .answers)
         answers-once = answers-once-now resorted more-calls more-answers (valid-u .answers-once)
-
-        compared : (x y : ℕ × ℕ) → (Before y x → ⊥) → (x .0 ≡ y .0 → x .1 ≡ y .1 → ⊥) → Before x y
-        compared x y no-more apart = go (decLt (x .0) (y .0)) (decLt (y .0) (x .0)) (decLt (x .1) (y .1)) (decLt (y .1) (x .1))
-          where
-            go : Dec (x .0 < y .0) → Dec (y .0 < x .0) → Dec (x .1 < y .1) → Dec (y .1 < x .1) → Before x y
-            go (yes p) q r s = inl p
-            go (no p) (yes q) r s = absurd (no-more (inl q))
-            go (no p) (no q) (yes r) s = inr (omega arith, r)
-            go (no p) (no q) (no r) (yes s) = absurd (no-more (inr (omega arith, s)))
-            go (no p) (no q) (no r) (no s) = absurd (apart (omega arith) (omega arith))
-
-        by-calls : (i j : ℕ) → i < j → j < n → (Before (v .calls .action j, v .calls .state j) (v .calls .action i, v .calls .state i) → ⊥) → Before (v .calls .action i, v .calls .state i) (v .calls .action j, v .calls .state j)
-        by-calls i j l k no-more = compared _ _ no-more (λ e f. once i j _ _ l k (record { has-action = e; has-state = f }) (record { has-action = refl; has-state = refl }))
-
-        by-answers : (x y : ℕ) → x < y → y < m → (Before (v .answers .call y, v .answers .final y) (v .answers .call x, v .answers .final x) → ⊥) → Before (v .answers .call x, v .answers .final x) (v .answers .call y, v .answers .final y)
-        by-answers x y l k no-more = compared _ _ no-more (λ e f. answers-once x y _ _ l k (record { has-call = e; has-final = f }) (record { has-call = refl; has-final = refl }))
 
         rows-rise : (x y : ℕ) → m₀ ≤ x → x < y → y < m → v .answers .call x ≤ v .answers .call y
         rows-rise x y h l k = omega (arith, ns .calls-kept x (omega arith), ns .calls-kept y k, G .made .by-row x y h l k)

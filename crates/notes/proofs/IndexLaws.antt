@@ -88,6 +88,11 @@ covers-same {key} {key′} {heads} {links} {n} c same = record {
   link = λ i j l b e. let (x, y, g) = c .link i j l b (sym (same j (omega arith)) ∙ e ∙ same i l) in (x, same (links i) (omega arith) ∙ y ∙ sym (same i l), g);
 }
 
+-- So do the same words.
+pub covers-words : {key heads heads′ links links′ : ℕ → ℕ} {n : ℕ} → Covers key n heads links → ((k : ℕ) → k < 57344 → heads′ k ≡ heads k)
+    → ((i : ℕ) → i < n → links′ i ≡ links i) → Covers key n heads′ links′
+covers-words c f g = record { head = λ k j s l e. rw (f k s) (c .head k j s l e); link = λ i j l b e. rw (g i l) (c .link i j l b e) }
+
 -- Answers with the same call records are queued by the same words.
 pub queued-same : (call call′ firsts firsts′ lasts lasts′ nexts nexts′ : ℕ → ℕ) (m : ℕ) → Queued call m firsts lasts nexts
     → ((x : ℕ) → x < m → call′ x ≡ call x) → ((r : ℕ) → firsts′ r ≡ firsts r) → ((r : ℕ) → lasts′ r ≡ lasts r) → ((x : ℕ) → nexts′ x ≡ nexts x)

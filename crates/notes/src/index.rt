@@ -1,4 +1,4 @@
-// Indexes of the two tables, by which records are found without a look at each of them. No other code knows the parts of an index.
+// Indexes of the two tables, by which records are found without a look at each of them. No other code reads the parts of an index.
 //
 // A record's bucket comes from its first two words. A head is the latest record of a bucket, a link the one before it of the same bucket. The
 // index of the answers also holds the first and the last answer of each call record, and from each answer the next of the same call record.
@@ -15,8 +15,8 @@ ghost use Rattle.records.specs.Records.{Answers, call-table, answer-table, call
 ghost use Rattle.records.specs.Storage.{Stored, FindCall, FindAnswer, NextAnswer, CallStored, AnswerStored, AnswerAdded, calls-in};
 ghost use Rattle.notes.specs.Index.{bucket, Keyed, OfRow, Tail, noted, forgotten, joined, Chained, CallIndex, AnswerIndex};
 
-// Where the parts of an index begin, after the heads.
-const LINKS: usize = 57344;
+// Where the parts of an index begin, after the heads. The links of records that are taken out may be written until these are noted again.
+pub const LINKS: usize = 57344;
 
 const FIRSTS: usize = 122880;
 

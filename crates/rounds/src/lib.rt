@@ -247,7 +247,7 @@ pub fn fill<'a>(
             };
         }
         ordering::order_calls(calls, n, rows, call_index, uses, rounds + 1);
-        ordering::order_answers(answers, m, known, answer_index);
+        ordering::order_answers(answers, m, known, answer_index, rounds + 1);
         walked = n;
         seen = m;
         n = rows;

@@ -133,11 +133,14 @@ order-calls-requires c κs =
     let no = c .before .before .before .before .if1 .left in
     ((w .kept .calls-stored, w .indexed .of-calls, w .rows-in no, w .uses-long ∙ l .uses-long ∙ c .before .before .before .before .before .before .before .before .before .before .before .before .before .before .before .before .before .before .before .before .before .before .before .before .before .before .before .before .before .before .before .before .before .pre .0 .4), λ k h i. w .made no .call-found k h i .1)
 
+add-order-answers : tie.Need-add-order-answers Inv-loop μ-loop
+add-order-answers c = let l = c .before .before .before .before .before .before .before .before .before .before .before .before .before .before .before .before .before .before .before .before .before .before .before .before .before .before .before .before .before .before .before .before .before .loop .inv in omega (arith, l .few, l .kept .calls-stored .most, l .kept .answers-stored .most)
+
 order-answers-requires : tie.Need-order-answers-requires Inv-loop μ-loop
 order-answers-requires c κs =
     let w = c .before .before .before .before .before .before .before .before .before .before .before .before .before .before .before .before .before .before .before .before .before .before .before .before .before .before .round .ensures in
     let no = c .before .before .before .before .before .before .before .before .before .before .before .before .before .if1 .left in
-    (w .kept .answers-stored, w .indexed .of-answers, w .known-in no, w .made no .by-row)
+    (w .kept .answers-stored, w .indexed .of-answers, w .known-in no, w .made no .by-row, λ x h i. w .made no .answer-found x h i .1)
 
 add-if2 : tie.Need-add-if2 Inv-loop μ-loop
 add-if2 c = let k =
@@ -276,6 +279,7 @@ fill-spec =
     returns-2
     add-order-calls-2
     order-calls-requires
+    add-order-answers
     order-answers-requires
     add-rounds
     loop-less
