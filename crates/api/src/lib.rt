@@ -1,12 +1,12 @@
 // The functions that a host in C, Rust or Python calls: each is one operation of the library, under a name of its own.
 ghost use mathlib.Core.Path.{_≡_};
 ghost use lib.ListN.{length};
-ghost use Rattle.sheet.specs.Reader.{read-sheet};
+ghost use Rattle.lines.specs.Reader.{read-sheet};
 ghost use Rattle.sheet.specs.Result.{result-of, rules-after};
 ghost use Rattle.sheet.specs.FluentName.{name-span};
 ghost use Rattle.writer.specs.Writer.{written-in, out-after};
 ghost use Rattle.merge.specs.Merge as merged;
-ghost use Rattle.merge.specs.MergedName.{merged-span};
+ghost use Rattle.origin.specs.MergedName.{merged-span};
 ghost use Rattle.evaluator.specs.Evaluated.{Evaluated, asked, lent, told};
 ghost use Rattle.class.specs.Class.{Ran};
 ghost use Rattle.path.specs.Answered.{handed, Answered};
@@ -33,7 +33,7 @@ pub extern "C" fn lawhemuri_read(sheet: &[u8], rules: &mut [u16]) -> sheet::Shee
 
 // Where a fluent's name stands in the sheet; nothing at 0 for a refused sheet or a number too high.
 #[no_mangle]
-pub extern "C" fn lawhemuri_fluent_name(sheet: &[u8], fluent: u64) -> sheet::Span
+pub extern "C" fn lawhemuri_fluent_name(sheet: &[u8], fluent: u64) -> naming::Span
     ensures { λ r. ⌜ r ≡ name-span (now (sheet .entry)) fluent ⌝ }
 {
     sheet::fluent_span(sheet, fluent)
@@ -67,10 +67,10 @@ pub extern "C" fn lawhemuri_merged_fluent<'a>(
     first: &'a [u8],
     second: &'a [u8],
     fluent: u64,
-) -> merge::Part
+) -> origin::Part
     ensures { λ r. ⌜ r ≡ merged-span (now (first .entry)) (now (second .entry)) fluent ⌝ }
 {
-    merge::merged_span(first, second, fluent)
+    origin::merged_span(first, second, fluent)
 }
 
 // Evaluates the goal from the start: fills the tables with its calls and answers, and lists its ends in rising order.

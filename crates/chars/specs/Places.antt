@@ -1,6 +1,6 @@
 -- Equality of byte lists, and the places of members in a list. Assumes nothing.
 use Prim.Native.Nat.{ℕ, suc}
-use mathlib.Core.Bool.{Bool, true, false, _&&_}
+use mathlib.Core.Bool.{Bool, true, false, _&&_, _||_}
 use mathlib.Core.List.{List, [], _∷_}
 use lib.ListN.{length}
 use lib.Dec.{eqb, ltb}
@@ -26,6 +26,11 @@ place f (g ∷ gs) = place-after (same f g) (place f gs)
 -- f is one of fs.
 abbrev pub among : List ℕ → List (List ℕ) → Bool
 among f fs = ltb (place f fs) (length fs)
+
+-- Some of the first list is among the second.
+abbrev pub meets : List (List ℕ) → List (List ℕ) → Bool
+meets [] ys = false
+meets (x ∷ xs) ys = among x ys || meets xs ys
 
 -- The place of the first byte b in bs, counted from 0; the length of bs where it is not there.
 unfoldable pub byte-at : ℕ → List ℕ → ℕ

@@ -18,7 +18,7 @@ fn field(n: u64) {
 fn find_names(sheet: &[u8], at: &mut [usize; 64], len: &mut [usize; 64]) {
     let mut k: usize = 0;
     while k < 64 {
-        let name = sheet::name_in(sheet, k as u64);
+        let name = naming::name_in(sheet, k as u64);
         at[k] = name.at;
         len[k] = name.len;
         if name.len == 0 {

@@ -16,8 +16,9 @@ use Rattle.steps.specs.Elementary.{Onward, on, stuck, elementary}
 use Rattle.steps.proofs.AcceptanceLaws.{goal-indexed}
 use Rattle.steps.proofs.StateLaws.{no-bit, bits-same}
 use Rattle.steps.proofs.WordLaws.{not-on}
+use Rattle.masks.specs.Masks.{Wide}
 use Rattle.marking.specs.Marking.{left-by, Question, refusal, Yes, Marked, TableMarked, RecordMarked, refused, marked}
-use Rattle.marking.specs.Masks.{Ran, Wide}
+use Rattle.marking.specs.Inner.{Ran}
 use Rattle.marking.proofs.Marks.{marked-unique, yes-goal, evaluated-yes}
 use Rattle.marking.proofs.Outcomes.{taken-of}
 

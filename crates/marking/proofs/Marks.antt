@@ -21,10 +21,13 @@ use Rattle.steps.proofs.Execution.{Runs, ended, does, uses, Ends}
 use Rattle.steps.proofs.Tables.{Walk, stands, walks, takes, Closed, Sound, Reached, exact, walk-runs}
 use Rattle.steps.proofs.StateLaws.{bits-same}
 use Rattle.steps.proofs.WordLaws.{Low, not-on}
+use Rattle.masks.specs.Masks.{Carried, carries, Held}
+use Rattle.masks.proofs.Walking.{step-at-word}
+use Rattle.gains.proofs.Widening.{runs-up}
 use Rattle.marking.specs.Marking.{steps-of, CarriesOut, left-by, between, Question, Yes, Marked, TableMarked}
-use Rattle.marking.specs.Masks.{Ran, Carried, carries, Held}
+use Rattle.marking.specs.Inner.{Ran}
 use Rattle.marking.proofs.Spending.{Spends, carried, spent}
-use Rattle.marking.proofs.Places.{step-at-word, At, state-at, same-at, step-at, place-at, runs-up, place-spends, spends-place}
+use Rattle.marking.proofs.Places.{At, state-at, same-at, step-at, place-at, place-spends, spends-place}
 
 -- The recorded steps.
 abbrev pub recorded : Question → List Step

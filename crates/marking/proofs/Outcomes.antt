@@ -21,8 +21,9 @@ use Rattle.steps.proofs.EachBelow.{both, each-at, true-not-false}
 use Rattle.steps.proofs.StateLaws.{no-bit}
 use Rattle.steps.proofs.Tables.{Walk}
 use Rattle.steps.proofs.WordLaws.{book-member}
+use Rattle.masks.specs.Masks.{Carried, Held, Mask, WalkTo, GoodWord, GoodWords, Guide, Walkable, SoundMarks, AllSettled}
 use Rattle.marking.specs.Marking.{Question, bad-recorded-steps, refusal, Yes, TableMarked, RecordMarked, refused, marked}
-use Rattle.marking.specs.Masks.{Ran, Carried, Held, Mask, WalkTo, GoodWord, GoodWords, Guide, Cleared, Walkable, SoundMarks, AllSettled}
+use Rattle.marking.specs.Inner.{Ran, Cleared}
 use Rattle.marking.proofs.Marks.{Taken, size-recorded, Saturated, marks-table, yes-bit}
 
 -- ---- what passes the tests

@@ -6,18 +6,21 @@ use native.Mathlib.Decide.{decLt}
 use mathlib.Core.Path.{_≡_, refl, sym, ap, subst, _∙_}
 use mathlib.Core.List.{List, [], _∷_, _++_}
 use mathlib.Core.Logic.{_↔_}
-use lib.ListN.{getD, length, take, drop, length-append, length-drop, length-map, take-append-drop, drop-of-length-le, List·getD-map}
+use lib.ListN.{getD, length, take, drop, length-append, length-drop, length-map, take-append-drop, drop-of-length-le}
 use lib.Seq.{take-suc, drop-cons, take-append-seam, drop-drop, take-add, drop-length}
 use Rattle.steps.specs.State.{State}
 use Rattle.steps.specs.Step.{Step, query, insert, delete, call, Body, Book}
 use Rattle.steps.specs.Deduction.{Final}
-use Rattle.steps.specs.Words.{step-by, step-of, body-of}
+use Rattle.steps.specs.Words.{step-of, body-of}
 use Rattle.steps.specs.Elementary.{Onward, on, stuck, elementary}
 use Rattle.steps.proofs.Deductions.{Does, RuleOf}
 use Rattle.steps.proofs.Execution.{Runs, ended, does, uses, Ends}
 use Rattle.steps.proofs.WordLaws.{Low, on-same, not-on, elementary-does, does-elementary}
+use Rattle.masks.specs.Masks.{Carried, carries}
+use Rattle.masks.proofs.Walking.{step-at-word}
+use Rattle.gains.proofs.Widening.{runs-up}
 use Rattle.marking.specs.Marking.{steps-of, CarriesOut, left-by, between}
-use Rattle.marking.specs.Masks.{Ran, Carried, carries}
+use Rattle.marking.specs.Inner.{Ran}
 use Rattle.marking.proofs.Spending.{Left, Spends, spends, carried, spent}
 
 -- ---- what steps leave
@@ -60,11 +63,6 @@ not-nil e = let z : _≡_ {A = ℕ} 0 1 = cc in omega arith
 
 -- ---- the run of a record
 
--- the steps of words, by place
-pub step-at-word : (words : List ℕ) (i : ℕ) → getD (body-of words) i (query 0) ≡ step-of (getD words i 0)
-unfolding step-by
-step-at-word words i = List·getD-map step-of words i 0
-
 module _ (words : List ℕ) (start i : ℕ) {s : State} (left : left-by (take i (body-of words)) start ≡ on s) where
   -- one step further
   pub left-next : {t : State} → i < length words → elementary (step-of (getD words i 0)) s ≡ on t → left-by (take (i + 1) (body-of words)) start ≡ on t
@@ -91,15 +89,6 @@ module _ (words : List ℕ) (start i : ℕ) {s : State} (left : left-by (take i 
     left = left;
     stops = λ h. absurd (omega (arith, length-map words step-of));
   }
-
--- an execution over places goes up, and no further than the steps can run
-pub runs-up : {steps : List Step} {runs : ℕ} {Has : ℕ → Body → Type 0} {i j : ℕ} {body : Body} → Runs (Carried steps runs) Has i body j → i ≤ runs → (i ≤ j) × (j ≤ runs)
-runs-up ended l = (omega arith, l)
-runs-up (does (carries h e) p) l = let (a, b) = runs-up p (omega arith) in (omega arith, b)
-runs-up (uses h i p) l =
-    let (a, b) = runs-up i l in
-    let (c, d) = runs-up p b in
-    (omega arith, d)
 
 module _ (steps : List Step) (start : State) (runs : ℕ) (ran : Ran steps start runs) where
   -- what the first i steps leave

@@ -17,10 +17,9 @@ use Rattle.steps.specs.Words.{body-of, head-of, words-of}
 use Rattle.steps.specs.Widths.{rule-width}
 use Rattle.steps.proofs.StateLaws.{no-bit}
 use Rattle.steps.proofs.Tables.{Walk, stands, walks, takes}
-use Rattle.marking.specs.Masks.{Carried, carries, Held, WalkTo, Guide, Wide, total, Grown, Walkable, NoCall, SoundMarks, ClosedRule, Fresh, Widened, Turned, Passed, Settled, AllSettled}
-use Rattle.marking.proofs.Places.{runs-up}
-use Rattle.marking.proofs.Walking.{bit-or, or-right, one-bit}
-use Rattle.marking.proofs.Widening.{total-most, grown-none, grown-then, guide-kept, no-call-left, added-back, added-kept, added-grown, added-same, added-more, widened-found, widened-sound}
+use Rattle.masks.specs.Masks.{Carried, carries, Held, WalkTo, Guide, Wide, total, Grown, Walkable, NoCall, SoundMarks, ClosedRule, Fresh, Widened, Turned, Passed, Settled, AllSettled}
+use Rattle.masks.proofs.Walking.{bit-or, or-right, one-bit}
+use Rattle.gains.proofs.Widening.{runs-up, total-most, grown-none, grown-then, guide-kept, no-call-left, added-back, added-kept, added-grown, added-same, added-more, widened-found, widened-sound}
 
 module _ (rules steps : List ℕ) (runs i : ℕ) (walkable : Walkable rules) (place : i ≤ runs) where
   -- ---- the turns of a pass

@@ -1,3 +1,3 @@
--- Marking is what a reader must believe of the operation; Masks has what the contracts of its private functions speak of.
+-- Marking is what a reader must believe of the operation; Inner has what the contracts of its private functions speak of.
 pub mod Marking
-pub mod Masks
+pub mod Inner

@@ -9,10 +9,8 @@ ghost use mathlib.Core.Path.{_≡_};
 ghost use lib.ListN.{length};
 ghost use Rattle.steps.specs.Words.{body-of};
 ghost use Rattle.marking.specs.Marking.{question, bad-recorded-steps, refusal, RecordMarked};
-ghost use Rattle.marking.specs.Masks.{Ran, Cleared};
+ghost use Rattle.marking.specs.Inner.{Ran, Cleared};
 
-mod gains;
-mod masks;
 mod passes;
 
 // What marking gives: its refusal or 0, and 1 for a yes, else 0.

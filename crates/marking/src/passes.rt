@@ -1,7 +1,5 @@
 // Passes over the rules at a place, until one adds nothing to the table; and so at every place, from the last to the first, since a body walked from
 // a place reads no word of an earlier one.
-use crate::gains;
-use crate::masks;
 use records::bodies;
 use steps::word;
 ghost use Prim.Native.Nat.{ℕ, _+_, _*_, _/_, _%_, _<_, _≤_};
@@ -14,8 +12,8 @@ ghost use lib.ListN.{length};
 ghost use Rattle.steps.specs.State.{bit};
 ghost use Rattle.steps.specs.Widths.{rule-width};
 ghost use Rattle.steps.specs.Inner.{is-call};
-ghost use Rattle.marking.specs.Masks.{Guide, GoodWord, GoodWords, Walkable, NoCall};
-ghost use Rattle.marking.specs.Masks.{SoundMarks, Widened, Turned, Fresh, Passed, Settled, AllSettled};
+ghost use Rattle.masks.specs.Masks.{Guide, GoodWord, GoodWords, Walkable, NoCall};
+ghost use Rattle.masks.specs.Masks.{SoundMarks, Widened, Turned, Fresh, Passed, Settled, AllSettled};
 
 // Whether a step calls one of these actions.
 fn calls(step: u16, actions: u64) -> bool
@@ -59,7 +57,7 @@ fn widen(
     ensures { λ b. ⌜ Widened (now (rules .entry)) (now (recorded .entry)) runs place r (now (table .entry)) (now (table .exit)) b ⌝ }
 {
     let mask = masks::walk_mask(bodies::rule_steps(rules, r), place, runs, recorded, table);
-    gains::add(rules, r, mask, place, table)
+    masks::add(rules, r, mask, place, table)
 }
 
 // Rule r in a pass: it is walked if an action that it calls has gained in the pass before (`gained`; 0 for all) or in this one (`more`). Gives the
@@ -80,7 +78,7 @@ fn turn(
 {
     if stale(bodies::rule_steps(rules, r), gained, more) {
         if widen(rules, r, place, runs, recorded, table) {
-            return more | 1 << gains::head(rules, r);
+            return more | 1 << masks::head(rules, r);
         }
     }
     more

@@ -12,23 +12,25 @@ use Rattle.refusals.specs.Text.{text-refusals}
 use Rattle.steps.specs.State.{State}
 use Rattle.chars.specs.Bytes.{text}
 use Rattle.chars.specs.Pieces.{lines}
-use Rattle.chars.specs.Places.{place, among}
-use Rattle.sheet.specs.Book.{Symbols, Book}
-use Rattle.sheet.specs.Reader.{Outcome, read-sheet, refused, written}
+use Rattle.chars.specs.Places.{place, among, meets}
+use Rattle.fields.specs.Book.{Symbols, Book}
+use Rattle.lines.specs.Reader.{Outcome, read-sheet, refused, written}
 use Rattle.sheet.proofs.Valid.{Valid}
 use Rattle.sheet.proofs.ValidSheets.{sheet-valid}
 use Rattle.writer.specs.Text.{tabbed, step-text, holding, text-of}
 use Rattle.writer.proofs.Shorter.{sheet-whole, whole-told}
 use Rattle.writer.proofs.Proper.{Proper}
 use Rattle.writer.proofs.ProperSheets.{sheet-proper}
-use Rattle.merge.specs.declared.Layout.{Layout}
-use Rattle.merge.specs.Joined.{together, both-names, meets, crossed, start-in, book-over, both-books}
+use Rattle.parts.specs.Parts.{Grows, parts-from, section, inserted-in}
+use Rattle.parts.proofs.PartLists.{parts-length}
+use Rattle.parts.proofs.Turns.{holding-few}
+use Rattle.parts.specs.declared.Layout.{Layout}
+use Rattle.parts.specs.Texts.{Ordered, text-parts, text-in}
+use Rattle.merge.specs.Joined.{together, both-names, crossed, start-in, book-over, both-books}
 use Rattle.merge.specs.Merge.{faulty, joins, oversized, judge, merge-of}
-use Rattle.merge.specs.Inner.{Grows, Ordered, parts-from, section, inserted-in, fault-of, text-parts, text-in, Few, Laid}
+use Rattle.merge.specs.Inner.{fault-of, Few, Laid}
 use Rattle.merge.proofs.Together.{or-first, together-right}
 use Rattle.merge.proofs.Joins.{NamesFit}
-use Rattle.merge.proofs.PartLists.{parts-length}
-use Rattle.merge.proofs.Turns.{holding-few}
 use Rattle.merge.proofs.SheetParts.{tab, rule-tail, fluent-parts, action-parts, rule-parts, goal-parts}
 use Rattle.merge.proofs.MergedParts.{tabs-together, place-tab, held-tabs, start-tabs, rules-together, goal-first, text-of-parts}
 

@@ -9,10 +9,11 @@ use native.Mathlib.Omega.{arith}
 use borrow.Author.Tests.{ltb-false}
 use Rattle.refusals.specs.Sheet.{sheet-refusals, line-refusals}
 use Rattle.refusals.specs.Text.{text-refusals}
-use Rattle.sheet.specs.Book.{Book}
-use Rattle.sheet.specs.Reader.{Outcome, read-sheet, refused, written}
+use Rattle.chars.specs.Places.{meets}
+use Rattle.fields.specs.Book.{Book}
+use Rattle.lines.specs.Reader.{Outcome, read-sheet, refused, written}
 use Rattle.writer.specs.Text.{text-of}
-use Rattle.merge.specs.Joined.{both-names, book-over, both-books, crossed, meets}
+use Rattle.merge.specs.Joined.{both-names, book-over, both-books, crossed}
 use Rattle.merge.specs.Merge as merge
 use Rattle.merge.specs.Merge.{faulty, joins, merge-of, judge, oversized}
 use Rattle.merge.proofs.Together.{or-first}

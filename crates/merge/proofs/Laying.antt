@@ -3,17 +3,34 @@ use Prim.Native.Nat.{ℕ, _+_, _-_, _≤_, _<_}
 use native.Mathlib.Omega.{arith}
 use mathlib.Core.Path.{_≡_, refl, ap, sym, _∙_}
 use mathlib.Core.Bool.{Bool, true, false, cond}
-use mathlib.Core.List.{List, [], _∷_, _++_}
+use mathlib.Core.List.{List, [], _∷_, _++_, append-nil, append-assoc}
 use lib.ListN.{length, length-append}
-use Rattle.chars.specs.Bytes.{text, LF}
+use Rattle.chars.specs.Bytes.{text}
 use Rattle.chars.specs.Pieces.{lines}
-use Rattle.merge.specs.declared.Word.{Word}
-use Rattle.merge.specs.declared.Layout.{Layout}
+use Rattle.chars.specs.Places.{among}
+use Rattle.parts.specs.Parts.{Inside, Grows, parts-from, section, fresh, news}
+use Rattle.parts.proofs.PartLists.{grows-none, grows-as, grows-then, grows-range}
+use Rattle.parts.proofs.Turns.{fresh-size}
+use Rattle.parts.specs.declared.Word.{Word}
+use Rattle.parts.specs.declared.Layout.{Layout}
 use Rattle.merge.specs.Joined.{together}
-use Rattle.merge.specs.Inner.{Inside, Grows, parts-from, section, fresh, news, wrapped, start-parts, text-parts, Holds, Adds, Few, Laid}
-use Rattle.merge.proofs.PartLists.{grows-none, grows-as, grows-then, grows-range}
-use Rattle.merge.proofs.News.{together-news}
-use Rattle.merge.proofs.Turns.{fresh-size}
+use Rattle.merge.specs.Inner.{Holds, Adds, Few, Laid}
+
+module _ (xs : List (List ℕ)) (y : List ℕ) where
+  fresh-behind : xs ++ fresh xs y ≡ cond (among y xs) xs (xs ++ (y ∷ []))
+  unfolding fresh
+  fresh-behind = by (among y xs)
+    where
+      by : (v : Bool) → xs ++ cond v [] (y ∷ []) ≡ cond v xs (xs ++ (y ∷ []))
+      by true = append-nil xs
+      by false = refl
+
+-- the two lists together are the first and what is new
+pub together-news : (xs ys : List (List ℕ)) → together xs ys ≡ xs ++ news xs ys
+unfolding together news
+together-news xs [] = sym (append-nil xs)
+together-news xs (y ∷ ys) =
+    ap (λ (z : List (List ℕ)). together z ys) (sym (fresh-behind xs y)) ∙ together-news (xs ++ fresh xs y) ys ∙ append-assoc xs (fresh xs y) (news (xs ++ fresh xs y) ys)
 
 news-size : (xs ys : List (List ℕ)) → length (news xs ys) ≤ length ys
 unfolding news
@@ -109,20 +126,3 @@ module _ (s t l₀ l₁ l₂ l₃ l₄ : List ℕ) (f c r : Word) (end : ℕ) wh
         inside = G .inside (R .grows .inside (C .grows .inside (F .grows .inside i)));
         order = (omega arith, omega arith, omega arith, omega arith);
       }
-
--- ---- the text's size
-pub text-length : (F C R H G : List (List ℕ)) → length (text-parts F C R H G)
-    ≡ length (wrapped (text "fluent") (LF ∷ []) F) + (length (wrapped (text "action") (LF ∷ []) C) + (length (wrapped (text "rule") (LF ∷ []) R) + ((6 + length (wrapped [] [] H)) + length (wrapped (text "goal") (LF ∷ []) G))))
-text-length F C R H G =
-    let f = wrapped (text "fluent") (LF ∷ []) F in
-    let c = wrapped (text "action") (LF ∷ []) C in
-    let r = wrapped (text "rule") (LF ∷ []) R in
-    let h = wrapped [] [] H in
-    let g = wrapped (text "goal") (LF ∷ []) G in
-    let a = length-append f (c ++ (r ++ (start-parts H ++ g))) in
-    let b = length-append c (r ++ (start-parts H ++ g)) in
-    let d = length-append r (start-parts H ++ g) in
-    let e = length-append (start-parts H) g in
-    let i = length-append (text "start" ++ h) (LF ∷ []) in
-    let j = length-append (text "start") h in
-    omega arith

@@ -6,18 +6,11 @@ pub mod MoreRules
 pub mod StartsTogether
 pub mod WithItself
 -- The parts that the code keeps:
-pub mod Slices
-pub mod Sections
-pub mod News
-pub mod PartLists
-pub mod Turns
 pub mod SheetParts
 pub mod MergedParts
 pub mod Laying
 pub mod Joinings
 pub mod Outcomes
-pub mod MergedSpans
-pub mod SpanParts
 -- What is promised:
 pub mod Laws
 pub mod Operations

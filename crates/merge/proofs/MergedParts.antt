@@ -16,11 +16,11 @@ use Rattle.steps.proofs.EachBelow.{both}
 use Rattle.steps.proofs.Lists.{at-member, member-at}
 use Rattle.chars.specs.Bytes.{text, LF}
 use Rattle.chars.specs.Places.{same, place, place-after, among}
-use Rattle.sheet.specs.Book.{Symbols, Book, rule-words, joined}
-use Rattle.sheet.specs.Field.{marks, names-of}
-use Rattle.sheet.specs.Verdict.{accept}
-use Rattle.sheet.specs.Line.{Reading, line}
-use Rattle.sheet.proofs.Verdicts.{same-value}
+use Rattle.fields.specs.Book.{Symbols, Book, rule-words, joined}
+use Rattle.fields.specs.Field.{marks, names-of}
+use Rattle.fields.specs.Verdict.{accept}
+use Rattle.fields.proofs.Verdicts.{same-value}
+use Rattle.lines.specs.Line.{Reading, line}
 use Rattle.sheet.proofs.Valid.{GoodSteps, GoodRule, rule-more}
 use Rattle.writer.specs.Text.{tabbed, line-text, step-text, rule-fields, holding, text-of}
 use Rattle.writer.proofs.StepsBack.{Named, names-count}
@@ -29,8 +29,9 @@ use Rattle.writer.proofs.Undoing.{place-is}
 use Rattle.writer.proofs.LinesBack.{rule-back}
 use Rattle.writer.proofs.TextLines.{rule-line}
 use Rattle.writer.proofs.Proper.{Proper}
+use Rattle.parts.specs.Parts.{inserted-in, wrapped}
+use Rattle.parts.specs.Texts.{text-parts}
 use Rattle.merge.specs.Joined.{together, both-names, step-in, rule-in, start-in, book-over, both-books}
-use Rattle.merge.specs.Inner.{inserted-in, wrapped, text-parts}
 use Rattle.merge.proofs.Together.{with-one, among-member, member-among, not-member, no-member, member-below, together-more, together-right}
 use Rattle.merge.proofs.Joins.{NamesFit}
 use Rattle.merge.proofs.ProperBoth.{fluents-first, actions-alone, both-named, place-of, in-kind, low, rule-in-words, member-good}

@@ -12,7 +12,7 @@ use Rattle.steps.specs.Inner.{rule-of}
 use Rattle.steps.specs.Deduction.{Sequent, Move, queries, inserts, deletes, calls, denies, Deduction, done, move}
 use Rattle.steps.proofs.Lists.{at-member}
 use Rattle.steps.proofs.WordLaws.{book-length, book-at, book-member}
-use Rattle.sheet.specs.Book.{joined, rule-words}
+use Rattle.fields.specs.Book.{joined, rule-words}
 use Rattle.sheet.proofs.Valid.{GoodRule}
 use Rattle.sheet.proofs.Acceptance.{padded-length}
 use Rattle.sheet.proofs.Decoding.{rule-at}

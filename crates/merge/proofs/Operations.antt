@@ -11,8 +11,9 @@ use lib.Seq.{take-append-seam}
 use lib.Dec.{ltb}
 use borrow.Author.Tests.{le-ltb}
 use Rattle.refusals.specs.Text.{text-refusals}
-use Rattle.sheet.specs.Book.{Book, Symbols}
-use Rattle.sheet.specs.Reader.{read-sheet, refused, written}
+use Rattle.chars.specs.Places.{meets}
+use Rattle.fields.specs.Book.{Book, Symbols}
+use Rattle.lines.specs.Reader.{read-sheet, refused, written}
 use Rattle.sheet.proofs.RefusalNumbers.{refused-number}
 use Rattle.writer.specs.Text.{text-of}
 use Rattle.writer.specs.Writer as writer
@@ -23,7 +24,7 @@ use Rattle.writer.proofs.Proper.{Proper}
 use Rattle.writer.proofs.ProperSheets.{sheet-proper}
 use Rattle.writer.proofs.Shorter.{sheet-whole, whole-told, text-shorter}
 use Rattle.merge.specs.declared.Merged.{Merged}
-use Rattle.merge.specs.Joined.{meets, crossed, both-books}
+use Rattle.merge.specs.Joined.{crossed, both-books}
 use Rattle.merge.specs.Merge.{Judgement, faulty, joins, said, oversized, judge, merge-of, merged-in, out-after}
 use Rattle.merge.proofs.Together.{not-member, no-member}
 use Rattle.merge.proofs.Joins.{Joins, joins-told}

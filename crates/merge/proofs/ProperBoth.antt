@@ -18,8 +18,8 @@ use Rattle.steps.proofs.StateLaws.{room, not-held}
 use Rattle.steps.proofs.Lists.{at-member, member-at}
 use Rattle.chars.specs.Bytes.{is-name}
 use Rattle.chars.specs.Places.{place, among}
-use Rattle.sheet.specs.Book.{Book, Symbols, padded, rule-words}
-use Rattle.sheet.specs.Field.{names-of}
+use Rattle.fields.specs.Book.{Book, Symbols, padded, rule-words}
+use Rattle.fields.specs.Field.{names-of}
 use Rattle.sheet.proofs.Valid.{Valid, GoodSteps, GoodRule, steps-more, rule-more}
 use Rattle.writer.proofs.NamesApart.{Adds, first-part, second-part, fewer}
 use Rattle.writer.proofs.Proper.{Proper}

@@ -10,8 +10,8 @@ use Rattle.steps.proofs.EachBelow.{true-not-false}
 use Rattle.chars.specs.Bytes.{text, TAB, HASH, begins}
 use Rattle.chars.specs.Pieces.{pieces, grow, lines, fields, bare}
 use Rattle.chars.specs.Places.{same}
-use Rattle.sheet.specs.Book.{Symbols, Book}
-use Rattle.sheet.specs.Reader.{read-sheet, written}
+use Rattle.fields.specs.Book.{Symbols, Book}
+use Rattle.lines.specs.Reader.{read-sheet, written}
 use Rattle.sheet.proofs.AcceptedLines.{record-lines}
 use Rattle.writer.specs.Text.{tabbed, step-text, rule-fields, holding}
 use Rattle.writer.proofs.Solid.{line-bytes}
@@ -19,7 +19,7 @@ use Rattle.writer.proofs.NamesApart.{same-self}
 use Rattle.writer.proofs.Undoing.{same-eq}
 use Rattle.writer.proofs.TextLines.{fluent-line, action-line, rule-line, start-line, goal-line, lines-of}
 use Rattle.writer.proofs.Backward.{rewritten, lines-are}
-use Rattle.merge.specs.Inner.{behind-word, section}
+use Rattle.parts.specs.Parts.{behind-word, section}
 
 -- a name behind its tab, a rule behind its word
 abbrev pub tab : List ℕ → List ℕ

@@ -9,10 +9,10 @@ use lib.ListN.{length, getD, length-append}
 use borrow.Author.Tests.{lt-ltb, le-ltb, ltb-true, ltb-false}
 use Rattle.steps.proofs.Lists.{at-member}
 use Rattle.chars.specs.Bytes.{is-name}
-use Rattle.chars.specs.Places.{same, place, place-after, among}
+use Rattle.chars.specs.Places.{same, place, place-after, among, meets}
 use Rattle.writer.proofs.NamesApart.{Adds, none, more, same-self, place-behind, adds-snoc}
 use Rattle.writer.proofs.Undoing.{place-is}
-use Rattle.merge.specs.Joined.{together, meets}
+use Rattle.merge.specs.Joined.{together}
 
 -- ---- among, as membership
 

@@ -11,8 +11,8 @@ use Rattle.steps.specs.State.{State}
 use Rattle.steps.specs.Acceptance.{good-step}
 use Rattle.steps.proofs.EachBelow.{both}
 use Rattle.chars.specs.Places.{place}
-use Rattle.sheet.specs.Book.{Book, Symbols, rule-words}
-use Rattle.sheet.specs.Field.{names-of}
+use Rattle.fields.specs.Book.{Book, Symbols, rule-words}
+use Rattle.fields.specs.Field.{names-of}
 use Rattle.sheet.proofs.Valid.{GoodSteps, GoodRule}
 use Rattle.writer.proofs.StepsBack.{Named}
 use Rattle.writer.proofs.Proper.{Proper, fluents-named, actions-named}

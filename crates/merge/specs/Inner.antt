@@ -1,89 +1,24 @@
--- Inner contracts: parts of two sheets, kept in a list as where each begins and ends in the one behind the other. Assumes nothing.
+-- Inner contracts: the parts of two sheets, word by word, and what a merge leaves. Assumes nothing.
 use mathlib.Core.Path.{_≡_}
-use Prim.Native.Nat.{ℕ, zero, suc, _+_, _*_, _-_, _≤_, _<_}
+use Prim.Native.Nat.{ℕ, _+_, _-_, _≤_}
 use lib.Dec.{ltb}
 use mathlib.Core.Bool.{cond, _||_}
-use mathlib.Core.List.{List, [], _∷_, _++_}
-use lib.ListN.{length, getD, drop}
-use lib.Seq.{slice}
+use mathlib.Core.List.{List, _++_}
+use lib.ListN.{length}
 use Rattle.refusals.specs.Sheet.{line-refusals}
 use Rattle.refusals.specs.Text.{text-refusals}
-use Rattle.steps.specs.State.{State, holds}
-use Rattle.steps.specs.Inner.{inserted}
-use Rattle.chars.specs.Bytes.{text, LF}
-use Rattle.chars.specs.Pieces.{lines, fields, bare}
-use Rattle.chars.specs.Places.{same, place, among}
-use Rattle.sheet.specs.Book.{Book}
+use Rattle.chars.specs.Bytes.{text}
+use Rattle.chars.specs.Pieces.{lines}
+use Rattle.chars.specs.Places.{meets}
+use Rattle.fields.specs.Book.{Book}
 use Rattle.writer.specs.Text.{text-of}
-use Rattle.merge.specs.declared.Word.{Word}
-use Rattle.merge.specs.declared.Layout.{Layout}
+use Rattle.parts.specs.declared.Word.{Word}
+use Rattle.parts.specs.declared.Layout.{Layout}
+use Rattle.parts.specs.Parts.{Inside, Grows, parts-from, section}
+use Rattle.parts.specs.Texts.{text-in, Ordered}
 use Rattle.merge.specs.declared.Joined.{Joined}
-use Rattle.merge.specs.Joined.{together, meets, both-books}
+use Rattle.merge.specs.Joined.{together, both-books}
 use Rattle.merge.specs.Merge.{joins, merge-of}
-
--- The part from a up to e of two sheets, the first of them with `cut` bytes, both with `all`, lies in one of them.
-pub record Lies (cut all a e : ℕ) : Type 0 where
-  pub ordered : a ≤ e
-  pub within : e ≤ all
-  pub whole : cut < e → cut ≤ a
-
--- Part i of the list.
-abbrev pub part-at : List ℕ → List ℕ → ℕ → List ℕ
-part-at u list i = slice (getD list (2 * i) 0) (getD list (2 * i + 1) 0) u
-
--- The list has a part i, which lies in one of the two sheets.
-pub record At (cut : ℕ) (u list : List ℕ) (i : ℕ) : Type 0 where
-  pub room : 2 * i + 1 < length list
-  pub lies : Lies cut (length u) (getD list (2 * i) 0) (getD list (2 * i + 1) 0)
-
--- The same of its first n parts.
-abbrev pub Inside : ℕ → List ℕ → List ℕ → ℕ → Type 0
-Inside cut u list n = (i : ℕ) → i < n → At cut u list i
-
--- The n parts from number k on.
-unfoldable pub parts-from : List ℕ → List ℕ → ℕ → ℕ → List (List ℕ)
-parts-from u list k zero = []
-parts-from u list k (suc n) = part-at u list k ∷ parts-from u list (suc k) n
-
--- From a list with n parts to one with r, these behind them.
-pub record Grows (cut : ℕ) (u list : List ℕ) (n : ℕ) (list′ : List ℕ) (r : ℕ) (more : List (List ℕ)) : Type 0 where
-  pub longer : r ≡ n + length more
-  pub kept : (k m : ℕ) → k + m ≤ n → parts-from u list′ k m ≡ parts-from u list k m
-  pub new : parts-from u list′ n (length more) ≡ more
-  pub inside : Inside cut u list n → Inside cut u list′ r
-
--- What stands behind the word w in the line, where the line has this word.
-unfoldable pub behind-word : List ℕ → List ℕ → List (List ℕ)
-unfolding fields bare same
-behind-word w l = cond (same (getD (fields (bare l)) 0 []) w) (drop (length w) (bare l) ∷ []) []
-
--- The same of these lines, one after the other.
-unfoldable pub section : List ℕ → List (List ℕ) → List (List ℕ)
-unfolding behind-word
-section w [] = []
-section w (l ∷ ls) = behind-word w l ++ section w ls
-
--- y, where it is not one of xs.
-unfoldable pub fresh : List (List ℕ) → List ℕ → List (List ℕ)
-unfolding place
-fresh xs y = cond (among y xs) [] (y ∷ [])
-
--- Those of ys that are not one of xs, nor equal to one before them.
-unfoldable pub news : List (List ℕ) → List (List ℕ) → List (List ℕ)
-unfolding fresh
-news xs [] = []
-news xs (y ∷ ys) = fresh xs y ++ news (xs ++ fresh xs y) ys
-
--- The state `to` of the names `all`, and in it those of these names, the first of them number k, that hold in s; the code's form.
-unfoldable pub inserted-in : List (List ℕ) → ℕ → State → List (List ℕ) → State → State
-unfolding place
-inserted-in all k s [] to = to
-inserted-in all k s (n ∷ ns) to = inserted-in all (suc k) s ns (cond (holds s k) (inserted to (place n all)) to)
-
--- The parts one after the other, each between w and z.
-unfoldable pub wrapped : List ℕ → List ℕ → List (List ℕ) → List ℕ
-wrapped w z [] = []
-wrapped w z (p ∷ ps) = ((w ++ p) ++ z) ++ wrapped w z ps
 
 -- The list has the parts of a word: the second's, the first's, and behind these the new ones of the second.
 pub record Holds (u list : List ℕ) (w : Word) (ours theirs : List (List ℕ)) : Type 0 where
@@ -123,32 +58,6 @@ fault-of fluents fluents′ actions actions′ rules rules′ =
     cond (meets fluents actions′ || meets actions fluents′) (text-refusals .both-kinds)
     (cond (ltb 64 (length (together fluents fluents′))
     || (ltb 64 (length (together actions actions′)) || ltb 256 (length (together rules rules′)))) (line-refusals .too-many) 0)
-
--- The `start` line with these parts.
-abbrev pub start-parts : List (List ℕ) → List ℕ
-start-parts held = (text "start" ++ wrapped [] [] held) ++ (LF ∷ [])
-
--- The text of the parts of fluents, actions and rules, of the names that hold, and of the goal.
-abbrev pub text-parts : List (List ℕ) → List (List ℕ) → List (List ℕ) → List (List ℕ) → List (List ℕ) → List ℕ
-text-parts fluents actions rules held goal =
-    wrapped (text "fluent") (LF ∷ []) fluents ++ (wrapped (text "action") (LF ∷ []) actions ++ (wrapped (text "rule") (LF ∷ []) rules
-    ++ (start-parts held ++ wrapped (text "goal") (LF ∷ []) goal)))
-
--- The text of the parts in the list, those that hold up to `held`.
-abbrev pub text-in : List ℕ → List ℕ → Layout → ℕ → List ℕ
-text-in u list l held =
-    text-parts (parts-from u list (l .fluents .own) (l .fluents .end - l .fluents .own))
-    (parts-from u list (l .actions .own) (l .actions .end - l .actions .own))
-    (parts-from u list (l .rules .own) (l .rules .end - l .rules .own))
-    (parts-from u list (l .end) (held - l .end))
-    (parts-from u list (l .rules .end) (l .end - l .rules .end))
-
--- The places of the parts in their order.
-pub record Ordered (l : Layout) (held : ℕ) : Type 0 where
-  pub fluents : (l .fluents .own ≤ l .fluents .end) × (l .fluents .end ≤ held)
-  pub actions : (l .actions .own ≤ l .actions .end) × (l .actions .end ≤ held)
-  pub rules : (l .rules .own ≤ l .rules .end) × (l .rules .end ≤ l .end)
-  pub last : (l .end ≤ held) × (held ≤ 1280)
 
 -- What two sheets that can be merged leave in the list.
 pub record Joining (s t list : List ℕ) (r : Joined) : Type 0 where

@@ -1,13 +1,13 @@
 -- The book of two books. Assumes nothing.
 use Prim.Native.Nat.{ℕ, suc, _+_, _*_}
-use mathlib.Core.Bool.{Bool, false, cond, _||_}
+use mathlib.Core.Bool.{Bool, cond, _||_}
 use mathlib.Core.List.{List, [], _∷_, _++_, map}
 use lib.ListN.{getD, take, drop}
 use Rattle.steps.specs.State.{State, holds, added}
 use Rattle.steps.specs.Words.{kind-of, index-of}
-use Rattle.chars.specs.Places.{place, among}
-use Rattle.sheet.specs.Book.{Symbols, Book, rule-words}
-use Rattle.sheet.specs.Field.{names-of}
+use Rattle.chars.specs.Places.{place, among, meets}
+use Rattle.fields.specs.Book.{Symbols, Book, rule-words}
+use Rattle.fields.specs.Field.{names-of}
 
 -- The first list, then each of the second that does not stand yet: names, and rules as their words.
 unfoldable pub together : List (List ℕ) → List (List ℕ) → List (List ℕ)
@@ -46,11 +46,6 @@ book-over m a b = record {
 
 abbrev pub both-books : Book → Book → Book
 both-books a b = book-over (both-names (a .names) (b .names)) a b
-
--- Some of the first list is among the second.
-abbrev pub meets : List (List ℕ) → List (List ℕ) → Bool
-meets [] ys = false
-meets (x ∷ xs) ys = among x ys || meets xs ys
 
 -- 70: "a name that is a fluent in one and an action in the other".
 unfoldable pub crossed : Symbols → Symbols → Bool

@@ -1,20 +1,19 @@
 // The merge of two sheets into one fixed text. What stands behind the words of the lines is kept as parts of the two sheets: for each word
 // the second's, the first's, and those of the second that are new. Rules that are equal have equal lines, so no word is renumbered.
-mod parts;
-mod texts;
-
 ghost use mathlib.Core.Path.{_≡_};
 ghost use mathlib.Core.List.{_++_};
-ghost use Prim.Native.Nat.{_+_, _*_, _-_, _≤_};
+ghost use Prim.Native.Nat.{_+_, _*_, _≤_};
 ghost use lib.ListN.{length};
 ghost use Rattle.chars.specs.Bytes.{text};
 ghost use Rattle.chars.specs.Pieces.{lines};
-ghost use Rattle.sheet.specs.Reader.{read-sheet};
+ghost use Rattle.lines.specs.Reader.{read-sheet};
 ghost use Rattle.sheet.specs.Result.{result-of};
-ghost use Rattle.writer.specs.Inner.{Puts};
+ghost use Rattle.parts.specs.Parts.{Inside, section};
 ghost use Rattle.merge.specs.Merge.{faulty, merge-of, merged-in, out-after};
-ghost use Rattle.merge.specs.MergedName.{part-in, merged-span, part-of-two, address-of-two};
-ghost use Rattle.merge.specs.Inner.{Inside, parts-from, section, start-parts, Adds, Few, Laid, fault-of, text-in, Ordered, Joining};
+ghost use Rattle.merge.specs.Inner.{Adds, Few, Laid, fault-of, Joining};
+use parts::Layout;
+use parts::Word;
+use parts::texts;
 use steps::state::State;
 
 // What the merge says. Refusal 0 is none; a sheet's own fault has the sheet, 1 or 2, and its line; the length is that of the text written.
@@ -24,30 +23,6 @@ pub struct Merged {
     pub sheet: u64,
     pub line: u64,
     pub length: u64,
-}
-
-// A part of one of two sheets: which, 1 or 2, where it begins, and how long it is. Sheet 0 is none.
-#[repr(C)]
-pub struct Part {
-    pub sheet: u64,
-    pub at: usize,
-    pub len: usize,
-}
-
-// The parts of one word: the second's from `lo` on, the first's from `own` on, the new ones of the second from `new` up to `end`.
-pub struct Word {
-    pub lo: usize,
-    pub own: usize,
-    pub new: usize,
-    pub end: usize,
-}
-
-// The parts of all words, and the end of the goal's, which stands behind those of the rules.
-pub struct Layout {
-    pub fluents: Word,
-    pub actions: Word,
-    pub rules: Word,
-    pub end: usize,
 }
 
 // What two sheets say together, or a refusal: the parts, the end of those of `start`, and how long the text is.
@@ -139,98 +114,6 @@ fn fault<'a>(first: &'a [u8], second: &'a [u8], list: &[usize], l: Layout) -> u6
     0
 }
 
-// How long the text is.
-fn text_size<'a>(first: &'a [u8], second: &'a [u8], list: &[usize], l: Layout, held: usize) -> usize
-    requires { ⌜ Inside (length (now first)) (now first ++ now second) (now list) held ⌝ }
-    requires { ⌜ Ordered l held × (length (now first ++ now second) ≤ 131072) ⌝ }
-    ensures { λ r. ⌜ r ≡ length (text-in (now (first .entry) ++ now (second .entry)) (now (list .entry)) l held) ⌝ }
-{
-    let f = l.fluents;
-    let a = l.actions;
-    let r = l.rules;
-    let fluents = texts::size(first, second, list, f.own, f.end, 7);
-    let actions = texts::size(first, second, list, a.own, a.end, 7);
-    let rules = texts::size(first, second, list, r.own, r.end, 5);
-    let start = texts::size(first, second, list, l.end, held, 0);
-    let goal = texts::size(first, second, list, r.end, l.end, 5);
-    fluents + (actions + (rules + ((6 + start) + goal)))
-}
-
-// Puts the `start` line with the parts from lo up to hi; the place after it.
-fn put_start<'a>(
-    first: &'a [u8],
-    second: &'a [u8],
-    list: &[usize],
-    lo: usize,
-    hi: usize,
-    out: &mut [u8],
-    at: usize,
-) -> usize
-    requires { ⌜ Inside (length (now first)) (now first ++ now second) (now list) hi ⌝ }
-    requires { ⌜ lo ≤ hi ⌝ }
-    requires { ⌜ at + length (start-parts (parts-from (now first ++ now second) (now list) lo (hi - lo))) ≤ length (now out) ⌝ }
-    ensures { λ r. ⌜ Puts (now (out .entry)) at
-        (start-parts (parts-from (now (first .entry) ++ now (second .entry)) (now (list .entry)) lo (hi - lo))) (now (out .exit)) r ⌝ }
-{
-    let word = writer::put_part(out, at, b"start", 0, 5);
-    let names = texts::put_all(first, second, list, lo, hi, b"", b"", out, word);
-    writer::put(out, names, b'\n')
-}
-
-// Puts the text.
-fn put_text<'a>(
-    first: &'a [u8],
-    second: &'a [u8],
-    list: &[usize],
-    l: Layout,
-    held: usize,
-    out: &mut [u8],
-) -> usize
-    requires { ⌜ Inside (length (now first)) (now first ++ now second) (now list) held ⌝ }
-    requires { ⌜ Ordered l held × (length (text-in (now first ++ now second) (now list) l held) ≤ length (now out)) ⌝ }
-    ensures { λ r. ⌜ Puts (now (out .entry)) 0
-        (text-in (now (first .entry) ++ now (second .entry)) (now (list .entry)) l held) (now (out .exit)) r ⌝ }
-{
-    let f = l.fluents;
-    let a = l.actions;
-    let r = l.rules;
-    let fluents = texts::put_all(first, second, list, f.own, f.end, b"fluent", b"\n", out, 0);
-    let actions = texts::put_all(
-        first,
-        second,
-        list,
-        a.own,
-        a.end,
-        b"action",
-        b"\n",
-        out,
-        fluents,
-    );
-    let rules = texts::put_all(
-        first,
-        second,
-        list,
-        r.own,
-        r.end,
-        b"rule",
-        b"\n",
-        out,
-        actions,
-    );
-    let start = put_start(first, second, list, l.end, held, out, rules);
-    texts::put_all(
-        first,
-        second,
-        list,
-        r.end,
-        l.end,
-        b"goal",
-        b"\n",
-        out,
-        start,
-    )
-}
-
 // A refusal.
 fn refused(refusal: u64, sheet: u64, line: u64) -> Joined
     ensures { λ r. ⌜ (r .refusal ≡ refusal) × (r .sheet ≡ sheet) × (r .line ≡ line) ⌝ }
@@ -258,7 +141,7 @@ fn refused(refusal: u64, sheet: u64, line: u64) -> Joined
 }
 
 // What two sheets say together, its parts in the list, or the first refusal met.
-fn join<'a>(first: &'a [u8], second: &'a [u8], list: &mut [usize]) -> Joined
+pub fn join<'a>(first: &'a [u8], second: &'a [u8], list: &mut [usize]) -> Joined
     requires { ⌜ length (now list) ≡ 2560 ⌝ }
     ensures { λ r. ⌜ ((r .refusal ≡ 0 → ⊥) → merge-of (now (first .entry)) (now (second .entry)) ≡ faulty (r .refusal) (r .sheet) (r .line)) ⌝ }
     ensures { λ r. ⌜ (r .refusal ≡ 0 → Joining (now (first .entry)) (now (second .entry)) (now (list .exit)) r) ⌝ }
@@ -289,7 +172,7 @@ fn join<'a>(first: &'a [u8], second: &'a [u8], list: &mut [usize]) -> Joined
         State::of(a.start),
     );
     let held = texts::held(list, f.own, f.end, state, layout.end);
-    let size = text_size(first, second, list, layout, held);
+    let size = texts::text_size(first, second, list, layout, held);
     if 65536 < size {
         return refused(refusals::TOO_LONG, 0, 0);
     }
@@ -328,70 +211,11 @@ pub fn merge<'a>(first: &'a [u8], second: &'a [u8], out: &mut [u8]) -> Merged
             length: 0,
         };
     }
-    put_text(first, second, &list, j.layout, j.held, out);
+    texts::put_text(first, second, &list, j.layout, j.held, out);
     Merged {
         refusal: 0,
         sheet: 0,
         line: 0,
         length: size as u64,
     }
-}
-
-// A part of the sheet `which`.
-fn part_in(which: u64, span: sheet::Span) -> Part
-    ensures { λ r. ⌜ r ≡ part-in which span ⌝ }
-{
-    Part {
-        sheet: which,
-        at: span.at,
-        len: span.len,
-    }
-}
-
-// Where the merged fluent's name stands, in whichever sheet brought it first; nothing for a merge refused other than
-// with 50 or a number too high.
-pub fn merged_span<'a>(first: &'a [u8], second: &'a [u8], number: u64) -> Part
-    ensures { λ r. ⌜ r ≡ merged-span (now (first .entry)) (now (second .entry)) number ⌝ }
-{
-    let mut list = [0usize; 2560];
-    let j = join(first, second, &mut list);
-    let refusal = j.refusal;
-    let layout = j.layout;
-    let f = layout.fluents;
-    if refusal != 0 {
-        return Part {
-            sheet: 0,
-            at: 0,
-            len: 0,
-        };
-    }
-    if (f.end - f.own) as u64 <= number {
-        return Part {
-            sheet: 0,
-            at: 0,
-            len: 0,
-        };
-    }
-    let i = f.own + number as usize;
-    if i < f.new {
-        return part_in(1, sheet::fluent_span(first, number));
-    }
-    let k = parts::find(first, second, &list, i, f.lo, f.own);
-    part_in(2, sheet::fluent_span(second, (k - f.lo) as u64))
-}
-
-// The very part of the sheet that brought the merged fluent's name first; else the empty part at the first sheet's first byte.
-pub fn merged_fluent<'a>(first: &'a [u8], second: &'a [u8], number: u64) -> &'a [u8]
-    ensures { λ r. ⌜ now r ≡ part-of-two (now (first .entry)) (now (second .entry))
-        (merged-span (now (first .entry)) (now (second .entry)) number) ⌝ }
-    ensures { λ r. ⌜ r .ptr ≡ address-of-two (first .entry .ptr) (second .entry .ptr)
-        (merged-span (now (first .entry)) (now (second .entry)) number) ⌝ }
-{
-    let name = merged_span(first, second, number);
-    let at = name.at;
-    let end = at + name.len;
-    if name.sheet == 2 {
-        return &second[at..end];
-    }
-    &first[at..end]
 }

@@ -14,13 +14,13 @@ fn shown<'a>(name: &[u8], first: &'a [u8], second: &'a [u8], text: &mut [u8]) {
 
 // Prints where a merged fluent's name stands, and its bytes.
 fn named<'a>(first: &'a [u8], second: &'a [u8], fluent: u64) {
-    let part = merge::merged_span(first, second, fluent);
+    let part = origin::merged_span(first, second, fluent);
     print::text(b"merged fluent");
     print::number(b"number", fluent);
     print::number(b"sheet", part.sheet);
     print::number(b"at", part.at as u64);
     print::number(b"len", part.len as u64);
-    print::bytes(b"name", merge::merged_fluent(first, second, fluent));
+    print::bytes(b"name", origin::merged_fluent(first, second, fluent));
     print::text(b"\n");
 }
 

@@ -7,8 +7,8 @@ use lib.ListN.{length, take, drop, replicate, length-append}
 use lib.Seq.{take-at, take-append-seam}
 use borrow.Author.Tests.{le-ltb}
 use Rattle.sheet.specs.declared.Sheet.{Sheet}
-use Rattle.sheet.specs.Book.{Book, joined, padded}
-use Rattle.sheet.specs.Reader.{Outcome, read-sheet, refused, written}
+use Rattle.fields.specs.Book.{Book, joined, padded}
+use Rattle.lines.specs.Reader.{Outcome, read-sheet, refused, written}
 use Rattle.sheet.specs.Result.{result-of, rules-after, accepted}
 use Rattle.sheet.specs.Result as result
 use Rattle.sheet.proofs.Valid.{Valid}

@@ -3,8 +3,8 @@ use Prim.Native.Nat.{ℕ}
 use mathlib.Core.Path.{_≡_}
 use mathlib.Core.List.{List}
 use lib.ListN.{length, replicate}
-use Rattle.sheet.specs.Book.{Book, joined}
-use Rattle.sheet.specs.Reader.{read-sheet, refused, written}
+use Rattle.fields.specs.Book.{Book, joined}
+use Rattle.lines.specs.Reader.{read-sheet, refused, written}
 use Rattle.evaluator.specs.Evaluated.{Evaluated, Asked, asked, lent, told}
 use Rattle.rehearsal.specs.declared.Rehearsal.{Rehearsal}
 

@@ -12,9 +12,9 @@ use borrow.Author.Tests.{lt-ltb, le-ltb, eq-eqb}
 use Rattle.steps.specs.Words.{head-of, count-of}
 use Rattle.steps.specs.Widths.{rule-width}
 use Rattle.steps.specs.Acceptance.{good-word, good-rule, bad-counts, bad-length, bad-rules, bad-goal, bad-state, words-refusal, refusal-of}
-use Rattle.sheet.specs.Book.{Book, padded, rule-words, joined}
-use Rattle.sheet.specs.Reader.{read-sheet, written}
 use Rattle.steps.proofs.EachBelow.{each-all}
+use Rattle.fields.specs.Book.{Book, padded, rule-words, joined}
+use Rattle.lines.specs.Reader.{read-sheet, written}
 use Rattle.sheet.proofs.Valid.{Valid, GoodSteps}
 use Rattle.sheet.proofs.ValidSheets.{sheet-valid}
 

@@ -12,19 +12,19 @@ use Rattle.steps.proofs.EachBelow.{both}
 use Rattle.chars.specs.Bytes.{HASH, begins, is-name}
 use Rattle.chars.specs.Pieces.{lines, fields, bare}
 use Rattle.chars.specs.Places.{among}
-use Rattle.sheet.specs.declared.lines.Word.{Word}
-use Rattle.sheet.specs.declared.lines.Word.the-variants.{Fluent, Action, Rule, Start, Goal, Other}
-use Rattle.sheet.specs.Verdict.{Verdict, refuse, accept, _>>=_}
-use Rattle.sheet.specs.Book.{Book, Symbols, with-rule, with-start, with-goal}
-use Rattle.sheet.specs.Field.{judged, new-name, used-name, step-words, start-names}
-use Rattle.sheet.specs.Line.{Reading, empty, after, row, line-of, record-line, plain-line, line, word-of}
-use Rattle.sheet.specs.Reader.{read-lines, read-sheet, whole-sheet, at-end, refused, written}
-use Rattle.sheet.specs.Held.{line-head, recorded}
-use Rattle.sheet.proofs.Readings.{read-fluent, read-action, read-rule, read-start, read-goal, whole}
-use Rattle.sheet.proofs.Verdicts.{followed, same-value, not-both}
+use Rattle.fields.specs.Verdict.{Verdict, refuse, accept, _>>=_}
+use Rattle.fields.specs.Book.{Book, Symbols, with-rule, with-start, with-goal}
+use Rattle.fields.specs.Field.{judged, new-name, used-name, step-words, start-names}
+use Rattle.fields.proofs.Verdicts.{followed, same-value, not-both}
+use Rattle.lines.specs.declared.Word.{Word}
+use Rattle.lines.specs.declared.Word.the-variants.{Fluent, Action, Rule, Start, Goal, Other}
+use Rattle.lines.specs.Line.{Reading, empty, after, row, line-of, record-line, plain-line, line, word-of}
+use Rattle.lines.specs.Reader.{read-lines, read-sheet, whole-sheet, at-end, refused, written}
+use Rattle.lines.specs.Kept.{line-head, recorded}
+use Rattle.lines.proofs.Readings.{read-fluent, read-action, read-rule, read-start, read-goal, whole}
+use Rattle.lines.proofs.LineHeads.{passed, fluent-room, action-room, rule-room, goal-room, other-never}
+use Rattle.lines.proofs.LineVerdicts.{line-by-head, line-read, line-refused, lines-read, line-comment, line-plain}
 use Rattle.sheet.proofs.Results.{sheet-fault, sheet-lines}
-use Rattle.sheet.proofs.LineHeads.{passed, fluent-room, action-room, rule-room, goal-room, other-never}
-use Rattle.sheet.proofs.LineVerdicts.{line-by-head, line-read, line-refused, lines-read, line-comment, line-plain}
 
 -- what an accepted line with this word and these fields made of the book
 pub data Accepted (b next : Reading) (fs : List (List ℕ)) : Word → Type 0 where

@@ -12,12 +12,12 @@ use Rattle.steps.specs.Words.{body-of, rules-from, book-of}
 use Rattle.steps.specs.Widths.{rule-width}
 use Rattle.chars.specs.Pieces.{lines, fields}
 use Rattle.chars.specs.Places.{place}
-use Rattle.sheet.specs.declared.lines.Word.{Word}
-use Rattle.sheet.specs.declared.lines.Word.the-variants.{Rule, Goal}
-use Rattle.sheet.specs.Book.{Book, Symbols, rule-words, joined}
-use Rattle.sheet.specs.Line.{Reading, empty, row, word-of}
-use Rattle.sheet.specs.Reader.{read-sheet, written}
-use Rattle.sheet.proofs.Readings.{whole}
+use Rattle.fields.specs.Book.{Book, Symbols, rule-words, joined}
+use Rattle.lines.specs.declared.Word.{Word}
+use Rattle.lines.specs.declared.Word.the-variants.{Rule, Goal}
+use Rattle.lines.specs.Line.{Reading, empty, row, word-of}
+use Rattle.lines.specs.Reader.{read-sheet, written}
+use Rattle.lines.proofs.Readings.{whole}
 use Rattle.sheet.proofs.AcceptedLines.{Accepted, fluent, action, rule, start, goal, accepted-text, AllRead, done, more, record-lines, sheet-records}
 use Rattle.sheet.proofs.LaterLines.{stage-after, line-names, names-kept, none-below}
 use Rattle.sheet.proofs.Valid.{body-good}

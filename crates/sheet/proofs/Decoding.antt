@@ -15,11 +15,11 @@ use Rattle.steps.specs.Widths.{rule-width}
 use Rattle.steps.specs.Inner.{rule-of}
 use Rattle.chars.specs.Bytes.{text, is-name}
 use Rattle.chars.specs.Places.{place, place-after, among, byte-at}
-use Rattle.sheet.specs.Verdict.{accept, _>>=_}
-use Rattle.sheet.specs.Book.{Symbols, padded, rule-words}
-use Rattle.sheet.specs.Field.{marks, names-of, used-name, step-word, step-words}
-use Rattle.sheet.specs.Held.{step-from}
-use Rattle.sheet.proofs.Verdicts.{followed, required, same-value, not-both}
+use Rattle.fields.specs.Verdict.{accept, _>>=_}
+use Rattle.fields.specs.Book.{Symbols, padded, rule-words}
+use Rattle.fields.specs.Field.{marks, names-of, used-name, step-word, step-words}
+use Rattle.fields.specs.Held.{step-from}
+use Rattle.fields.proofs.Verdicts.{followed, required, same-value, not-both}
 use Rattle.sheet.proofs.AcceptedLines.{judged-accepted}
 use Rattle.sheet.proofs.Valid.{used-below}
 

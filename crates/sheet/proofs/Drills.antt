@@ -7,11 +7,12 @@ use lib.ListN.{length, replicate, length-replicate}
 use borrow.Author.Tests.{lt-leb}
 use Rattle.refusals.specs.Sheet.{sheet-refusals}
 use Rattle.chars.specs.Bytes.{text, LF}
+use Rattle.fields.specs.Book.{padded, rule-words}
+use Rattle.lines.specs.Reader.{read-sheet, whole-sheet, refused}
+use Rattle.naming.specs.Spans.{nowhere}
 use Rattle.sheet.specs.declared.Sheet.{Sheet}
-use Rattle.sheet.specs.Book.{padded, rule-words}
-use Rattle.sheet.specs.Reader.{read-sheet, whole-sheet, refused}
 use Rattle.sheet.specs.Result.{refusal, result-of, rules-after}
-use Rattle.sheet.specs.FluentName.{nowhere, name-span}
+use Rattle.sheet.specs.FluentName.{name-span}
 use Rattle.sheet.proofs.Results.{sheet-fault}
 
 -- A sheet, the count of rule words lent, and the reader's result.

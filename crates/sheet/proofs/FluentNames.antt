@@ -14,18 +14,19 @@ use Rattle.chars.specs.Inner.{fields-from, FieldEnd, LineEnd, BareEnd}
 use Rattle.chars.proofs.Ends.{line-end, field-end, lines-gone, part-slice}
 use Rattle.chars.proofs.Fields.{one-field, some-field, fields-first}
 use Rattle.chars.proofs.Bare.{bare-end}
-use Rattle.sheet.specs.declared.Span.{Span}
-use Rattle.sheet.specs.declared.lines.Word.{Word}
-use Rattle.sheet.specs.declared.lines.Word.the-variants.{Fluent}
-use Rattle.sheet.specs.Book.{Book}
-use Rattle.sheet.specs.Line.{Reading, empty, word-of, plain-line}
-use Rattle.sheet.specs.Reader.{read-lines, read-sheet, refused, written, Outcome}
-use Rattle.sheet.specs.FluentName.{part-of, name-in, name-span}
-use Rattle.sheet.specs.Held.{field-span}
-use Rattle.sheet.proofs.LineVerdicts.{plain-fields}
+use Rattle.fields.specs.Book.{Book}
+use Rattle.lines.specs.declared.Word.{Word}
+use Rattle.lines.specs.declared.Word.the-variants.{Fluent}
+use Rattle.lines.specs.Line.{Reading, empty, word-of, plain-line}
+use Rattle.lines.specs.Reader.{read-lines, read-sheet, refused, written, Outcome}
+use Rattle.lines.proofs.LineVerdicts.{plain-fields}
+use Rattle.naming.specs.declared.Span.{Span}
+use Rattle.naming.specs.Spans.{part-of, name-in, field-span}
+use Rattle.naming.proofs.Spans.{name-passed, name-later, name-here}
+use Rattle.sheet.specs.FluentName.{name-span}
 use Rattle.sheet.proofs.AcceptedLines.{Accepted, fluent, action, rule, start, goal, accepted-line, Taken, comment, plain, line-taken, first-accepted, lines-end, sheet-accepted}
 use Rattle.sheet.proofs.FluentsKept.{after, fluents-after, fluent-kept, word-fluent, after-other, comment-other}
-use Rattle.sheet.proofs.Spans.{name-passed, name-later, name-here, span-refused, span-high, span-fluent}
+use Rattle.sheet.proofs.Spans.{span-refused, span-high, span-fluent}
 
 -- the span lies in the sheet, and its part is the name
 pub record Stands (s : List ℕ) (p : Span) (name : List ℕ) : Type 0 where

@@ -9,11 +9,11 @@ use borrow.Author.Tests.{eqb-true}
 use Rattle.chars.specs.Bytes.{text, TAB, HASH, begins}
 use Rattle.chars.specs.Pieces.{grow, pieces, fields, bare}
 use Rattle.chars.specs.Places.{same}
-use Rattle.sheet.specs.declared.lines.Word.{Word}
-use Rattle.sheet.specs.declared.lines.Word.the-variants.{Fluent, Action, Rule, Start, Goal, Other}
-use Rattle.sheet.specs.Book.{Book}
-use Rattle.sheet.specs.Line.{Reading, word-of}
-use Rattle.sheet.specs.Reader.{read-lines, written}
+use Rattle.fields.specs.Book.{Book}
+use Rattle.lines.specs.declared.Word.{Word}
+use Rattle.lines.specs.declared.Word.the-variants.{Fluent, Action, Rule, Start, Goal, Other}
+use Rattle.lines.specs.Line.{Reading, word-of}
+use Rattle.lines.specs.Reader.{read-lines, written}
 use Rattle.sheet.proofs.AcceptedLines.{Accepted, fluent, action, rule, start, goal, accepted-text, Taken, comment, plain, line-taken, first-accepted, lines-end}
 
 -- the fluents after an accepted line

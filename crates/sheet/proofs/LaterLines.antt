@@ -5,8 +5,8 @@ use Prim.Native.Nat.{ℕ, _≤_}
 use native.Mathlib.Omega.{arith}
 use lib.ListN.{getD, drop}
 use Rattle.chars.specs.Pieces.{fields}
-use Rattle.sheet.specs.declared.lines.Word.{Word}
-use Rattle.sheet.specs.Line.{Reading, row, word-of}
+use Rattle.lines.specs.declared.Word.{Word}
+use Rattle.lines.specs.Line.{Reading, row, word-of}
 use Rattle.sheet.proofs.AcceptedLines.{Accepted, fluent, action, rule, start, goal, accepted-text, text-in-order, AllRead, done, more}
 
 -- after an accepted line no word before its own in the row may come

@@ -1,13 +1,4 @@
 -- Laws of the definitions, for this crate's proofs and those of the crates above.
-pub mod Verdicts
-pub mod FieldVerdicts
-pub mod Readings
-pub mod LineHeads
-pub mod LineVerdicts
-pub mod NamePlaces
-pub mod NamesHeld
-pub mod Bodies
-pub mod Kept
 pub mod Results
 pub mod AcceptedLines
 pub mod LaterLines

@@ -13,17 +13,18 @@ use Rattle.steps.specs.Widths.{rule-width}
 use Rattle.chars.specs.Bytes.{HASH, begins, is-name, clean}
 use Rattle.chars.specs.Pieces.{lines, fields, bare}
 use Rattle.chars.specs.Places.{place, among, byte-at}
-use Rattle.sheet.specs.declared.lines.Word.{Word}
-use Rattle.sheet.specs.declared.lines.Word.the-variants.{Fluent, Action, Rule, Start, Goal, Other}
-use Rattle.sheet.specs.Verdict.{Verdict, refuse, accept, _>>=_, require}
-use Rattle.sheet.specs.Book.{Book, Symbols, with-names, with-rule, with-start, with-goal}
-use Rattle.sheet.specs.Field.{judged, new-name, used-name, start-name, start-names, marks, names-of, step-word, step-words}
-use Rattle.sheet.specs.Held.{in-order, line-head, step-from, recorded}
-use Rattle.sheet.specs.Line.{Reading, empty, after, word-of, overfull, miscounted, record-line, plain-line, line}
-use Rattle.sheet.specs.Reader.{Outcome, refused, written, ended, whole-sheet, read-lines, at-end, read-sheet}
+use Rattle.fields.specs.Verdict.{Verdict, refuse, accept, _>>=_, require}
+use Rattle.fields.specs.Book.{Book, Symbols, with-names, with-rule, with-start, with-goal}
+use Rattle.fields.specs.Field.{judged, new-name, used-name, start-name, start-names, marks, names-of, step-word, step-words}
+use Rattle.fields.specs.Held.{step-from}
+use Rattle.fields.proofs.Verdicts.{not-both}
+use Rattle.lines.specs.declared.Word.{Word}
+use Rattle.lines.specs.declared.Word.the-variants.{Fluent, Action, Rule, Start, Goal, Other}
+use Rattle.lines.specs.Kept.{in-order, line-head, recorded}
+use Rattle.lines.specs.Line.{Reading, empty, after, word-of, overfull, miscounted, record-line, plain-line, line}
+use Rattle.lines.specs.Reader.{Outcome, refused, written, ended, whole-sheet, read-lines, at-end, read-sheet}
+use Rattle.lines.proofs.LineVerdicts.{line-by-head, line-read, line-refused, lines-read}
 use Rattle.sheet.specs.Result.{refusal, accepted, short, result-of}
-use Rattle.sheet.proofs.Verdicts.{not-both}
-use Rattle.sheet.proofs.LineVerdicts.{line-by-head, line-read, line-refused, lines-read}
 use Rattle.sheet.proofs.Results.{sheet-fault, sheet-lines}
 
 -- a verdict that refuses with a number does so with another than 0

@@ -5,8 +5,8 @@ use Prim.Native.Nat.{ℕ, _*_}
 use lib.ListN.{length, take}
 use Rattle.steps.specs.Acceptance.{refusal-of}
 use Rattle.steps.specs.Widths.{rule-width}
+use Rattle.lines.specs.Reader.{read-sheet}
 use Rattle.sheet.specs.declared.Sheet.{Sheet}
-use Rattle.sheet.specs.Reader.{read-sheet}
 use Rattle.sheet.specs.Result.{result-of, rules-after}
 use Rattle.sheet.proofs.Acceptance.{sheet-meets-none}
 use Rattle.sheet.proofs.ResultWords.{result-book}

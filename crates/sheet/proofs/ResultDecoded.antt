@@ -6,9 +6,9 @@ use lib.ListN.{length, take}
 use Rattle.steps.specs.Run.{Run}
 use Rattle.steps.specs.Words.{run-of}
 use Rattle.steps.specs.Widths.{rule-width}
+use Rattle.fields.specs.Book.{Book, joined}
+use Rattle.lines.specs.Reader.{read-sheet, written}
 use Rattle.sheet.specs.declared.Sheet.{Sheet}
-use Rattle.sheet.specs.Book.{Book, joined}
-use Rattle.sheet.specs.Reader.{read-sheet, written}
 use Rattle.sheet.specs.Result.{result-of, rules-after}
 use Rattle.sheet.proofs.ResultWords.{result-book}
 

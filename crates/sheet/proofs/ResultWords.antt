@@ -6,9 +6,9 @@ use lib.ListN.{length, take, drop, replicate}
 use lib.Seq.{take-at, take-append-seam}
 use borrow.Author.Tests.{le-ltb}
 use Rattle.steps.specs.Widths.{rule-width}
+use Rattle.fields.specs.Book.{Book, joined}
+use Rattle.lines.specs.Reader.{Outcome, read-sheet, written}
 use Rattle.sheet.specs.declared.Sheet.{Sheet}
-use Rattle.sheet.specs.Book.{Book, joined}
-use Rattle.sheet.specs.Reader.{Outcome, read-sheet, written}
 use Rattle.sheet.specs.Result.{result-of, rules-after}
 use Rattle.sheet.proofs.ValidSheets.{sheet-valid}
 use Rattle.sheet.proofs.Acceptance.{words-count}

@@ -11,14 +11,23 @@ use borrow.Author.Tests.{lt-ltb, le-ltb, eq-eqb, ne-eqb}
 use Rattle.refusals.specs.Sheet.{sheet-refusals}
 use Rattle.chars.specs.Pieces.{lines}
 use Rattle.steps.specs.Widths.{rule-width}
-use Rattle.sheet.specs.declared.lines.Parse.{Parse}
-use Rattle.sheet.specs.Verdict.{refuse, accept}
-use Rattle.sheet.specs.Line.{Reading, empty}
-use Rattle.sheet.specs.Reader.{Outcome, refused, written, whole-sheet, read-sheet, read-lines, at-end}
+use Rattle.fields.specs.Verdict.{refuse, accept}
+use Rattle.fields.specs.Held.{symbols-of}
+use Rattle.fields.proofs.NamePlaces.{names-length}
+use Rattle.fields.proofs.Bodies.{filled-padded}
+use Rattle.lines.specs.declared.Parse.{Parse}
+use Rattle.lines.specs.Line.{Reading, empty}
+use Rattle.lines.specs.Reader.{Outcome, refused, written, whole-sheet, read-sheet, read-lines, at-end}
+use Rattle.lines.specs.Kept.{book-in, Kept}
+use Rattle.lines.proofs.Rules.{rules-length, rules-joined}
 use Rattle.sheet.specs.Result.{result-of, rules-after, refusal}
-use Rattle.sheet.specs.Held.{book-in, symbols-of, Kept}
-use Rattle.sheet.proofs.NamePlaces.{names-length}
-use Rattle.sheet.proofs.Bodies.{rules-length, rules-joined, filled-padded}
+use Rattle.sheet.specs.Inner.{outcome-of}
+
+pub outcome-ok : (s w : List ℕ) (n : ℕ) (b : Parse) → b .refusal ≡ 0 → outcome-of s w n b ≡ written (book-in s w b)
+outcome-ok s w n b e = rw (eq-eqb (b .refusal) 0 e)
+
+pub outcome-no : (s w : List ℕ) (n : ℕ) (b : Parse) → (b .refusal ≡ 0 → ⊥) → outcome-of s w n b ≡ refused (b .refusal) n
+outcome-no s w n b e = rw (ne-eqb (b .refusal) 0 e)
 
 module _ (room : ℕ) (lent : List ℕ) (o : Outcome) where
   module _ (k n : ℕ) (e : o ≡ refused k n) where

@@ -14,11 +14,11 @@ use Rattle.steps.proofs.EachBelow.{both}
 use Rattle.steps.proofs.StateLaws.{room, not-held}
 use Rattle.chars.specs.Bytes.{is-name}
 use Rattle.chars.specs.Places.{place, among, byte-at}
-use Rattle.sheet.specs.Verdict.{accept, _>>=_}
-use Rattle.sheet.specs.Book.{Book, Symbols, rule-words}
-use Rattle.sheet.specs.Field.{used-name, step-word, step-words, names-of, marks, start-name, start-names}
-use Rattle.sheet.specs.Held.{step-from}
-use Rattle.sheet.proofs.Verdicts.{followed, required, same-value, not-both}
+use Rattle.fields.specs.Verdict.{accept, _>>=_}
+use Rattle.fields.specs.Book.{Book, Symbols, rule-words}
+use Rattle.fields.specs.Field.{used-name, step-word, step-words, names-of, marks, start-name, start-names}
+use Rattle.fields.specs.Held.{step-from}
+use Rattle.fields.proofs.Verdicts.{followed, required, same-value, not-both}
 use Rattle.sheet.proofs.AcceptedLines.{action, start, goal, judged-accepted}
 
 -- the step words of a body are good, where there are so many fluents and actions: at most 16, each of one of the five kinds and with an index below the count

@@ -8,11 +8,11 @@ use lib.Pow.{pow-pos, pow-mono}
 use lib.ListN.{length, getD, drop, length-append, length-drop, List·getD-append}
 use lib.Seq.{getD-append-seam}
 use Rattle.chars.specs.Pieces.{lines, fields}
-use Rattle.sheet.specs.declared.lines.Word.{Word}
-use Rattle.sheet.specs.Book.{Book, Symbols, rule-words, with-names, with-rule}
-use Rattle.sheet.specs.Line.{Reading, empty, word-of}
-use Rattle.sheet.specs.Reader.{read-sheet, written}
-use Rattle.sheet.proofs.Readings.{whole}
+use Rattle.fields.specs.Book.{Book, Symbols, rule-words, with-names, with-rule}
+use Rattle.lines.specs.declared.Word.{Word}
+use Rattle.lines.specs.Line.{Reading, empty, word-of}
+use Rattle.lines.specs.Reader.{read-sheet, written}
+use Rattle.lines.proofs.Readings.{whole}
 use Rattle.sheet.proofs.AcceptedLines.{Accepted, fluent, action, rule, start, goal, accepted-text, AllRead, done, more, record-lines, sheet-records}
 use Rattle.sheet.proofs.Valid.{Valid, GoodSteps, GoodRule, steps-more, rule-more, used-below, body-good, start-below}
 

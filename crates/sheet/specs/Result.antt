@@ -7,9 +7,9 @@ use lib.Dec.{ltb}
 use Rattle.refusals.specs.Sheet.{sheet-refusals}
 use Rattle.steps.specs.State.{State}
 use Rattle.steps.specs.Widths.{rule-width}
+use Rattle.fields.specs.Book.{Book, padded, joined}
+use Rattle.lines.specs.Reader.{Outcome, refused, written}
 use Rattle.sheet.specs.declared.Sheet.{Sheet}
-use Rattle.sheet.specs.Book.{Book, padded, joined}
-use Rattle.sheet.specs.Reader.{Outcome, refused, written}
 
 -- A result, from its numbers, the start and the goal's step words; unused goal words are always 0.
 abbrev pub given : ℕ → ℕ → ℕ → ℕ → ℕ → State → List ℕ → Sheet

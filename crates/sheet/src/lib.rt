@@ -1,18 +1,16 @@
 // The sheet reader: an author's text into rule words, counts, start and goal, or one numbered refusal and its line.
-mod fields;
-mod lines;
-mod names;
-
 ghost use mathlib.Core.Path.{_≡_};
 ghost use mathlib.Core.List.{_++_};
-ghost use Prim.Native.Nat.{_≤_, _<_};
+ghost use Prim.Native.Nat.{_≤_};
 ghost use lib.ListN.{length, take, drop};
-ghost use Rattle.chars.specs.Pieces.{lines};
-ghost use Rattle.sheet.specs.Reader.{whole-sheet, read-sheet};
+ghost use Rattle.fields.specs.Held.{answer};
+ghost use Rattle.lines.specs.Reader.{whole-sheet, read-sheet};
+ghost use Rattle.naming.specs.Spans.{part-of, address-of};
 ghost use Rattle.sheet.specs.Result.{refusal, result-of, rules-after};
-ghost use Rattle.sheet.specs.FluentName.{name-in, name-span, part-of, address-of};
-ghost use Rattle.sheet.specs.Held.{answer, Gives, field-span};
+ghost use Rattle.sheet.specs.FluentName.{name-span};
+ghost use Rattle.sheet.specs.Inner.{Gives};
 use lines::Scan;
+use naming::Span;
 
 // What a sheet says beside its rule words. Refusal 0 is none.
 #[repr(C)]
@@ -25,13 +23,6 @@ pub struct Sheet {
     pub start: u64,
     pub goal_len: u64,
     pub goal: [u16; 16],
-}
-
-// A part of a sheet: where it begins, and how long it is.
-#[repr(C)]
-pub struct Span {
-    pub at: usize,
-    pub len: usize,
 }
 
 // The refusal of the whole sheet, before its lines are read, or 0.
@@ -142,43 +133,6 @@ pub fn read(sheet: &[u8], rules: &mut [u16]) -> Sheet
     }
 }
 
-// The field after the word that ends at q, in the line that ends at e.
-fn field_span(s: &[u8], q: usize, e: usize) -> Span
-    requires { ⌜ (q ≤ e) × (e ≤ length (now s)) ⌝ }
-    requires { ⌜ e < 18446744073709551615 ⌝ }
-    ensures { λ r. ⌜ r ≡ field-span (now (s .entry)) q e ⌝ }
-{
-    if q == e {
-        return Span { at: q + 1, len: 0 };
-    }
-    let end = chars::field_end(s, q + 1, e);
-    Span {
-        at: q + 1,
-        len: end - (q + 1),
-    }
-}
-
-// The name on `fluent` line k, counted from 0: that of fluent k in an accepted sheet. The rest of the sheet is not looked at.
-pub fn name_in(s: &[u8], k: u64) -> Span
-    ensures { λ r. ⌜ r ≡ name-in 0 k (lines (now (s .entry))) ⌝ }
-{
-    let mut at = 0;
-    let mut left = k;
-    while at < s.len() {
-        let e = chars::line_end(s, at);
-        let end = chars::bare_end(s, at, e);
-        let q = chars::field_end(s, at, end);
-        if chars::is_word(s, at, q, b"fluent") {
-            if left == 0 {
-                return field_span(s, q, end);
-            }
-            left -= 1;
-        }
-        at = e + 1;
-    }
-    Span { at: 0, len: 0 }
-}
-
 // Where the fluent's name stands in the sheet; nothing at 0 for a refused sheet or a number too high.
 pub fn fluent_span(sheet: &[u8], number: u64) -> Span
     ensures { λ r. ⌜ r ≡ name-span (now (sheet .entry)) number ⌝ }
@@ -195,7 +149,7 @@ pub fn fluent_span(sheet: &[u8], number: u64) -> Span
     if count <= number {
         return Span { at: 0, len: 0 };
     }
-    name_in(sheet, number)
+    naming::name_in(sheet, number)
 }
 
 // The very part of the lent sheet that defines the fluent; for a refused sheet or a number too high, the empty part at the sheet's first byte.

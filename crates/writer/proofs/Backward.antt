@@ -11,14 +11,14 @@ use borrow.Author.Tests.{ne-eqb}
 use Rattle.chars.specs.Bytes.{text}
 use Rattle.chars.specs.Pieces.{lines, fields}
 use Rattle.chars.specs.Places.{same}
-use Rattle.sheet.specs.declared.lines.Word.{Word}
-use Rattle.sheet.specs.declared.lines.Word.the-variants.{Fluent, Action, Rule, Start, Goal}
-use Rattle.sheet.specs.Verdict.{accept}
-use Rattle.sheet.specs.Book.{Symbols, Book, rule-words}
-use Rattle.sheet.specs.Line.{Reading, empty, word-of, plain-line}
-use Rattle.sheet.specs.Reader.{read-sheet, written}
+use Rattle.fields.specs.Verdict.{accept}
+use Rattle.fields.specs.Book.{Symbols, Book, rule-words}
+use Rattle.lines.specs.declared.Word.{Word}
+use Rattle.lines.specs.declared.Word.the-variants.{Fluent, Action, Rule, Start, Goal}
+use Rattle.lines.specs.Line.{Reading, empty, word-of, plain-line}
+use Rattle.lines.specs.Reader.{read-sheet, written}
+use Rattle.lines.proofs.Readings.{read-fluent, read-action, read-rule, read-start, read-goal, whole}
 use Rattle.sheet.proofs.AcceptedLines.{AllRead, done, more, record-lines, accepted-text, sheet-records}
-use Rattle.sheet.proofs.Readings.{read-fluent, read-action, read-rule, read-start, read-goal, whole}
 use Rattle.sheet.proofs.LaterLines.{names-kept, none-below}
 use Rattle.sheet.proofs.ValidSheets.{ValidSoFar, valid-line, empty-valid}
 use Rattle.writer.specs.Text.{tabbed, step-text, rule-fields, holding, text-of}

@@ -4,7 +4,7 @@ use mathlib.Core.List.{List, [], _∷_, _++_, map}
 use Prim.Native.Nat.{ℕ}
 use lib.ListN.{length, replicate}
 use Rattle.chars.specs.Bytes.{text}
-use Rattle.sheet.specs.Reader.{read-sheet}
+use Rattle.lines.specs.Reader.{read-sheet}
 use Rattle.writer.specs.declared.Written.{Written}
 use Rattle.writer.specs.Text.{text-of}
 use Rattle.writer.specs.Writer.{said, over, written-in, out-after}

@@ -11,8 +11,8 @@ use Rattle.steps.specs.Acceptance.{good-step}
 use Rattle.steps.specs.State.{holds}
 use Rattle.steps.proofs.EachBelow.{both}
 use Rattle.chars.specs.Bytes.{is-name}
-use Rattle.sheet.specs.Book.{Symbols}
-use Rattle.sheet.specs.Field.{marks, names-of}
+use Rattle.fields.specs.Book.{Symbols}
+use Rattle.fields.specs.Field.{marks, names-of}
 use Rattle.writer.specs.Text.{step-text, holding}
 use Rattle.writer.proofs.Solid.{solid, Solid, AllSolid, none-solid, more-solid, name-solid}
 use Rattle.writer.proofs.StepsBack.{Named, names-count}

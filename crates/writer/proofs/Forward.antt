@@ -9,13 +9,13 @@ use borrow.Author.Tests.{le-leb}
 use Rattle.chars.specs.Bytes.{text, clean}
 use Rattle.chars.specs.Pieces.{lines}
 use Rattle.chars.specs.Places.{among}
-use Rattle.sheet.specs.Verdict.{accept}
-use Rattle.sheet.specs.Book.{Symbols, Book}
-use Rattle.sheet.specs.Line.{Reading, empty, line}
-use Rattle.sheet.specs.Reader.{read-lines, read-sheet, written, whole-sheet, ended}
-use Rattle.sheet.proofs.LineVerdicts.{line-read, lines-read}
+use Rattle.fields.specs.Verdict.{accept}
+use Rattle.fields.specs.Book.{Symbols, Book}
+use Rattle.lines.specs.Line.{Reading, empty, line}
+use Rattle.lines.specs.Reader.{read-lines, read-sheet, written, whole-sheet, ended}
+use Rattle.lines.proofs.LineVerdicts.{line-read, lines-read}
+use Rattle.lines.proofs.Readings.{read-start, read-goal}
 use Rattle.sheet.proofs.Results.{sheet-lines}
-use Rattle.sheet.proofs.Readings.{read-start, read-goal}
 use Rattle.sheet.proofs.AcceptedLines.{at-whole}
 use Rattle.sheet.proofs.Valid.{GoodRule}
 use Rattle.writer.specs.Text.{step-text, holding, text-of}

@@ -9,8 +9,8 @@ use mathlib.Core.Logic.{_↔_}
 use lib.ListN.{length, take, drop}
 use lib.Seq.{take-append-seam}
 use Rattle.steps.specs.State.{State}
-use Rattle.sheet.specs.Book.{Book}
-use Rattle.sheet.specs.Reader.{Outcome, read-sheet, refused, written}
+use Rattle.fields.specs.Book.{Book}
+use Rattle.lines.specs.Reader.{Outcome, read-sheet, refused, written}
 use Rattle.sheet.proofs.RefusalNumbers.{refused-number}
 use Rattle.writer.specs.declared.Written.{Written}
 use Rattle.writer.specs.Text.{text-of}

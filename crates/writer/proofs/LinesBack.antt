@@ -12,16 +12,16 @@ use Rattle.steps.specs.Acceptance.{good-step}
 use Rattle.chars.specs.Bytes.{text, TAB, HASH, begins, is-name}
 use Rattle.chars.specs.Pieces.{bare}
 use Rattle.chars.specs.Places.{same, among}
-use Rattle.sheet.specs.declared.lines.Word.{Word}
-use Rattle.sheet.specs.declared.lines.Word.the-variants.{Fluent, Action, Rule, Start, Goal}
-use Rattle.sheet.specs.Verdict.{Verdict, accept, _>>=_}
-use Rattle.sheet.specs.Book.{Symbols, rule-words}
-use Rattle.sheet.specs.Field.{judged, new-name, step-word, step-words}
-use Rattle.sheet.specs.Line.{Reading, word-of, row, overfull, miscounted, line-of, plain-line, line}
-use Rattle.sheet.specs.Held.{recorded}
-use Rattle.sheet.proofs.Readings.{read-fluent, read-action, read-rule, read-start, read-goal}
-use Rattle.sheet.proofs.LineHeads.{head-passed}
-use Rattle.sheet.proofs.LineVerdicts.{line-passed, line-plain, fluent-read, action-read, rule-read, start-line-read, goal-read}
+use Rattle.fields.specs.Verdict.{Verdict, accept, _>>=_}
+use Rattle.fields.specs.Book.{Symbols, rule-words}
+use Rattle.fields.specs.Field.{judged, new-name, step-word, step-words}
+use Rattle.lines.specs.declared.Word.{Word}
+use Rattle.lines.specs.declared.Word.the-variants.{Fluent, Action, Rule, Start, Goal}
+use Rattle.lines.specs.Line.{Reading, word-of, row, overfull, miscounted, line-of, plain-line, line}
+use Rattle.lines.specs.Kept.{recorded}
+use Rattle.lines.proofs.Readings.{read-fluent, read-action, read-rule, read-start, read-goal}
+use Rattle.lines.proofs.LineHeads.{head-passed}
+use Rattle.lines.proofs.LineVerdicts.{line-passed, line-plain, fluent-read, action-read, rule-read, start-line-read, goal-read}
 use Rattle.sheet.proofs.Valid.{GoodSteps}
 use Rattle.writer.specs.Text.{step-text, rule-fields, holding}
 use Rattle.writer.proofs.Joining.{fields-line}

@@ -6,13 +6,13 @@ use mathlib.Core.List.{List}
 use lib.ListN.{length}
 use borrow.Author.Tests.{lt-ltb, le-ltb}
 use Rattle.refusals.specs.Text.{text-refusals}
+use Rattle.steps.specs.Widths.{rule-width}
+use Rattle.fields.specs.Book.{Book}
+use Rattle.lines.specs.Reader.{Outcome, read-sheet, refused, written}
 use Rattle.sheet.specs.declared.Sheet.{Sheet}
-use Rattle.sheet.specs.Book.{Book}
-use Rattle.sheet.specs.Reader.{Outcome, read-sheet, refused, written}
 use Rattle.sheet.specs.Result.{result-of, accepted}
 use Rattle.sheet.proofs.ValidSheets.{sheet-valid}
 use Rattle.sheet.proofs.RefusalNumbers.{unrefused}
-use Rattle.steps.specs.Widths.{rule-width}
 use Rattle.writer.specs.Text.{text-of}
 use Rattle.writer.specs.Writer.{said, over, written-in, out-after}
 

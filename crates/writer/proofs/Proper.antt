@@ -1,6 +1,6 @@
 -- Books that a text can say: valid, each name a name and none twice. Assumes nothing.
 use mathlib.Core.List.{[], _++_}
-use Rattle.sheet.specs.Book.{Book}
+use Rattle.fields.specs.Book.{Book}
 use Rattle.sheet.proofs.Valid.{Valid}
 use Rattle.writer.proofs.NamesApart.{Adds, first-part, second-part, adds-named}
 use Rattle.writer.proofs.StepsBack.{Named}

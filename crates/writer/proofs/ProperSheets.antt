@@ -6,12 +6,12 @@ use mathlib.Core.Bool.{false}
 use mathlib.Core.List.{List, [], _∷_, _++_, append-nil, append-assoc}
 use lib.ListN.{getD, drop}
 use Rattle.chars.specs.Pieces.{lines, fields}
-use Rattle.sheet.specs.declared.lines.Word.{Word}
-use Rattle.sheet.specs.Book.{Book}
-use Rattle.sheet.specs.Line.{Reading, empty, word-of}
-use Rattle.sheet.specs.Reader.{read-sheet, written}
+use Rattle.fields.specs.Book.{Book}
+use Rattle.lines.specs.declared.Word.{Word}
+use Rattle.lines.specs.Line.{Reading, empty, word-of}
+use Rattle.lines.specs.Reader.{read-sheet, written}
+use Rattle.lines.proofs.Readings.{read-fluent, read-action, whole}
 use Rattle.sheet.proofs.AcceptedLines.{AllRead, done, more, record-lines, sheet-records}
-use Rattle.sheet.proofs.Readings.{read-fluent, read-action, whole}
 use Rattle.sheet.proofs.ValidSheets.{sheet-valid}
 use Rattle.writer.proofs.NamesApart.{Adds, none, adds-snoc}
 use Rattle.writer.proofs.Says.{Says, fluent, action, rule, start, goal, line-says}

@@ -11,17 +11,17 @@ use Rattle.steps.proofs.EachBelow.{both}
 use Rattle.chars.specs.Bytes.{is-name}
 use Rattle.chars.specs.Pieces.{fields}
 use Rattle.chars.specs.Places.{among}
-use Rattle.sheet.specs.declared.lines.Word.{Word}
-use Rattle.sheet.specs.declared.lines.Word.the-variants.{Fluent, Action, Rule, Start, Goal, Other}
-use Rattle.sheet.specs.Verdict.{accept, _>>=_}
-use Rattle.sheet.specs.Book.{Symbols, Book, with-rule, with-start, with-goal}
-use Rattle.sheet.specs.Field.{new-name, used-name, start-names, step-words}
-use Rattle.sheet.specs.Line.{Reading, after, word-of, row, line-of, record-line, plain-line}
-use Rattle.sheet.specs.Held.{line-head, recorded}
-use Rattle.sheet.proofs.Readings.{read-fluent, read-action, read-rule, read-start, read-goal}
-use Rattle.sheet.proofs.Verdicts.{followed, same-value}
-use Rattle.sheet.proofs.LineVerdicts.{line-by-head}
-use Rattle.sheet.proofs.LineHeads.{passed, fluent-room, action-room, rule-room, other-never}
+use Rattle.fields.specs.Verdict.{accept, _>>=_}
+use Rattle.fields.specs.Book.{Symbols, Book, with-rule, with-start, with-goal}
+use Rattle.fields.specs.Field.{new-name, used-name, start-names, step-words}
+use Rattle.fields.proofs.Verdicts.{followed, same-value}
+use Rattle.lines.specs.declared.Word.{Word}
+use Rattle.lines.specs.declared.Word.the-variants.{Fluent, Action, Rule, Start, Goal, Other}
+use Rattle.lines.specs.Line.{Reading, after, word-of, row, line-of, record-line, plain-line}
+use Rattle.lines.specs.Kept.{line-head, recorded}
+use Rattle.lines.proofs.Readings.{read-fluent, read-action, read-rule, read-start, read-goal}
+use Rattle.lines.proofs.LineVerdicts.{line-by-head}
+use Rattle.lines.proofs.LineHeads.{passed, fluent-room, action-room, rule-room, other-never}
 use Rattle.sheet.proofs.AcceptedLines.{judged-accepted}
 
 -- what an accepted line with this word and these fields said: when in the row, of which fields, and the next reading

@@ -10,10 +10,10 @@ use borrow.Author.Tests.{eqb-true, leb-true, ne-eqb}
 use Rattle.refusals.specs.Sheet.{sheet-refusals}
 use Rattle.chars.specs.Bytes.{LF, CR, HASH, begins, clean}
 use Rattle.chars.specs.Pieces.{piece-then, pieces, lines, bare}
-use Rattle.sheet.specs.Verdict.{Verdict, refuse, accept, _>>=_, require}
-use Rattle.sheet.specs.Book.{Book}
-use Rattle.sheet.specs.Reader.{read-sheet, whole-sheet, written, ended}
-use Rattle.sheet.proofs.Verdicts.{required, held}
+use Rattle.fields.specs.Verdict.{Verdict, refuse, accept, _>>=_, require}
+use Rattle.fields.specs.Book.{Book}
+use Rattle.fields.proofs.Verdicts.{required, held}
+use Rattle.lines.specs.Reader.{read-sheet, whole-sheet, written, ended}
 use Rattle.sheet.proofs.AcceptedLines.{record-lines, not-written}
 use Rattle.sheet.proofs.Results.{sheet-fault}
 use Rattle.writer.specs.Text.{text-of}

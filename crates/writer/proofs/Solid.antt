@@ -11,8 +11,8 @@ use borrow.Author.Tests.{ne-eqb, not-true, le-leb, leb-true, eqb-true}
 use Rattle.steps.proofs.EachBelow.{both}
 use Rattle.chars.specs.Bytes.{TAB, LF, CR, HASH, all, begins, sheet-byte, may-stand, clean-in, clean, lower, name-byte, is-name}
 use Rattle.chars.specs.Pieces.{lines, bare, pieces}
-use Rattle.sheet.specs.Book.{joined}
-use Rattle.sheet.specs.Reader.{ended}
+use Rattle.fields.specs.Book.{joined}
+use Rattle.lines.specs.Reader.{ended}
 use Rattle.writer.specs.Text.{tabbed}
 use Rattle.writer.proofs.Joining.{Free, lines-line, AllFree, none-free, more-free}
 

@@ -11,10 +11,10 @@ use Rattle.steps.specs.State.{holds, added}
 use Rattle.steps.proofs.StateLaws.{holds-added}
 use Rattle.chars.specs.Bytes.{is-name}
 use Rattle.chars.specs.Places.{place, among}
-use Rattle.sheet.specs.Verdict.{accept}
-use Rattle.sheet.specs.Book.{Symbols}
-use Rattle.sheet.specs.Field.{start-name, start-names}
-use Rattle.sheet.proofs.Verdicts.{followed, same-value}
+use Rattle.fields.specs.Verdict.{accept}
+use Rattle.fields.specs.Book.{Symbols}
+use Rattle.fields.specs.Field.{start-name, start-names}
+use Rattle.fields.proofs.Verdicts.{followed, same-value}
 use Rattle.sheet.proofs.AcceptedLines.{judged-accepted}
 use Rattle.writer.specs.Text.{tabbed, holding}
 use Rattle.writer.proofs.Undoing.{place-is}

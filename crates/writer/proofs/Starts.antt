@@ -13,9 +13,9 @@ use Rattle.steps.specs.State.{holds, bit}
 use Rattle.steps.proofs.StateLaws.{held, not-held, high}
 use Rattle.chars.specs.Bytes.{is-name}
 use Rattle.chars.specs.Places.{place}
-use Rattle.sheet.specs.Verdict.{accept}
-use Rattle.sheet.specs.Book.{Symbols}
-use Rattle.sheet.specs.Field.{start-name, start-names}
+use Rattle.fields.specs.Verdict.{accept}
+use Rattle.fields.specs.Book.{Symbols}
+use Rattle.fields.specs.Field.{start-name, start-names}
 use Rattle.writer.specs.Text.{holding}
 
 -- one bit more of the low bits

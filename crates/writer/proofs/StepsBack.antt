@@ -11,9 +11,9 @@ use Rattle.steps.specs.Acceptance.{good-step}
 use Rattle.steps.proofs.EachBelow.{both}
 use Rattle.chars.specs.Bytes.{is-name}
 use Rattle.chars.specs.Places.{place, byte-at}
-use Rattle.sheet.specs.Verdict.{accept}
-use Rattle.sheet.specs.Book.{Symbols}
-use Rattle.sheet.specs.Field.{marks, names-of, used-name, step-word}
+use Rattle.fields.specs.Verdict.{accept}
+use Rattle.fields.specs.Book.{Symbols}
+use Rattle.fields.specs.Field.{marks, names-of, used-name, step-word}
 use Rattle.writer.specs.Text.{step-text}
 
 -- names that are names, none twice

@@ -3,7 +3,7 @@ use Prim.Native.Nat.{ℕ}
 use mathlib.Core.Path.{_≡_, ap, sym, _∙_}
 use mathlib.Core.List.{List, [], _∷_, _++_, map, append-nil, append-assoc}
 use Rattle.chars.specs.Bytes.{text, LF}
-use Rattle.sheet.specs.Book.{Symbols, Book, joined}
+use Rattle.fields.specs.Book.{Symbols, Book, joined}
 use Rattle.writer.specs.Text.{tabbed, line-text, step-text, rule-fields, holding, text-of}
 use Rattle.writer.proofs.Solid.{line-bytes, with-LF, text-of-lines}
 

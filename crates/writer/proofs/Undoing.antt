@@ -12,14 +12,14 @@ use Rattle.steps.proofs.EachBelow.{both, true-not-false}
 use Rattle.chars.specs.Bytes.{text, TAB}
 use Rattle.chars.specs.Pieces.{piece-then, pieces, fields}
 use Rattle.chars.specs.Places.{same, place, place-after, byte-at}
-use Rattle.sheet.specs.declared.lines.Word.{Word}
-use Rattle.sheet.specs.declared.lines.Word.the-variants.{Fluent, Action, Rule, Start, Goal, Other}
-use Rattle.sheet.specs.Verdict.{accept, _>>=_}
-use Rattle.sheet.specs.Book.{Symbols}
-use Rattle.sheet.specs.Field.{marks, names-of, used-name, step-word, step-words}
-use Rattle.sheet.specs.Held.{step-from}
-use Rattle.sheet.specs.Line.{word-of, row}
-use Rattle.sheet.proofs.Verdicts.{followed, required, same-value, not-both}
+use Rattle.fields.specs.Verdict.{accept, _>>=_}
+use Rattle.fields.specs.Book.{Symbols}
+use Rattle.fields.specs.Field.{marks, names-of, used-name, step-word, step-words}
+use Rattle.fields.specs.Held.{step-from}
+use Rattle.fields.proofs.Verdicts.{followed, required, same-value, not-both}
+use Rattle.lines.specs.declared.Word.{Word}
+use Rattle.lines.specs.declared.Word.the-variants.{Fluent, Action, Rule, Start, Goal, Other}
+use Rattle.lines.specs.Line.{word-of, row}
 use Rattle.sheet.proofs.Valid.{used-below}
 use Rattle.sheet.proofs.Decoding.{byte-is, used-place}
 use Rattle.writer.specs.Text.{tabbed, step-text}

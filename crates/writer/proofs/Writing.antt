@@ -9,12 +9,12 @@ use Rattle.steps.specs.State.{State, holds}
 use Rattle.chars.specs.Bytes.{text, TAB, LF, HASH, begins}
 use Rattle.chars.specs.Pieces.{lines, fields, bare}
 use Rattle.chars.specs.Places.{same}
-use Rattle.sheet.specs.declared.lines.Word.{Word}
-use Rattle.sheet.specs.declared.lines.Word.the-variants.{Fluent, Action, Rule, Start, Goal}
-use Rattle.sheet.specs.Book.{Book}
-use Rattle.sheet.specs.Line.{Reading, empty, word-of}
-use Rattle.sheet.specs.Reader.{read-sheet, written}
-use Rattle.sheet.proofs.Readings.{whole}
+use Rattle.fields.specs.Book.{Book}
+use Rattle.lines.specs.declared.Word.{Word}
+use Rattle.lines.specs.declared.Word.the-variants.{Fluent, Action, Rule, Start, Goal}
+use Rattle.lines.specs.Line.{Reading, empty, word-of}
+use Rattle.lines.specs.Reader.{read-sheet, written}
+use Rattle.lines.proofs.Readings.{whole}
 use Rattle.sheet.proofs.AcceptedLines.{AllRead, done, more, record-lines, sheet-records}
 use Rattle.sheet.proofs.FluentsKept.{comment-other}
 use Rattle.writer.specs.Text.{tabbed, holding, text-of}

@@ -6,7 +6,7 @@ ghost use Prim.Native.Nat.{_+_, _-_, _≤_, _<_};
 ghost use lib.ListN.{length};
 ghost use lib.Seq.{slice};
 ghost use Rattle.chars.specs.Pieces.{lines};
-ghost use Rattle.sheet.specs.Reader.{read-sheet};
+ghost use Rattle.lines.specs.Reader.{read-sheet};
 ghost use Rattle.writer.specs.Writer.{written-in, out-after};
 ghost use Rattle.writer.specs.Inner.{Puts, plain-piece, plain-bytes, held-piece, held-next, held-bytes, start-bytes, line-piece, line-bytes};
 use steps::state::State;

@@ -11,10 +11,12 @@ use lib.Dec.{ltb}
 use lib.ListN.{length}
 use Rattle.chars.specs.Bytes.{text}
 use Rattle.chars.specs.Pieces.{lines}
-use Rattle.merge.specs.declared.Word.{Word}
-use Rattle.merge.specs.Joined.{together, meets}
-use Rattle.merge.specs.Inner.{parts-from, section, Holds}
-use Rattle.merge.proofs.PartLists.{parts-length}
+use Rattle.chars.specs.Places.{meets}
+use Rattle.parts.specs.Parts.{parts-from, section}
+use Rattle.parts.proofs.PartLists.{parts-length}
+use Rattle.parts.specs.declared.Word.{Word}
+use Rattle.merge.specs.Joined.{together}
+use Rattle.merge.specs.Inner.{Holds}
 use Rattle.merge.proofs.fault.Statement.{statement}
 use Rattle.merge.proofs.fault.Tie as tie
 

@@ -13,15 +13,17 @@ use Rattle.refusals.specs.Sheet.{sheet-refusals}
 use Rattle.steps.specs.State.{State}
 use Rattle.chars.specs.Bytes.{text}
 use Rattle.chars.specs.Pieces.{lines}
+use Rattle.fields.specs.Book.{Book}
+use Rattle.lines.specs.Reader.{read-sheet, written}
 use Rattle.sheet.specs.declared.Sheet.{Sheet}
-use Rattle.sheet.specs.Book.{Book}
-use Rattle.sheet.specs.Reader.{read-sheet, written}
 use Rattle.writer.specs.Text.{holding, text-of}
 use Rattle.writer.proofs.Outcomes.{told-refused, told-written}
-use Rattle.merge.specs.declared.Layout.{Layout}
+use Rattle.parts.specs.Parts.{Inside, Grows, parts-from, section, inserted-in}
+use Rattle.parts.specs.declared.Layout.{Layout}
+use Rattle.parts.specs.Texts.{text-parts, text-in, Ordered}
 use Rattle.merge.specs.Joined.{together, both-books}
 use Rattle.merge.specs.Merge.{Judgement, faulty, joins, judge, merge-of}
-use Rattle.merge.specs.Inner.{Inside, Grows, parts-from, section, inserted-in, fault-of, text-parts, text-in, Few, Laid, Holds, Ordered, Joining}
+use Rattle.merge.specs.Inner.{fault-of, Few, Laid, Holds, Joining}
 use Rattle.merge.proofs.Joins.{NamesFit}
 use Rattle.merge.proofs.Laying.{holds-kept}
 use Rattle.merge.proofs.Joinings.{few, first-faulty, second-faulty, both-read, judged, start-laid, fluents-few, ordered, text-laid}

@@ -8,7 +8,7 @@ use denote.Ref.{now}
 use lib.ListN.{length}
 use Rattle.chars.specs.Bytes.{text}
 use Rattle.chars.specs.Pieces.{lines}
-use Rattle.merge.specs.Inner.{Inside, Grows, section}
+use Rattle.parts.specs.Parts.{Inside, Grows, section}
 use Rattle.merge.proofs.Laying.{laid}
 use Rattle.merge.proofs.lay.Statement.{statement}
 use Rattle.merge.proofs.lay.Tie as tie

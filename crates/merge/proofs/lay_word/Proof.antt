@@ -7,7 +7,7 @@ use native.Mathlib.Omega.{arith}
 use denote.Ref.{now}
 use lib.ListN.{length}
 use Rattle.chars.specs.Pieces.{lines}
-use Rattle.merge.specs.Inner.{Inside, Grows, section}
+use Rattle.parts.specs.Parts.{Inside, Grows, section}
 use Rattle.merge.proofs.Laying.{laid-word}
 use Rattle.merge.proofs.lay_word.Statement.{statement}
 use Rattle.merge.proofs.lay_word.Tie as tie

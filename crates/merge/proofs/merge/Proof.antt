@@ -9,9 +9,9 @@ use lib.ListN.{length, drop}
 use Rattle.writer.specs.Text.{text-of}
 use Rattle.writer.specs.Writer.{over}
 use Rattle.writer.proofs.Filling.{filled-first}
+use Rattle.parts.specs.Texts.{text-in}
 use Rattle.merge.specs.Joined.{both-books}
 use Rattle.merge.specs.Merge.{said, merge-of}
-use Rattle.merge.specs.Inner.{text-in}
 use Rattle.merge.proofs.Outcomes.{faulty-result, faulty-out, short-result, short-out, merged-result, merged-out}
 use Rattle.merge.proofs.merge.Statement.{statement}
 use Rattle.merge.proofs.merge.Tie as tie

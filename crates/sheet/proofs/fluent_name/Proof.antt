@@ -4,8 +4,8 @@ use Prim.Native.Nat.{ℕ, _+_, _-_, _≤_}
 use native.Mathlib.Omega.{arith}
 use denote.Ref.{now}
 use lib.ListN.{length, take, drop}
-use Rattle.sheet.specs.declared.Span.{Span}
-use Rattle.sheet.specs.FluentName.{part-of, address-of}
+use Rattle.naming.specs.declared.Span.{Span}
+use Rattle.naming.specs.Spans.{part-of, address-of}
 use Rattle.sheet.proofs.FluentNames.{span-within}
 use borrow.Author.Needs.{needs}
 use Rattle.sheet.proofs.fluent_name.Statement.{statement}

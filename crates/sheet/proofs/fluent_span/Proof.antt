@@ -2,8 +2,9 @@
 use mathlib.Core.Path.{sym, _∙_}
 use native.Mathlib.Omega.{arith}
 use denote.Ref.{now}
-use Rattle.sheet.specs.Held.{book-in}
-use Rattle.sheet.proofs.Kept.{outcome-ok, outcome-no, fluents-length}
+use Rattle.lines.specs.Kept.{book-in}
+use Rattle.lines.proofs.Kept.{fluents-length}
+use Rattle.sheet.proofs.Results.{outcome-ok, outcome-no}
 use Rattle.sheet.proofs.Spans.{span-refused, span-high, span-fluent}
 use borrow.Author.Needs.{needs}
 use Rattle.sheet.proofs.fluent_span.Statement.{statement}

@@ -3,9 +3,8 @@ use mathlib.Core.Path.{sym, _∙_}
 use native.Mathlib.Omega.{arith}
 use denote.Ref.{now}
 use lib.ListN.{length}
-use Rattle.sheet.specs.Reader.{read-sheet}
-use Rattle.sheet.proofs.Kept.{outcome-ok, outcome-no}
-use Rattle.sheet.proofs.Results.{result-refused, rules-refused, result-short, rules-short, result-read, rules-read}
+use Rattle.lines.specs.Reader.{read-sheet}
+use Rattle.sheet.proofs.Results.{outcome-ok, outcome-no, result-refused, rules-refused, result-short, rules-short, result-read, rules-read}
 use borrow.Author.Needs.{needs}
 use Rattle.sheet.proofs.read.Statement.{statement}
 use Rattle.sheet.proofs.read.Tie as tie

@@ -5,11 +5,11 @@ use Prim.Native.Nat.{ℕ}
 use borrow.Author.Tests.{eqb-false}
 use denote.Ref.{now}
 use Rattle.refusals.specs.Sheet.{sheet-refusals}
-use Rattle.sheet.specs.Reader.{read-sheet, refused}
-use Rattle.sheet.specs.Held.{reading-in}
-use Rattle.sheet.proofs.Verdicts.{answer-ok, answer-no}
-use Rattle.sheet.proofs.Kept.{outcome-ok, outcome-no, ending-ok, ending-no}
-use Rattle.sheet.proofs.Results.{sheet-fault, sheet-lines, sheet-read, sheet-no-start, sheet-no-goal}
+use Rattle.fields.proofs.Verdicts.{answer-ok, answer-no}
+use Rattle.lines.specs.Reader.{read-sheet, refused}
+use Rattle.lines.specs.Kept.{reading-in}
+use Rattle.lines.proofs.Kept.{ending-ok, ending-no}
+use Rattle.sheet.proofs.Results.{outcome-ok, outcome-no, sheet-fault, sheet-lines, sheet-read, sheet-no-start, sheet-no-goal}
 use borrow.Author.Needs.{needs}
 use Rattle.sheet.proofs.scan_sheet.Statement.{statement}
 use Rattle.sheet.proofs.scan_sheet.Tie as tie

@@ -4,7 +4,7 @@ use Prim.Native.Nat.{_-_}
 use denote.Ref.{now}
 use lib.ListN.{length, getD}
 use borrow.Author.Tests.{lt-leb, le-leb, eq-eqb, ne-eqb, not-true, not-false}
-use Rattle.sheet.specs.Reader.{whole-sheet, ended}
+use Rattle.lines.specs.Reader.{whole-sheet, ended}
 use borrow.Author.Needs.{needs}
 use Rattle.sheet.proofs.whole_refusal.Statement.{statement}
 use Rattle.sheet.proofs.whole_refusal.Tie as tie

@@ -7,8 +7,8 @@ use native.Mathlib.Omega.{arith}
 use denote.Ref.{now}
 use lib.ListN.{length, drop}
 use Rattle.chars.specs.Pieces.{lines}
-use Rattle.sheet.specs.Book.{Book}
-use Rattle.sheet.specs.Reader.{read-sheet, written}
+use Rattle.fields.specs.Book.{Book}
+use Rattle.lines.specs.Reader.{read-sheet, written}
 use Rattle.writer.specs.Text.{text-of}
 use Rattle.writer.specs.Writer.{said, over}
 use Rattle.writer.specs.Inner.{line-bytes}

@@ -5,8 +5,8 @@ use mathlib.Core.Path.{_≡_, refl}
 use lib.ListN.{length}
 use borrow.Author.Needs.{needs}
 use Rattle.steps.specs.Widths.{rule-width}
-use Rattle.marking.specs.Masks.{Turned}
-use Rattle.marking.proofs.Widening.{guide-kept}
+use Rattle.masks.specs.Masks.{Turned}
+use Rattle.gains.proofs.Widening.{guide-kept}
 use Rattle.marking.proofs.Turning.{turned-none, turned-all}
 use Rattle.marking.proofs.passes.pass.Statement.{statement}
 use Rattle.marking.proofs.passes.pass.Tie as tie

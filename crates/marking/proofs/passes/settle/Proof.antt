@@ -7,8 +7,8 @@ use mathlib.Core.Bool.{cond}
 use lib.Dec.{eqb}
 use lib.ListN.{length}
 use borrow.Author.Needs.{needs}
-use Rattle.marking.specs.Masks.{Guide, Wide, total, Grown, SoundMarks, Fresh}
-use Rattle.marking.proofs.Widening.{guide-kept, grown-none, grown-then}
+use Rattle.masks.specs.Masks.{Guide, Wide, total, Grown, SoundMarks, Fresh}
+use Rattle.gains.proofs.Widening.{guide-kept, grown-none, grown-then}
 use Rattle.marking.proofs.Turning.{settled-last, still-less}
 use Rattle.marking.proofs.passes.settle.Statement.{statement}
 use Rattle.marking.proofs.passes.settle.Tie as tie

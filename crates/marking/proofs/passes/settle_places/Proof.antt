@@ -3,10 +3,10 @@ use Prim.Native.Nat.{_+_, _-_, _≤_}
 use native.Mathlib.Omega.{arith}
 use mathlib.Core.Path.{_≡_, _∙_}
 use borrow.Author.Needs.{needs}
-use Rattle.marking.specs.Masks.{AllSettled}
-use Rattle.marking.proofs.Widening.{guide-kept}
+use Rattle.masks.specs.Masks.{AllSettled}
+use Rattle.gains.proofs.Widening.{guide-kept}
+use Rattle.gains.proofs.Gaining.{settled-after}
 use Rattle.marking.proofs.Turning.{all-none, all-more}
-use Rattle.marking.proofs.Gaining.{settled-after}
 use Rattle.marking.proofs.passes.settle_places.Statement.{statement}
 use Rattle.marking.proofs.passes.settle_places.Tie as tie
 

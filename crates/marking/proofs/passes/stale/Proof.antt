@@ -11,7 +11,7 @@ use lib.ListN.{length, getD}
 use Rattle.steps.specs.State.{bit}
 use Rattle.steps.specs.Inner.{is-call}
 use Rattle.steps.proofs.EachBelow.{true-not-false}
-use Rattle.marking.proofs.Widening.{no-call-words}
+use Rattle.gains.proofs.Widening.{no-call-words}
 use Rattle.marking.proofs.passes.stale.Statement.{statement}
 use Rattle.marking.proofs.passes.stale.Tie as tie
 

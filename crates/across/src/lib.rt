@@ -1,0 +1,1 @@
+// Laws across operations: what one of them leaves, as another takes it. No code.

@@ -1,0 +1,2 @@
+-- Laws of the walks over places.
+pub mod Walking

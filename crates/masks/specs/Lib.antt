@@ -1,0 +1,2 @@
+-- What the contracts below `mark` speak of.
+pub mod Masks

@@ -1,0 +1,2 @@
+-- Where a merged fluent's name stands.
+pub mod MergedName
