@@ -109,24 +109,24 @@ module _ (rules goal : List ℕ) where
     pub row-in : row < length (t .calls)
     pub rule : ℕ
     pub fits : bodies-of rules goal .fits rule (call-at (t .calls) row .action) ≡ true
-    pub comes : Comes t (body-of (bodies-of rules goal .words rule)) (call-at (t .calls) row .state) d
+    pub comes : Comes t (body-of (bodies-of rules goal .words rule (call-at (t .calls) row .action))) (call-at (t .calls) row .state) d
 
   -- The rule and the evidence of a record justify it over the answers of t.
   pub record AnswerFound (t : Rows) (a : AnswerRow) : Type 0 where
     pub call-in : a .call < length (t .calls)
     pub fits : bodies-of rules goal .fits (a .rule) (call-at (t .calls) (a .call) .action) ≡ true
-    pub along : Along t (body-of (bodies-of rules goal .words (a .rule))) (call-at (t .calls) (a .call) .state) (a .evidence) (a .final)
+    pub along : Along t (body-of (bodies-of rules goal .words (a .rule) (call-at (t .calls) (a .call) .action))) (call-at (t .calls) (a .call) .state) (a .evidence) (a .final)
 
   -- Whatever each body gives.
   module _ {B : Type 0} (t : Rows) (f : ℕ → State → ℕ → Body → List B) where
     abbrev pub by-rule : ℕ → ℕ → List B
-    by-rule i k = f i (call-at (t .calls) i .state) k (body-of (bodies-of rules goal .words k))
+    by-rule i k = f i (call-at (t .calls) i .state) k (body-of (bodies-of rules goal .words k (call-at (t .calls) i .action)))
 
     abbrev by-call : ℕ → List B
     by-call i = flatMap (by-rule i) (rules-of rules goal (call-at (t .calls) i .action))
 
     pub each-out : {x : B} → List·Memᴰ x (each-body rules goal t f)
-        → (i : ℕ) × (i < length (t .calls)) × (k : ℕ) × (bodies-of rules goal .fits k (call-at (t .calls) i .action) ≡ true) × List·Memᴰ x (f i (call-at (t .calls) i .state) k (body-of (bodies-of rules goal .words k)))
+        → (i : ℕ) × (i < length (t .calls)) × (k : ℕ) × (bodies-of rules goal .fits k (call-at (t .calls) i .action) ≡ true) × List·Memᴰ x (f i (call-at (t .calls) i .state) k (body-of (bodies-of rules goal .words k (call-at (t .calls) i .action))))
     unfolding each-body
     each-out m =
         let (i, l, n) = flat-out by-call (numbers 0 (length (t .calls))) m in
@@ -134,7 +134,7 @@ module _ (rules goal : List ℕ) where
         let (p, q) = numbers-out 0 (length (t .calls)) l in
         (i, omega arith, k, rules-out (call-at (t .calls) i .action) j, o)
 
-    pub each-in : {x : B} (i k : ℕ) → i < length (t .calls) → bodies-of rules goal .fits k (call-at (t .calls) i .action) ≡ true → List·Memᴰ x (f i (call-at (t .calls) i .state) k (body-of (bodies-of rules goal .words k))) → List·Memᴰ x (each-body rules goal t f)
+    pub each-in : {x : B} (i k : ℕ) → i < length (t .calls) → bodies-of rules goal .fits k (call-at (t .calls) i .action) ≡ true → List·Memᴰ x (f i (call-at (t .calls) i .state) k (body-of (bodies-of rules goal .words k (call-at (t .calls) i .action)))) → List·Memᴰ x (each-body rules goal t f)
     unfolding each-body
     each-in i k l e m = flat-in by-call (numbers-in i 0 (length (t .calls)) (omega arith) (omega arith)) (flat-in (by-rule i) (rules-in k (call-at (t .calls) i .action) e) m)
 
@@ -159,9 +159,9 @@ module _ (rules goal : List ℕ) where
     unfolding found-calls of-comes
     calls-out x m =
         let (i, l, k, e, n) = each-out t (λ i s k body. map of-comes (comes-to t body s)) m in
-        let (d, h, z) = Memᴰ·of-map of-comes (comes-to t (body-of (bodies-of rules goal .words k)) (call-at (t .calls) i .state)) n in
-        let w = comes-out t (body-of (bodies-of rules goal .words k)) (call-at (t .calls) i .state) h in (
-          record { row = i; row-in = l; rule = k; fits = e; comes = subst (λ (y : CallRow). Comes t (body-of (bodies-of rules goal .words k)) (call-at (t .calls) i .state) (call-key y)) z w },
+        let (d, h, z) = Memᴰ·of-map of-comes (comes-to t (body-of (bodies-of rules goal .words k (call-at (t .calls) i .action))) (call-at (t .calls) i .state)) n in
+        let w = comes-out t (body-of (bodies-of rules goal .words k (call-at (t .calls) i .action))) (call-at (t .calls) i .state) h in (
+          record { row = i; row-in = l; rule = k; fits = e; comes = subst (λ (y : CallRow). Comes t (body-of (bodies-of rules goal .words k (call-at (t .calls) i .action))) (call-at (t .calls) i .state) (call-key y)) z w },
           ap (λ (y : CallRow). y .round) (sym z),
         )
 
@@ -178,8 +178,8 @@ module _ (rules goal : List ℕ) where
     unfolding found-answers of-way
     answers-out x m =
         let (i, l, k, e, n) = each-out t (λ i s k body. map (of-way i k) (ways t body s)) m in
-        let (w, h, z) = Memᴰ·of-map (of-way i k) (ways t (body-of (bodies-of rules goal .words k)) (call-at (t .calls) i .state)) n in
-        let f : AnswerFound t (of-way i k w) = record { call-in = l; fits = e; along = ways-out t (body-of (bodies-of rules goal .words k)) (call-at (t .calls) i .state) h } in
+        let (w, h, z) = Memᴰ·of-map (of-way i k) (ways t (body-of (bodies-of rules goal .words k (call-at (t .calls) i .action))) (call-at (t .calls) i .state)) n in
+        let f : AnswerFound t (of-way i k w) = record { call-in = l; fits = e; along = ways-out t (body-of (bodies-of rules goal .words k (call-at (t .calls) i .action))) (call-at (t .calls) i .state) h } in
         (subst (AnswerFound t) z f, ap (λ (y : AnswerRow). y .round) (sym z))
 
     pub answers-in : (x : AnswerRow) → AnswerFound t x → x .round ≡ r → List·Memᴰ x (found-answers rules goal r t)
@@ -188,9 +188,9 @@ module _ (rules goal : List ℕ) where
         let y : x ≡ of-way (x .call) (x .rule) (x .evidence, x .final) = λ i. record { call = x .call; final = x .final; rule = x .rule; evidence = x .evidence; round = e i } in
         each-in t (λ i s k body. map (of-way i k) (ways t body s)) (x .call) (x .rule) (f .call-in) (f .fits) (Memᴰ·cast y (Memᴰ·map (of-way (x .call) (x .rule)) (ways-in t (f .along))))
 
-    way-out : (i k : ℕ) (x : AnswerRow) → List·Memᴰ x (map (of-way i k) (ways t (body-of (bodies-of rules goal .words k)) (call-at (t .calls) i .state))) → (x .call ≡ i) × (x .rule ≡ k)
+    way-out : (i k : ℕ) (x : AnswerRow) → List·Memᴰ x (map (of-way i k) (ways t (body-of (bodies-of rules goal .words k (call-at (t .calls) i .action))) (call-at (t .calls) i .state))) → (x .call ≡ i) × (x .rule ≡ k)
     unfolding of-way
-    way-out i k x m = let (w, h, e) = Memᴰ·of-map (of-way i k) (ways t (body-of (bodies-of rules goal .words k)) (call-at (t .calls) i .state)) m in (ap (λ (y : AnswerRow). y .call) (sym e), ap (λ (y : AnswerRow). y .rule) (sym e))
+    way-out i k x m = let (w, h, e) = Memᴰ·of-map (of-way i k) (ways t (body-of (bodies-of rules goal .words k (call-at (t .calls) i .action))) (call-at (t .calls) i .state)) m in (ap (λ (y : AnswerRow). y .call) (sym e), ap (λ (y : AnswerRow). y .rule) (sym e))
 
     -- The answers are found in the order of their calls, the lower rule first, then the lesser evidence.
     pub answers-ordered : length rules / rule-width ≤ goal-rule → Ordered Prior (found-answers rules goal r t)
@@ -198,4 +198,4 @@ module _ (rules goal : List ℕ) where
     answers-ordered few = each-ordered t (λ i s k body. map (of-way i k) (ways t body s)) few
         (λ i j k l x y h m n. (let e = way-out i k x m .0 in let f = way-out j l y n .0 in inl (omega arith)))
         (λ i k l x y h m n. (let (a, c) = way-out i k x m in let (b, d) = way-out i l y n in inr (a ∙ sym b, inl (omega arith))))
-        (λ i k. ordered-map (of-way i k) (λ v w l. inr (refl, inr (refl, l))) (ways-ordered t (body-of (bodies-of rules goal .words k)) (call-at (t .calls) i .state)))
+        (λ i k. ordered-map (of-way i k) (λ v w l. inr (refl, inr (refl, l))) (ways-ordered t (body-of (bodies-of rules goal .words k (call-at (t .calls) i .action))) (call-at (t .calls) i .state)))

@@ -116,7 +116,7 @@ module _ (rules goal : List ℕ) (few : length rules / rule-width ≤ goal-rule)
       record {
         exists = omega (arith, c .found .call-in, prefix-calls p);
         fits = subst (λ (r : CallRow). bodies .fits (a .rule) (r .action) ≡ true) (sym e) (c .found .fits);
-        followed = subst (λ (r : CallRow). Follows (view (R n)) x (body-of (bodies .words (a .rule))) 0 (r .state)) (sym e)
+        followed = subst (λ (r : CallRow). Follows (view (R n)) x (body-of (bodies .words (a .rule) (r .action))) 0 (r .state)) (sym e)
             (along-follows p (after-inside (c .k)) x (c .behind) older 0 (λ j. ap (λ (i : ℕ). getD (a .evidence) i 0) (omega arith)) refl (c .found .along));
       }
     where
@@ -127,16 +127,19 @@ module _ (rules goal : List ℕ) (few : length rules / rule-width ≤ goal-rule)
           let r = answer-rounds rules goal few start (c .k) (answer-at (R (c .k) .answers) e) (at-member (R (c .k) .answers) e no-answer h) in
           omega (arith, c .round-is, ap (λ (r : AnswerRow). r .round) q)
 
+  abbrev body : ℕ → ℕ → List ℕ
+  body n x = bodies .words (answer-at (R n .answers) x .rule) (call-at (R n .calls) (answer-at (R n .answers) x .call) .action)
+
   -- by answers of smaller number and of smaller round.
-  pub after-smaller : (n x q : ℕ) → x < length (R n .answers) → q < length (bodies .words (answer-at (R n .answers) x .rule)) → is-call (getD (bodies .words (answer-at (R n .answers) x .rule)) q 0) ≡ true
+  pub after-smaller : (n x q : ℕ) → x < length (R n .answers) → q < length (body n x) → is-call (getD (body n x) q 0) ≡ true
       → (getD (answer-at (R n .answers) x .evidence) q 0 < x) × (answer-at (R n .answers) (getD (answer-at (R n .answers) x .evidence) q 0) .round < answer-at (R n .answers) x .round)
   after-smaller n x q l h w =
       let c = answer-came rules goal few start n x l in
       let a = answer-at (R n .answers) x in
       let t = R (c .k) in
-      let W = along-way t (view-shows t) (bodies .words (a .rule)) (c .found .along) in
-      let m : Leads (Of (view t) (length (t .answers))) (final (view t)) (calls (getD (bodies .words (a .rule)) q 0 % 256, W .st q)) (getD (a .evidence) q 0) (W .st (suc q)) =
-      subst (λ (f : Front State (ℕ × State)). Leads (Of (view t) (length (t .answers))) (final (view t)) f (getD (a .evidence) q 0) (W .st (suc q))) (move-call (getD (bodies .words (a .rule)) q 0) (W .st q) w) (W .edges q h .1) in
+      let W = along-way t (view-shows t) (body n x) (c .found .along) in
+      let m : Leads (Of (view t) (length (t .answers))) (final (view t)) (calls (getD (body n x) q 0 % 256, W .st q)) (getD (a .evidence) q 0) (W .st (suc q)) =
+      subst (λ (f : Front State (ℕ × State)). Leads (Of (view t) (length (t .answers))) (final (view t)) f (getD (a .evidence) q 0) (W .st (suc q))) (move-call (getD (body n x) q 0) (W .st q) w) (W .edges q h .1) in
       let b : getD (a .evidence) q 0 < length (t .answers) = m .0 .below in
       let e = prefix-answer (after-prefix rules goal few start (c .k) n (omega (arith, c .earlier))) (getD (a .evidence) q 0) b in
       let r = answer-rounds rules goal few start (c .k) (answer-at (t .answers) (getD (a .evidence) q 0)) (at-member (t .answers) (getD (a .evidence) q 0) no-answer b) in

@@ -9,6 +9,7 @@ use mathlib.Core.Logic.{_⊎_, inl, inr}
 use lib.ListN.{getD, length, length-map}
 use lib.Seq.{ext-getD}
 use Rattle.steps.specs.State.{State}
+use Rattle.steps.specs.Run.{Goal}
 use Rattle.steps.specs.Words.{body-of}
 use Rattle.records.specs.Records.{Bodies, bodies-of}
 use Rattle.records.proofs.Growth.{Tables, Inside, grew-refl}
@@ -29,8 +30,9 @@ module _ (rules goal : List ℕ) where
   abbrev bodies : Bodies
   bodies = bodies-of rules goal
 
+  -- the step words of a rule, the same for every action
   abbrev body : ℕ → List ℕ
-  body rule = bodies .words rule
+  body rule = bodies .words rule Goal
 
   -- evidence by places as a list
   abbrev listed : (ℕ → ℕ) → ℕ → List ℕ

@@ -55,15 +55,19 @@ module _ (bodies : Bodies) (calls : List ℕ) (n : ℕ) (answers : List ℕ) (m 
       by j i k e h (yes l) = ap (λ (j : ℕ). getD calls j 0) e ∙ word i k l h ∙ ap (λ (j : ℕ). getD (call-words (rows .calls)) j 0) (sym e)
       by j i k e h (no l) = s .past j (omega arith) ∙ sym (List·getD-eq-default (call-words (rows .calls)) 0 (omega (arith, call-words-length (rows .calls), rows-calls bodies t)))
 
+  -- the step words of record x
+  abbrev body-at : ℕ → List ℕ
+  body-at x = bodies .words (t .answers .rule x) (t .calls .action (t .answers .call x))
+
   -- Evidence words past a body's steps are 0, and it has at most 16 steps.
   abbrev pub Unused : Type 0
-  Unused = (x : ℕ) → x < m → (length (bodies .words (answer-table answers m .rule x)) ≤ 16) × ((q : ℕ) → length (bodies .words (answer-table answers m .rule x)) ≤ q → q < 16 → answer-table answers m .evidence x q ≡ 0)
+  Unused = (x : ℕ) → x < m → (length (body-at x) ≤ 16) × ((q : ℕ) → length (body-at x) ≤ q → q < 16 → answer-table answers m .evidence x q ≡ 0)
 
   pub rows-short : Unused → Short (rows .answers)
   unfolding rows-of answer-row
   rows-short unused a k =
       let (x, p, q, e) = numbers-member (answer-row bodies t) 0 m k in
-      subst (λ (a : AnswerRow). length (a .evidence) ≤ 16) (sym e) (omega (arith, numbers-length (answer-table answers m .evidence x) 0 (length (bodies .words (answer-table answers m .rule x))), unused x (omega arith) .0))
+      subst (λ (a : AnswerRow). length (a .evidence) ≤ 16) (sym e) (omega (arith, numbers-length (answer-table answers m .evidence x) 0 (length (body-at x)), unused x (omega arith) .0))
 
   pub answers-read : Stored answer-width answers m → Unused → answers ≡ filled (length answers) (answer-words (rows .answers))
   unfolding answer-row
@@ -77,11 +81,11 @@ module _ (bodies : Bodies) (calls : List ℕ) (n : ℕ) (answers : List ℕ) (m 
       below x l = omega (arith, rows-answers bodies t)
 
       evidence : (x q : ℕ) → x < m → q < 16 → getD answers (answer-width * x + 3 + q) 0 ≡ getD (answer-row bodies t x .evidence) q 0
-      evidence x q l h = cases (decLt q (length (bodies .words (answer-table answers m .rule x))))
+      evidence x q l h = cases (decLt q (length (body-at x)))
         where
-          cases : Dec (q < length (bodies .words (answer-table answers m .rule x))) → getD answers (answer-width * x + 3 + q) 0 ≡ getD (map (answer-table answers m .evidence x) (numbers 0 (length (bodies .words (answer-table answers m .rule x))))) q 0
-          cases (yes k) = sym (numbers-at (answer-table answers m .evidence x) 0 0 (length (bodies .words (answer-table answers m .rule x))) q k ∙ ap (answer-table answers m .evidence x) (omega arith))
-          cases (no k) = unused x l .1 q (omega arith) h ∙ sym (List·getD-eq-default (map (answer-table answers m .evidence x) (numbers 0 (length (bodies .words (answer-table answers m .rule x))))) 0 (omega (arith, numbers-length (answer-table answers m .evidence x) 0 (length (bodies .words (answer-table answers m .rule x))))))
+          cases : Dec (q < length (body-at x)) → getD answers (answer-width * x + 3 + q) 0 ≡ getD (map (answer-table answers m .evidence x) (numbers 0 (length (body-at x)))) q 0
+          cases (yes k) = sym (numbers-at (answer-table answers m .evidence x) 0 0 (length (body-at x)) q k ∙ ap (answer-table answers m .evidence x) (omega arith))
+          cases (no k) = unused x l .1 q (omega arith) h ∙ sym (List·getD-eq-default (map (answer-table answers m .evidence x) (numbers 0 (length (body-at x)))) 0 (omega (arith, numbers-length (answer-table answers m .evidence x) 0 (length (body-at x)))))
 
       word : (x k : ℕ) → x < m → k < 20 → getD answers (answer-width * x + k) 0 ≡ getD (answer-words (rows .answers)) (answer-width * x + k) 0
       word x zero l h =

@@ -65,23 +65,23 @@ module _ (rules goal : List ℕ) (few : length rules / rule-width ≤ goal-rule)
         let (x, l, q) = member-at no-answer m in
         (x, l, record { has-call = ap (λ (c : AnswerRow). c .call) q ∙ ap (λ (k : Key). k .0) e; has-final = ap (λ (c : AnswerRow). c .final) q ∙ ap (λ (k : Key). k .1) e })
 
-    next-closed : (row i : ℕ) → row < length (t .calls) → bodies .fits i (call-at (t .calls) row .action) ≡ true → ClosedAt (bodies .words i) (view u) (length (t .answers)) row
+    next-closed : (row i : ℕ) → row < length (t .calls) → bodies .fits i (call-at (t .calls) row .action) ≡ true → ClosedAt (bodies .words i (call-at (t .calls) row .action)) (view u) (length (t .answers)) row
     next-closed row i l f p s k = record {
-      ends = λ e. (let (es, w) = reach-along t (view-shows t) (bodies .words i) down e in
+      ends = λ e. (let (es, w) = reach-along t (view-shows t) (bodies .words i (call-at (t .calls) row .action)) down e in
           held-answer (record { call = row; final = s; rule = i; evidence = es; round = 0 }) (record { call-in = l; fits = f; along = w }));
-      called = λ h. known-of (HeldCall (view u)) (move (getD (bodies .words i) p 0) s)
-          (λ c e. held-call c (record { row = row; row-in = l; rule = i; fits = f; comes = reach-comes t (view-shows t) (bodies .words i) down h e }));
+      called = λ h. known-of (HeldCall (view u)) (move (getD (bodies .words i (call-at (t .calls) row .action)) p 0) s)
+          (λ c e. held-call c (record { row = row; row-in = l; rule = i; fits = f; comes = reach-comes t (view-shows t) (bodies .words i (call-at (t .calls) row .action)) down h e }));
     }
       where
-        down : Reach (EdgeT (view t) (length (t .answers)) (bodies .words i)) 0 (call-at (t .calls) row .state) p s
-        down = subst (λ (c : CallRow). Reach (EdgeT (view t) (length (t .answers)) (bodies .words i)) 0 (c .state) p s) (prefix-call (after-next rules goal few start n) row l)
-            (reach-down (prefix-grew (after-next rules goal few start n)) (length (t .answers)) (omega arith) (after-inside rules goal few start n) (bodies .words i) k)
+        down : Reach (EdgeT (view t) (length (t .answers)) (bodies .words i (call-at (t .calls) row .action))) 0 (call-at (t .calls) row .state) p s
+        down = subst (λ (c : CallRow). Reach (EdgeT (view t) (length (t .answers)) (bodies .words i (call-at (t .calls) row .action))) 0 (c .state) p s) (prefix-call (after-next rules goal few start n) row l)
+            (reach-down (prefix-grew (after-next rules goal few start n)) (length (t .answers)) (omega arith) (after-inside rules goal few start n) (bodies .words i (call-at (t .calls) row .action)) k)
 
     -- One that adds nothing leaves closed tables.
     pub still-whole : u ≡ t → Whole bodies (Among ((Goal, start) ∷ [])) 0 (view t)
     still-whole still = record {
       valid = after-valid rules goal few start n;
-      closed = λ row z l i f. subst (λ (v : Rows). ClosedAt (bodies .words i) (view v) (length (t .answers)) row) still (next-closed row i l f);
+      closed = λ row z l i f. subst (λ (v : Rows). ClosedAt (bodies .words i (call-at (t .calls) row .action)) (view v) (length (t .answers)) row) still (next-closed row i l f);
     }
 
 -- The rows of a settled run hold exactly the run's calls and answers; the goal's answers are its ends.

@@ -35,7 +35,7 @@ after-short rules goal few start proper n a m =
     let (x, l, e) = member-at no-answer m in
     let c = answer-came rules goal few start n x l in
     let r = answer-at (after-round rules goal start n .answers) x in
-    let k : length (r .evidence) ≤ 16 = omega (arith, along-long (after-round rules goal start (c .k)) (c .found .along), length-map (bodies-of rules goal .words (r .rule)) step-of, proper .short (r .rule) (call-at (after-round rules goal start (c .k) .calls) (r .call) .action) (c .found .fits)) in
+    let k : length (r .evidence) ≤ 16 = omega (arith, along-long (after-round rules goal start (c .k)) (c .found .along), length-map (bodies-of rules goal .words (r .rule) (call-at (after-round rules goal start (c .k) .calls) (r .call) .action)) step-of, proper .short (r .rule) (call-at (after-round rules goal start (c .k) .calls) (r .call) .action) (c .found .fits)) in
     subst (λ (a : AnswerRow). length (a .evidence) ≤ 16) e k
 
 module _ {fluents actions : ℕ} (rules goal : List ℕ) (start : State) (acc : AcceptedWords fluents actions rules goal) (n : ℕ) (settled : Settled rules goal start n) (clen alen : ℕ) where

@@ -71,7 +71,7 @@ module _ (bodies : Bodies) where
     call = b .answers .call x;
     final = b .answers .final x;
     rule = b .answers .rule x;
-    evidence = map (b .answers .evidence x) (numbers 0 (length (bodies .words (b .answers .rule x))));
+    evidence = map (b .answers .evidence x) (numbers 0 (length (bodies .words (b .answers .rule x) (b .calls .action (b .answers .call x)))));
     round = b .answers .round x;
   }
 
@@ -110,19 +110,26 @@ module _ (bodies : Bodies) where
         at : (x : ℕ) → x < b .answers .count → call-at (rows-of b .calls) (answer-at (rows-of b .answers) x .call) ≡ call-row b (b .answers .call x)
         at x l = ap (λ (a : AnswerRow). call-at (rows-of b .calls) (a .call)) (rows-answer x l) ∙ rows-call (b .answers .call x) (inside x l)
 
+  -- the step words of record x
+  abbrev body-at : Tables → ℕ → List ℕ
+  body-at b x = bodies .words (b .answers .rule x) (b .calls .action (b .answers .call x))
+
   -- ---- records that stay as they were
   module _ (u v : Tables) (g : Grew u v) where
     call-row-kept : (i : ℕ) → i < u .calls .count → call-row v i ≡ call-row u i
     unfolding call-row
     call-row-kept i l = λ k. record { action = g .action-same l k; state = g .state-same l k; round = g .call-round l k }
 
-    answer-row-kept : (x : ℕ) → x < u .answers .count → length (bodies .words (u .answers .rule x)) ≤ 16 → answer-row v x ≡ answer-row u x
+    answer-row-kept : (x : ℕ) → x < u .answers .count → u .answers .call x < u .calls .count → length (body-at u x) ≤ 16 → answer-row v x ≡ answer-row u x
     unfolding answer-row
-    answer-row-kept x l short = λ k. record { call = g .call-same l k; final = g .final-same l k; rule = g .rule-same l k; evidence = same k; round = g .answer-round l k }
+    answer-row-kept x l i short = λ k. record { call = g .call-same l k; final = g .final-same l k; rule = g .rule-same l k; evidence = same k; round = g .answer-round l k }
       where
-        same : map (v .answers .evidence x) (numbers 0 (length (bodies .words (v .answers .rule x)))) ≡ map (u .answers .evidence x) (numbers 0 (length (bodies .words (u .answers .rule x))))
-        same = ap (λ (k : ℕ). map (v .answers .evidence x) (numbers 0 (length (bodies .words k)))) (g .rule-same l)
-            ∙ numbers-same (v .answers .evidence x) (u .answers .evidence x) 0 (length (bodies .words (u .answers .rule x))) (λ q h k. g .evidence-same q l (omega arith))
+        same-body : body-at v x ≡ body-at u x
+        same-body = ap₂ (bodies .words) (g .rule-same l) (ap (v .calls .action) (g .call-same l) ∙ g .action-same i)
+
+        same : map (v .answers .evidence x) (numbers 0 (length (body-at v x))) ≡ map (u .answers .evidence x) (numbers 0 (length (body-at u x)))
+        same = ap (λ (ws : List ℕ). map (v .answers .evidence x) (numbers 0 (length ws))) same-body
+            ∙ numbers-same (v .answers .evidence x) (u .answers .evidence x) 0 (length (body-at u x)) (λ q h k. g .evidence-same q l (omega arith))
 
 -- ---- a round by record numbers
 
@@ -134,7 +141,7 @@ module _ (rules goal : List ℕ) where
   -- the answers with a justification as good as any; and every record of b is closed under every rule, with the answers of b.
   pub record Left (r : ℕ) (b u : Tables) : Type 0 where
     pub inside : Inside b (b .answers .count)
-    pub short : (x : ℕ) → x < b .answers .count → length (bodies .words (b .answers .rule x)) ≤ 16
+    pub short : (x : ℕ) → x < b .answers .count → length (bodies .words (b .answers .rule x) (b .calls .action (b .answers .call x))) ≤ 16
     pub grew : Grew b u
     pub calls-once : CallsOnce (u .calls)
     pub answers-once : AnswersOnce (u .answers)
@@ -143,7 +150,7 @@ module _ (rules goal : List ℕ) where
     pub call-found : (i : ℕ) → b .calls .count ≤ i → i < u .calls .count → CallFound rules goal (rows-of bodies b) (u .calls .action i, u .calls .state i) × (u .calls .round i ≡ r)
     pub answer-found : (x : ℕ) → b .answers .count ≤ x → x < u .answers .count → AnswerFound rules goal (rows-of bodies b) (answer-row bodies u x) × (u .answers .round x ≡ r)
     pub best : (x : ℕ) (y : AnswerRow) → b .answers .count ≤ x → x < u .answers .count → AnswerFound rules goal (rows-of bodies b) y → answer-key y ≡ (u .answers .call x, u .answers .final x) → AsGood (answer-row bodies u x) y
-    pub closed : (row i : ℕ) → row < b .calls .count → bodies .fits i (b .calls .action row) ≡ true → ClosedAt (bodies .words i) u (b .answers .count) row
+    pub closed : (row i : ℕ) → row < b .calls .count → bodies .fits i (b .calls .action row) ≡ true → ClosedAt (bodies .words i (b .calls .action row)) u (b .answers .count) row
 
   module _ {r : ℕ} {b u : Tables} (L : Left r b u) where
     abbrev n : ℕ
@@ -162,7 +169,7 @@ module _ (rules goal : List ℕ) where
     old-call i l = call-row-kept bodies b u (L .grew) i l
 
     old-answer : (x : ℕ) → x < m → answer-row bodies u x ≡ answer-row bodies b x
-    old-answer x l = answer-row-kept bodies b u (L .grew) x l (L .short x l)
+    old-answer x l = answer-row-kept bodies b u (L .grew) x l (L .inside x l) (L .short x l)
 
     calls-are : rows-of bodies u .calls ≡ rows-of bodies b .calls ++ map (call-row bodies u) (numbers n (n′ - n))
     unfolding rows-of
@@ -200,7 +207,7 @@ module _ (rules goal : List ℕ) where
     all-calls d f =
         let l : f .row < n = omega (arith, f .row-in, rows-calls bodies b) in
         let e = rows-call bodies b (f .row) l in
-        let ws = bodies .words (f .rule) in
+        let ws = bodies .words (f .rule) (b .calls .action (f .row)) in
         let fits : bodies .fits (f .rule) (b .calls .action (f .row)) ≡ true = subst (λ (c : CallRow). bodies .fits (f .rule) (c .action) ≡ true) e (f .fits) in
         let w = subst (λ (c : CallRow). Comes (rows-of bodies b) (body-of ws) (c .state) d) (e ∙ sym (old-call (f .row) l)) (f .comes) in
         let (p, s, reach, h, z) = comes-reach (rows-of bodies b) shows ws 0 ws refl w in
@@ -211,7 +218,7 @@ module _ (rules goal : List ℕ) where
     all-answers a f =
         let l : a .call < n = omega (arith, f .call-in, rows-calls bodies b) in
         let e = rows-call bodies b (a .call) l in
-        let ws = bodies .words (a .rule) in
+        let ws = bodies .words (a .rule) (b .calls .action (a .call)) in
         let fits : bodies .fits (a .rule) (b .calls .action (a .call)) ≡ true = subst (λ (c : CallRow). bodies .fits (a .rule) (c .action) ≡ true) e (f .fits) in
         let w = subst (λ (c : CallRow). Along (rows-of bodies b) (body-of ws) (c .state) (a .evidence) (a .final)) (e ∙ sym (old-call (a .call) l)) (f .along) in
         answer-keyed (a .call) (a .final) (L .closed (a .call) (a .rule) l fits (length ws) (a .final) (along-reach (rows-of bodies b) shows ws 0 ws (omega arith) refl w) .ends refl)

@@ -48,10 +48,10 @@ module _ (rules goal : List ℕ) (calls : List ℕ) (n : ℕ) (answers : List �
     unused : Unused bodies calls n answers m
     unused x l = (
       short,
-      λ q h g. follows-unused (valid .justified x l .followed) q (omega (arith, length-map (bodies .words (u .answers .rule x)) step-of)) g,
+      λ q h g. follows-unused (valid .justified x l .followed) q (omega (arith, length-map (bodies .words (u .answers .rule x) (u .calls .action (u .answers .call x))) step-of)) g,
     )
       where
-        short : length (bodies .words (u .answers .rule x)) ≤ 16
+        short : length (bodies .words (u .answers .rule x) (u .calls .action (u .answers .call x))) ≤ 16
         short = proper .short (u .answers .rule x) (u .calls .action (u .answers .call x)) (valid .justified x l .fits)
 
     -- Neither order nor justification is left to the program.

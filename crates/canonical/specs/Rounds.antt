@@ -66,8 +66,9 @@ module _ (rules goal : List ℕ) where
   unfoldable pub each-body : {B : Type 0} → Rows → (ℕ → State → ℕ → Body → List B) → List B
   unfolding flatMap rules-of numbers
   each-body t f =
-      flatMap (λ (i : ℕ). flatMap (λ (k : ℕ). f i (call-at (t .calls) i .state) k (body-of (bodies-of rules goal .words k)))
-      (rules-of (call-at (t .calls) i .action))) (numbers 0 (length (t .calls)))
+      flatMap (λ (i : ℕ). let c = call-at (t .calls) i in
+      flatMap (λ (k : ℕ). f i (c .state) k (body-of (bodies-of rules goal .words k (c .action)))) (rules-of (c .action)))
+      (numbers 0 (length (t .calls)))
 
   -- What round r finds over the rows so far: "each round walks every body of every call with only the answers of earlier rounds".
   unfoldable pub found-calls : ℕ → Rows → List CallRow

@@ -26,7 +26,7 @@ module _ (calls : Calls) (answers : Answers) (n : ℕ) (bodies : Bodies) where
     no-rule e = rw (lt-ltb _ _ exists, e) refl
 
     pub by-walk : {b : Bool} → bodies .fits (answers .rule n) (calls .action (answers .call n)) ≡ true
-        → b ≡ follows calls answers n (body-of (bodies .words (answers .rule n))) 0 (calls .state (answers .call n)) → b ≡ justified calls answers n bodies
+        → b ≡ follows calls answers n (body-of (bodies .words (answers .rule n) (calls .action (answers .call n)))) 0 (calls .state (answers .call n)) → b ≡ justified calls answers n bodies
     unfolding justified
     by-walk e w = rw (lt-ltb _ _ exists, e) w
 

@@ -136,7 +136,7 @@ module _ (calls₀ : List ℕ) (n₀ : ℕ) (answers₀ : List ℕ) (m₀ : ℕ)
       valid = valid-now resorted proper valid (S .valid) M;
       walked-in = S .walked-in;
       seen-in = S .seen-in;
-      earlier = λ r f h i e. noted-now (M .grew) (inside-of valid) (bodies .words i) r h (S .earlier r f h i (rw (call-stays r h .action) at e));
+      earlier = λ r f h i e. rw (call-stays r h .action) (noted-now (M .grew) (inside-of valid) (bodies .words i (u .calls .action r)) r h (S .earlier r f h i (rw (call-stays r h .action) at e)));
     }
 
     pub sooner-ordered : (k : ℕ) → ((x : ℕ) → x < m → u .answers .round x < k) → (x : ℕ) → x < m → v .answers .round x < k
@@ -150,8 +150,8 @@ module _ (calls₀ : List ℕ) (n₀ : ℕ) (answers₀ : List ℕ) (m₀ : ℕ)
       calls-once = once;
       answers-once = answers-once;
       gathered = record {
-        made = made-now resorted more-calls more-answers (λ x l. proper .short _ _ (valid-u .justified x l .fits)) rows-rise (G .made);
-        closed = λ row i l e. closed-now resorted more-calls more-answers (G .made .grew) (inside-of valid) (bodies .words i) row l (G .closed row i l e);
+        made = made-now resorted more-calls more-answers proper rows-rise (G .made);
+        closed = λ row i l e. closed-now resorted more-calls more-answers (G .made .grew) (inside-of valid) (bodies .words i (b .calls .action row)) row l (G .closed row i l e);
       };
       calls-rise =
           strictly-rising (omega arith) (cs .sorted)

@@ -107,7 +107,7 @@ done-or {row = row} h r = elim (decLt r row) [ yes l ↦ inl l | no n ↦ inr (i
 -- ---- the loops' invariants; the rules have the numbers `number 0`, `number 1`, .. below `total`
 module _ (bodies : Bodies) (Root : ℕ → State → Type 0) where
   abbrev pub Closing : Tables → List ℕ → ℕ → ℕ → ℕ → Type 0
-  Closing t uses known row i = bodies .fits i (t .calls .action row) ≡ true → NotedAt (bodies .words i) t uses known row
+  Closing t uses known row i = bodies .fits i (t .calls .action row) ≡ true → NotedAt (bodies .words i (t .calls .action row)) t uses known row
 
   -- At a round's start: the records from `first` up to `walked` were walked before, with the answers below `seen`.
   pub record Round (first walked seen : ℕ) (t : Tables) (uses : List ℕ) : Type 0 where
@@ -133,7 +133,8 @@ module _ (bodies : Bodies) (Root : ℕ → State → Type 0) where
 
   closing-up : {b u : Tables} {uses uses′ : List ℕ} {known : ℕ} → Grew b u → UsesKept uses uses′ → known ≤ b .answers .count → Inside b (b .answers .count) → (row i : ℕ) → row < b .calls .count
       → Closing b uses known row i → Closing u uses′ known row i
-  closing-up {known = known} g w enough inside row i l c e = noted-up g known enough inside (bodies .words i) w row l (c (rw (g .action-same l) at e))
+  closing-up {b} {known = known} g w enough inside row i l c e =
+      rw (g .action-same l) (noted-up g known enough inside (bodies .words i (b .calls .action row)) w row l (c (rw (g .action-same l) at e)))
 
   rows-up : {first walked seen low high top old round rows known row : ℕ} {warm : Bool} {begun : Begin} {b u : Tables} {uses uses′ : List ℕ} → Grew b u → UsesGrew uses uses′ → Valid bodies Root u → Made bodies round (begun .tables) u → row ≤ rows → ((x : ℕ) → known ≤ x → x < u .answers .count → u .answers .call x ≤ row)
       → Rows first walked seen low high top old warm round rows known row begun b uses → Rows first walked seen low high top old warm round rows known row begun u uses′
@@ -182,7 +183,7 @@ module _ (bodies : Bodies) (Root : ℕ → State → Type 0) where
     latest = λ x h l. absurd (omega arith);
     rows-in = omega arith;
     known-in = omega arith;
-    closed = λ r f h p i e. (let q = P .quiet r h (⊎-elim inl (λ z. z) p) in noted-later (S .valid) uses seen (t .answers .count) r (omega arith) (q .none) (bodies .words i) (S .earlier r f (q .old) i e));
+    closed = λ r f h p i e. (let q = P .quiet r h (⊎-elim inl (λ z. z) p) in noted-later (S .valid) uses seen (t .answers .count) r (omega arith) (q .none) (bodies .words i (t .calls .action r)) (S .earlier r f (q .old) i e));
   }
 
   -- after a round
@@ -218,7 +219,7 @@ module _ (bodies : Bodies) (Root : ℕ → State → Type 0) where
     rules-skip {rule = rule} R n = record { rows-closed = R .rows-closed; rules-closed = λ k h. ⊎-elim (λ l. R .rules-closed k l) (λ (z : k ≡ rule). λ e. absurd (n (rw z at e))) (last-one h) }
 
     -- a walk that is over
-    pub rules-next : {first walked seen low high top old round rows known row rule walk i : ℕ} {warm : Bool} {begun : Begin} {b u : Tables} {P : Before} {body marks uses uses′ : List ℕ} → Rules first walked seen low high top old warm round rows known row rule begun b uses → row < rows → i ≡ number rule → body ≡ bodies .words i
+    pub rules-next : {first walked seen low high top old round rows known row rule walk i : ℕ} {warm : Bool} {begun : Begin} {b u : Tables} {P : Before} {body marks uses uses′ : List ℕ} → Rules first walked seen low high top old warm round rows known row rule begun b uses → row < rows → i ≡ number rule → body ≡ bodies .words i (b .calls .action row)
         → UsesGrew uses uses′ → Made bodies round (begun .tables) u → ((x : ℕ) → known ≤ x → x < u .answers .count → u .answers .call x ≤ row) → Over bodies Root b known i row walk P body u marks uses′ → Rules first walked seen low high top old warm round rows known row (rule + 1) begun u uses′
     rules-next {known = known} {row} {rule} {b = b} {u} {body} R l e w g m late o =
         let S = R .rows-closed in
@@ -227,7 +228,7 @@ module _ (bodies : Bodies) (Root : ℕ → State → Type 0) where
         record {
           rows-closed = rows-up (o .grew) g (o .valid) m (omega arith) late S;
           rules-closed = λ k j. ⊎-elim (λ m. closing-up (o .grew) (kept-of g) (S .known-in) i row (number k) h (R .rules-closed k m))
-              (λ (z : k ≡ rule). λ f. rw (z, ← e, ← w) (noted-over (o .grew) known (S .known-in) i body h o)) (last-one j);
+              (λ (z : k ≡ rule). λ f. rw (z, ← e, o .grew .action-same h, ← w) (noted-over (o .grew) known (S .known-in) i body h o)) (last-one j);
         }
 
     -- all rules have been walked
@@ -250,14 +251,14 @@ module _ (bodies : Bodies) (Root : ℕ → State → Type 0) where
 
   -- what an earlier walk of the record left
   pub rows-past : {first walked seen low high top old round rows known row : ℕ} {warm : Bool} {begun : Begin} {t : Tables} {uses : List ℕ} → Rows first walked seen low high top old warm round rows known row begun t uses → (i : ℕ) → bodies .fits i (t .calls .action row) ≡ true
-      → first ≤ row → row < old → Past t (begun .notes) seen known warm row (bodies .words i)
+      → first ≤ row → row < old → Past t (begun .notes) seen known warm row (bodies .words i (t .calls .action row))
   rows-past {row = row} R i e f h = let (l, k) = R .lit row h in record { swept = R .before .earlier row f l i e; lit = k }
 
   -- a round that added nothing
   pub rows-finished : {first walked seen low high top old round rows known row : ℕ} {warm : Bool} {begun : Begin} {t : Tables} {uses : List ℕ} → Rows first walked seen low high top old warm round rows known row begun t uses → top ≤ row → t .calls .count + t .answers .count ≡ rows + known → Whole bodies Root first t
   rows-finished {first} {rows = rows} {known} {row} {t} {uses} R h e =
       let b : known ≡ t .answers .count = omega (arith, R .rows-in, R .known-in) in
-      record { valid = R .before .valid; closed = λ r f l i z. noted-closed (bodies .words i) t uses (t .answers .count) r (rw b at (R .closed r f (omega (arith, R .rows-in, R .known-in)) (done-or h r) i z)) }
+      record { valid = R .before .valid; closed = λ r f l i z. noted-closed (bodies .words i (t .calls .action r)) t uses (t .answers .count) r (rw b at (R .closed r f (omega (arith, R .rows-in, R .known-in)) (done-or h r) i z)) }
 
   -- A round that walked all records has gathered all, and leaves only answers of rounds up to its own.
   pub rows-gathered : {walked seen low high top old round rows known row : ℕ} {warm : Bool} {begun : Begin} {t : Tables} {uses : List ℕ} → Rows 0 walked seen low high top old warm round rows known row begun t uses → top ≤ row → Gathered bodies round (begun .tables) t
@@ -267,7 +268,7 @@ module _ (bodies : Bodies) (Root : ℕ → State → Type 0) where
         made = S .made;
         closed = λ r i l e.
             (let f : bodies .fits i (t .calls .action r) ≡ true = rw (S .made .grew .action-same l) e in
-            rw (S .all-known) at (noted-closed (bodies .words i) t uses known r (R .closed r (omega arith) (omega (arith, R .base-rows)) (done-or h r) i f)));
+            rw (S .all-known, S .made .grew .action-same l) at (noted-closed (bodies .words i (t .calls .action r)) t uses known r (R .closed r (omega arith) (omega (arith, R .base-rows)) (done-or h r) i f)));
       }
 
   pub rows-sooner : {first walked seen low high top old round rows known row : ℕ} {warm : Bool} {begun : Begin} {t : Tables} {uses : List ℕ} → Rows first walked seen low high top old warm round rows known row begun t uses
@@ -282,7 +283,7 @@ module _ (bodies : Bodies) (Root : ℕ → State → Type 0) where
   -- the rules of lower numbers give no more from the record, where they are walked in the order of their numbers
   pub rules-lower : (number : ℕ → ℕ) {first walked seen low high top old round rows known row rule : ℕ} {warm : Bool} {begun : Begin} {t : Tables} {uses : List ℕ} → Rules number first walked seen low high top old warm round rows known row rule begun t uses
       → (i : ℕ) → (k : ℕ) × (k < rule) × (number k ≡ i) → bodies .fits i (t .calls .action row) ≡ true → (f : State)
-      → Reach (EdgeT t known (bodies .words i)) 0 (t .calls .state row) (length (bodies .words i)) f → Held t row f
+      → Reach (EdgeT t known (bodies .words i (t .calls .action row))) 0 (t .calls .state row) (length (bodies .words i (t .calls .action row))) f → Held t row f
   rules-lower number {known = known} {row} {t = t} {uses} R i (k, l, z) e f r =
-      let c : NotedAt (bodies .words i) t uses known row = rw z at (R .rules-closed k l (rw z e)) in
-      noted-closed (bodies .words i) t uses known row c (length (bodies .words i)) f r .ends refl
+      let c : NotedAt (bodies .words i (t .calls .action row)) t uses known row = rw z at (R .rules-closed k l (rw z e)) in
+      noted-closed (bodies .words i (t .calls .action row)) t uses known row c (length (bodies .words i (t .calls .action row))) f r .ends refl

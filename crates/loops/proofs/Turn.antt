@@ -125,10 +125,10 @@ pub record Given (bodies : Bodies) (Root : ℕ → State → Type 0) (b : Tables
   pub enough : known ≤ b .answers .count
   pub row-in : row < b .calls .count
   pub fits : bodies .fits rule (b .calls .action row) ≡ true
-  pub words : body ≡ bodies .words rule
+  pub words : body ≡ bodies .words rule (b .calls .action row)
   pub past : Old P row → Past b (P .notes) (P .seen) known (P .warm) row body
   pub lower : (i : ℕ) → i < rule → bodies .fits i (b .calls .action row) ≡ true → (f : State)
-      → Reach (EdgeT b known (bodies .words i)) 0 (b .calls .state row) (length (bodies .words i)) f → Held b row f
+      → Reach (EdgeT b known (bodies .words i (b .calls .action row))) 0 (b .calls .state row) (length (bodies .words i (b .calls .action row))) f → Held b row f
   pub row-old : row < P .base .calls .count
   pub row-last : Latest P row b
   pub since : Since bodies Root (P .round) (P .base) known b
@@ -241,14 +241,18 @@ module _ (bodies : Bodies) (Root : ℕ → State → Type 0) (b : Tables) (known
     pub turn-stuck : at < length body → is-call (getD body at 0) ≡ false → elementary (step-of (getD body at 0)) (s .0) ≡ stuck → Turned t marks uses chosen at s
     turn-stuck h l e = record { turning = T; done = done-stuck body b known walk (HeldUsed t uses row) (Held t row) from (T .walking) h l e }
 
+    -- the body as that of the record in the tables that the round began with
+    base-words : body ≡ bodies .words rule (P .base .calls .action row)
+    base-words = T .given .words ∙ ap (bodies .words rule) (T .given .since .made .grew .action-same (T .given .row-old))
+
     -- a way of the walk is one in the tables that the round began with
-    base-reach : (p : ℕ) (u : State) → Reach (EdgeT b known body) 0 (from .0) p u → Reach (EdgeT (P .base) (P .base .answers .count) (bodies .words rule)) 0 (P .base .calls .state row) p u
+    base-reach : (p : ℕ) (u : State) → Reach (EdgeT b known body) 0 (from .0) p u → Reach (EdgeT (P .base) (P .base .answers .count) (bodies .words rule (P .base .calls .action row))) 0 (P .base .calls .state row) p u
     base-reach p u r =
         let G = T .given in
         let S = G .since in
         let e : known ≤ P .base .answers .count = omega (arith, S .all-known) in
         let r′ = reach-down (S .made .grew) known e (λ x l. inside-of (S .base-valid) x (omega arith)) body r in
-        rw (S .all-known, S .made .grew .state-same (G .row-old), G .words) at r′
+        rw (S .all-known, S .made .grew .state-same (G .row-old), base-words) at r′
 
     -- ---- a call
     module _ (h : at < length body) (e : is-call (getD body at 0) ≡ true) where
@@ -273,8 +277,8 @@ module _ (bodies : Bodies) (Root : ℕ → State → Type 0) (b : Tables) (known
             place = at;
             state = s .0;
             way = r;
-            inside = rw (G .words) at h;
-            comes = subst (λ (ws : List ℕ). move (getD ws at 0) (s .0) ≡ calls (getD body at 0 % 256, s .0)) (G .words) (move-call (getD body at 0) (s .0) e);
+            inside = rw base-words at h;
+            comes = subst (λ (ws : List ℕ). move (getD ws at 0) (s .0) ≡ calls (getD body at 0 % 256, s .0)) base-words (move-call (getD body at 0) (s .0) e);
           }
 
       -- it stands in the table
@@ -440,41 +444,41 @@ module _ (bodies : Bodies) (Root : ℕ → State → Type 0) (b : Tables) (known
           record {
             row-in = G .row-old;
             fits = rw (S .made .grew .action-same (G .row-old)) at (G .fits);
-            way = rw (S .all-known, S .made .grew .state-same (G .row-old), G .words) at w;
+            way = rw (S .all-known, S .made .grew .state-same (G .row-old), base-words) at w;
           }
 
       -- and as well as any, where it is new: lower rules give nothing new, and the search comes along the least way
       end-best : NoAnswer (t .answers) row (s .0) → (rule′ : ℕ) (ev′ : ℕ → ℕ) → FoundBy bodies (P .base) (P .base .answers .count) row rule′ ev′ (s .0)
-          → AsGood (length (bodies .words rule)) rule (λ q. getD chosen q 0) rule′ ev′
+          → AsGood (length (bodies .words rule (P .base .calls .action row))) rule (λ q. getD chosen q 0) rule′ ev′
       end-best none rule′ ev′ F = by (decLt rule′ rule) (decLt rule rule′)
         where
           fits′ : bodies .fits rule′ (b .calls .action row) ≡ true
           fits′ = rw (T .given .since .made .grew .action-same (T .given .row-old)) (F .fits)
 
-          base-way : Way (EdgeT (P .base) known (bodies .words rule′)) ev′ (b .calls .state row) (length (bodies .words rule′)) (s .0)
-          base-way = rw (T .given .since .all-known, T .given .since .made .grew .state-same (T .given .row-old)) (F .way)
+          base-way : Way (EdgeT (P .base) known (bodies .words rule′ (b .calls .action row))) ev′ (b .calls .state row) (length (bodies .words rule′ (b .calls .action row))) (s .0)
+          base-way = rw (T .given .since .all-known, T .given .since .made .grew .state-same (T .given .row-old), T .given .since .made .grew .action-same (T .given .row-old)) (F .way)
 
-          way′ : Way (EdgeT b known (bodies .words rule′)) ev′ (b .calls .state row) (length (bodies .words rule′)) (s .0)
+          way′ : Way (EdgeT b known (bodies .words rule′ (b .calls .action row))) ev′ (b .calls .state row) (length (bodies .words rule′ (b .calls .action row))) (s .0)
           way′ = way-up (T .given .since .made .grew) known (omega (arith, T .given .since .all-known))
-              (λ x l. inside-of (T .given .since .base-valid) x (omega (arith, T .given .since .all-known))) (bodies .words rule′) base-way
+              (λ x l. inside-of (T .given .since .base-valid) x (omega (arith, T .given .since .all-known))) (bodies .words rule′ (b .calls .action row)) base-way
 
           same-rule : rule ≡ rule′ → Way (EdgeT b known body) ev′ (from .0) at (s .0)
           same-rule e =
               let z : at ≡ length body = omega (arith, T .walking .inside) in
-              let w : Way (EdgeT b known (bodies .words rule)) ev′ (from .0) (length (bodies .words rule)) (s .0) = rw e way′ in
+              let w : Way (EdgeT b known (bodies .words rule (b .calls .action row))) ev′ (from .0) (length (bodies .words rule (b .calls .action row))) (s .0) = rw e way′ in
               rw (z, T .given .words) w
 
           not-good : {l : ℕ} → GoodN b known body (HeldUsed t uses row) (Held t row) at (s .0, l) → ⊥
           not-good g = let (x, i, a) = g .ends (omega (arith, T .walking .inside)) in none x i a
 
-          by : Dec (rule′ < rule) → Dec (rule < rule′) → AsGood (length (bodies .words rule)) rule (λ q. getD chosen q 0) rule′ ev′
+          by : Dec (rule′ < rule) → Dec (rule < rule′) → AsGood (length (bodies .words rule (P .base .calls .action row))) rule (λ q. getD chosen q 0) rule′ ev′
           by (yes l) d =
-              let (x, i, a) = held-up (T .grew) row (s .0) (T .given .lower rule′ l fits′ (s .0) (way-reach {Edge′ = EdgeT b known (bodies .words rule′)} way′ (λ q k. way′ .edges q k))) in
+              let (x, i, a) = held-up (T .grew) row (s .0) (T .given .lower rule′ l fits′ (s .0) (way-reach {Edge′ = EdgeT b known (bodies .words rule′ (b .calls .action row))} way′ (λ q k. way′ .edges q k))) in
               absurd (none x i a)
           by (no n) (yes l) = inl l
           by (no n) (no m) =
               let e : rule ≡ rule′ = omega arith in
-              let z : at ≡ length (bodies .words rule) = omega (arith, T .walking .inside, ap length (T .given .words)) in
+              let z : at ≡ length (bodies .words rule (P .base .calls .action row)) = omega (arith, T .walking .inside, ap length base-words) in
               inr (e, rw z at (least (EdgeN b known body) (leads step-at (of-at b known) (final-at b) 0 body) (T .walking .search) (way-numbered b known body (same-rule e)) not-good))
 
       -- the answers chosen are of earlier rounds
@@ -495,11 +499,8 @@ module _ (bodies : Bodies) (Root : ℕ → State → Type 0) (b : Tables) (known
           record {
             exists = rw (p .new .has-call) (omega (arith, G .row-in, T .grew .calls-more));
             fits = rw (p .new-rule, p .new .has-call, T .grew .action-same (G .row-in)) (G .fits);
-            followed = rw (p .new-rule, p .new .has-call, T .grew .state-same (G .row-in), ← (G .words)) w;
+            followed = rw (p .new-rule, p .new .has-call, T .grew .state-same (G .row-in), T .grew .action-same (G .row-in), ← (G .words)) w;
           }
-
-      valid-short : (x : ℕ) → x < t .answers .count → length (bodies .words (t .answers .rule x)) ≤ 16
-      valid-short x l = T .given .proper .short _ _ (T .valid .justified x l .fits)
 
       latest-more : {answers′ : Answers} → AnswerAdded (t .answers) row (s .0) rule chosen (P .round) answers′ → Latest P row (tables (t .calls) answers′)
       latest-more {answers′} p x h l = by (decLt x (t .answers .count))
@@ -512,7 +513,7 @@ module _ (bodies : Bodies) (Root : ℕ → State → Type 0) (b : Tables) (known
       turn-ended (answer-stood f k z) n = rw z (record { turning = T; done = done-end body b known walk (HeldUsed t uses row) (Held t row) from (T .walking) h k })
       turn-ended {answers′} (answer-added f l none p) n =
           let u : Tables = tables (t .calls) answers′ in
-          let w : Turning u marks uses chosen at s = turning-up T (grew-answer t p) (uses-refl uses) (valid-answer (T .valid) (T .given .proper) p none (end-justified p)) (made-answer (T .made) p valid-short (rw (T .given .words) at (body-short (T .given))) end-found (end-best none) (T .latest)) (latest-more p) in
+          let w : Turning u marks uses chosen at s = turning-up T (grew-answer t p) (uses-refl uses) (valid-answer (T .valid) (T .given .proper) p none (end-justified p)) (made-answer (T .made) p (T .given .proper) end-found (end-best none) (T .latest)) (latest-more p) in
           record { turning = w; done = done-end body b known walk (HeldUsed u uses row) (Held u row) from (w .walking) h (t .answers .count, omega (arith, p .count), p .new) }
       turn-ended (answer-no-room f i none z) n = absurd (true-not-false (sym f ∙ n))
 

@@ -21,12 +21,12 @@ use Rattle.records.proofs.Growth.{Tables, Grew, Inside}
 
 -- The bodies of an action: those of the rule numbers that go with it.
 abbrev pub Has : Bodies → ℕ → Body → Type 0
-Has bodies a body = (i : ℕ) × (bodies .fits i a ≡ true) × (body ≡ body-of (bodies .words i))
+Has bodies a body = (i : ℕ) × (bodies .fits i a ≡ true) × (body ≡ body-of (bodies .words i a))
 
 -- Bodies that are accepted: at most 16 steps, each of a fluent that a state has.
 pub record Proper (bodies : Bodies) : Type 0 where
-  pub short : (i a : ℕ) → bodies .fits i a ≡ true → length (bodies .words i) ≤ 16
-  pub low : (i a : ℕ) → bodies .fits i a ≡ true → (x : Step) → List·Memᴰ x (body-of (bodies .words i)) → Low x
+  pub short : (i a : ℕ) → bodies .fits i a ≡ true → length (bodies .words i a) ≤ 16
+  pub low : (i a : ℕ) → bodies .fits i a ≡ true → (x : Step) → List·Memᴰ x (body-of (bodies .words i a)) → Low x
 
 module _ (t : Tables) (n : ℕ) where
   -- Step x of record n leads from s to s′ with evidence e.
@@ -93,7 +93,7 @@ module _ (t : Tables) (n : ℕ) where
 pub record Justified (bodies : Bodies) (t : Tables) (n : ℕ) : Type 0 where
   pub exists : t .answers .call n < t .calls .count
   pub fits : bodies .fits (t .answers .rule n) (t .calls .action (t .answers .call n)) ≡ true
-  pub followed : Follows t n (body-of (bodies .words (t .answers .rule n))) 0 (t .calls .state (t .answers .call n))
+  pub followed : Follows t n (body-of (bodies .words (t .answers .rule n) (t .calls .action (t .answers .call n)))) 0 (t .calls .state (t .answers .call n))
 
 module _ {bodies : Bodies} {t : Tables} {n : ℕ} where
   pub justified-out : justified (t .calls) (t .answers) n bodies ≡ true → Justified bodies t n
@@ -129,7 +129,7 @@ module _ {t u : Tables} (g : Grew t u) (inside : Inside t (t .answers .count)) {
       record {
         exists = rw (g .call-same l) (omega (arith, j .exists, g .calls-more));
         fits = rw (g .rule-same l, f) (j .fits);
-        followed = rw (g .rule-same l, s) (follows-up (omega (arith, length-map (bodies .words (t .answers .rule n)) step-of, proper .short _ _ (j .fits))) (j .followed));
+        followed = rw (g .rule-same l, f, s) (follows-up (omega (arith, length-map (bodies .words (t .answers .rule n) (t .calls .action (t .answers .call n))) step-of, proper .short _ _ (j .fits))) (j .followed));
       }
 
 -- ---- what justified records show
@@ -157,4 +157,4 @@ module _ {bodies : Bodies} {t : Tables} (all : (n : ℕ) → n < t .answers .cou
       just : (n a : ℕ) (D D′ : State) → Row n a D D′ → (body : Body) × Has bodies a body × Walk Does (Below n) D body D′ []
       just n a D D′ (l, p, q, r) =
           let j = all n l in
-          (body-of (bodies .words (t .answers .rule n)), (t .answers .rule n, rw p at (j .fits), refl), rw (q, r) at (follows-walk l (j .followed)))
+          (body-of (bodies .words (t .answers .rule n) a), (t .answers .rule n, rw p at (j .fits), refl), rw (p, q, r) at (follows-walk l (j .followed)))

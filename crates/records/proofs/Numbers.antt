@@ -54,11 +54,11 @@ module _ (rules goal : List ℕ) where
       by j g e (no q) = absurd (omega (arith, low j (omega arith) g))
 
   -- the words of a rule and of the goal
-  pub words-goal : (i : ℕ) → i ≡ goal-rule → bodies-of rules goal .words i ≡ goal
-  words-goal i z = rw (eq-eqb i goal-rule z) refl
+  pub words-goal : (i a : ℕ) → i ≡ goal-rule → bodies-of rules goal .words i a ≡ goal
+  words-goal i a z = rw (eq-eqb i goal-rule z) refl
 
-  pub words-rule : (i : ℕ) → (i ≡ goal-rule → ⊥) → bodies-of rules goal .words i ≡ words-of rules i
-  words-rule i n = rw (ne-eqb i goal-rule n) refl
+  pub words-rule : (i a : ℕ) → (i ≡ goal-rule → ⊥) → bodies-of rules goal .words i a ≡ words-of rules i
+  words-rule i a n = rw (ne-eqb i goal-rule n) refl
 
   module _ {fluents actions : ℕ} (acc : AcceptedWords fluents actions rules goal) where
     indexed-low : (x : Step) → Indexed fluents actions x → Low x
@@ -72,9 +72,9 @@ module _ (rules goal : List ℕ) where
     pub proper-of : Proper (bodies-of rules goal)
     proper-of = record {
       short = λ i a e. fits-cases i a e _
-          (λ z g. rw (words-goal i z) (acc .short))
-          (λ n l h. rw (words-rule i n) (omega (arith, words-short rules i, acc .counts i l)));
-      low = λ i a e x. fits-cases i a e (List·Memᴰ x (body-of (bodies-of rules goal .words i)) → Low x)
-          (λ z g m. indexed-low x (goal-indexed acc x (rw (words-goal i z) at m)))
-          (λ n l h m. indexed-low x (words-indexed-of acc i l x (rw (words-rule i n) at m)));
+          (λ z g. rw (words-goal i a z) (acc .short))
+          (λ n l h. rw (words-rule i a n) (omega (arith, words-short rules i, acc .counts i l)));
+      low = λ i a e x. fits-cases i a e (List·Memᴰ x (body-of (bodies-of rules goal .words i a)) → Low x)
+          (λ z g m. indexed-low x (goal-indexed acc x (rw (words-goal i a z) at m)))
+          (λ n l h m. indexed-low x (words-indexed-of acc i l x (rw (words-rule i a n) at m)));
     }

@@ -49,9 +49,9 @@ answer-table words n = let w = answer-width in let at : ℕ → ℕ = λ i. getD
 abbrev pub room : ℕ → ℕ → ℕ
 room width len = min (len / width) 65536
 
--- The bodies that answers may name: whether a rule number goes with an action, and its step words.
+-- The bodies that answers may name: whether a rule number goes with an action, and the step words that it has for that action.
 abbrev pub Bodies : Type 0
-Bodies = record { fits : ℕ → ℕ → Bool; words : ℕ → List ℕ }
+Bodies = record { fits : ℕ → ℕ → Bool; words : ℕ → ℕ → List ℕ }
 
 -- The goal's number among the rules.
 abbrev pub goal-rule : ℕ
@@ -59,7 +59,7 @@ goal-rule = 256
 
 -- A rule goes with its head; the goal goes with action 64 (no accepted head is 64).
 abbrev pub bodies-of : List ℕ → List ℕ → Bodies
-bodies-of rules goal = let words : ℕ → List ℕ = λ i. cond (eqb i goal-rule) goal (words-of rules i) in
+bodies-of rules goal = let words : ℕ → ℕ → List ℕ = λ i a. cond (eqb i goal-rule) goal (words-of rules i) in
     record { fits = λ i a. cond (eqb i goal-rule) (eqb a Goal) (ltb i (length rules / rule-width) && eqb (head-of rules i) a); words = words }
 
 module _ (calls : Calls) (answers : Answers) (n : ℕ) where
@@ -87,4 +87,4 @@ module _ (calls : Calls) (answers : Answers) (n : ℕ) where
   -- with its evidence ends in its final state.
   unfoldable pub justified : Bodies → Bool
   justified bodies = ltb (answers .call n) (calls .count) && (bodies .fits (answers .rule n) (calls .action (answers .call n))
-      && follows (body-of (bodies .words (answers .rule n))) 0 (calls .state (answers .call n)))
+      && follows (body-of (bodies .words (answers .rule n) (calls .action (answers .call n)))) 0 (calls .state (answers .call n)))

@@ -5,6 +5,7 @@ ghost use Prim.Native.Nat.{ℕ, _/_, _≤_, _<_};
 ghost use mathlib.Core.List.{[]};
 ghost use mathlib.Core.Bool.{true};
 ghost use lib.ListN.{length};
+ghost use Rattle.steps.specs.Run.{Goal};
 ghost use Rattle.steps.specs.Words.{count-of, words-of};
 ghost use Rattle.steps.specs.Widths.{rule-width};
 ghost use Rattle.records.specs.Records.{bodies-of};
@@ -60,7 +61,7 @@ pub fn rule_steps(rules: &[u16], r: usize) -> &[u16]
 // The step words of the rule of this number, which is one of some action.
 pub fn steps_of<'a>(rules: &'a [u16], goal: &'a [u16], number: u64) -> &'a [u16]
     requires { ⌜ Short (now rules) (now goal) × ((action : ℕ) × (bodies-of (now rules) (now goal) .fits number action ≡ true)) ⌝ }
-    ensures { λ b. ⌜ (now b ≡ bodies-of (now (rules .entry)) (now (goal .entry)) .words number) × (length (now b) ≤ 16) ⌝ }
+    ensures { λ b. ⌜ (now b ≡ bodies-of (now (rules .entry)) (now (goal .entry)) .words number Goal) × (length (now b) ≤ 16) ⌝ }
 {
     if number == GOAL_RULE {
         return goal;

@@ -6,3 +6,4 @@ pub mod Path
 pub mod Text
 pub mod Marking
 pub mod Archive
+pub mod Sharing

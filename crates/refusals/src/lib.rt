@@ -95,3 +95,9 @@ pub const BAD_WORD_COUNT: u64 = 81;
 
 // A stored bit past the last state.
 pub const BIT_PAST_END: u64 = 82;
+
+// The limits of both parties add up to more than a table's room.
+pub const OVER_LIMITS: u64 = 90;
+
+// What is kept meets 23, 24, 40 or 90, or the tables handed back do not hold just that, within the limits.
+pub const NOT_AS_KEPT: u64 = 91;

@@ -28,7 +28,7 @@ ClosedAt body t known row = Swept (EdgeT t known body) (GoodT t known body (Held
 -- Every record from `first` on is closed under all answers.
 pub record Whole (bodies : Bodies) (Root : ℕ → State → Type 0) (first : ℕ) (t : Tables) : Type 0 where
   pub valid : Valid bodies Root t
-  pub closed : (r : ℕ) → first ≤ r → r < t .calls .count → (i : ℕ) → bodies .fits i (t .calls .action r) ≡ true → ClosedAt (bodies .words i) t (t .answers .count) r
+  pub closed : (r : ℕ) → first ≤ r → r < t .calls .count → (i : ℕ) → bodies .fits i (t .calls .action r) ≡ true → ClosedAt (bodies .words i (t .calls .action r)) t (t .answers .count) r
 
 -- ---- all records closed: the tables are closed and sound
 abbrev pub C : Tables → ℕ → State → Type 0
@@ -90,11 +90,11 @@ module _ (bodies : Bodies) (Root : ℕ → State → Type 0) (proper : Proper bo
   closed-of = record {
     roots = λ a D r. R .valid .roots a D r;
     reaches = λ a b D E body rest (row, l, c) (i, f, e) w.
-        (let (ls, q, v) = walk-words t (bodies .words i) (bodies .words i) body e (rw e (proper .low i a f)) w in
-        reach t (bodies .words i) c (R .closed row (omega arith) l i (rw (c .has-action) f)) ls q v);
+        (let (ls, q, v) = walk-words t (bodies .words i a) (bodies .words i a) body e (rw e (proper .low i a f)) w in
+        reach t (bodies .words i a) c (rw (c .has-action) at (R .closed row (omega arith) l i (rw (c .has-action) f))) ls q v);
     ends = λ a D D′ body (row, l, c) (i, f, e) w.
-        (let (ls, q, v) = walk-words t (bodies .words i) (bodies .words i) body e (rw e (proper .low i a f)) w in
-        end t (bodies .words i) c (R .closed row (omega arith) l i (rw (c .has-action) f)) ls q v);
+        (let (ls, q, v) = walk-words t (bodies .words i a) (bodies .words i a) body e (rw e (proper .low i a f)) w in
+        end t (bodies .words i a) c (rw (c .has-action) at (R .closed row (omega arith) l i (rw (c .has-action) f))) ls q v);
   }
 
   sound-of : Sound Does (Has bodies) Root (C t) (A t)

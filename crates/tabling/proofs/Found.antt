@@ -11,6 +11,7 @@ use lib.ListN.{getD, length}
 use Rattle.steps.specs.State.{State}
 use Rattle.records.specs.Records.{Calls, Answers, Bodies}
 use Rattle.records.specs.Storage.{CallAdded, AnswerAdded}
+use Rattle.records.proofs.Justification.{Proper}
 use Rattle.records.proofs.Growth.{Tables, tables, Grew, grew-refl, grew-trans, grew-call, grew-answer, Inside, CallsOnce, AnswersOnce}
 use Rattle.sorting.specs.Shuffled.{Before}
 use Rattle.tabling.proofs.Sweep.{Reach, reach-back, Way, Less}
@@ -27,15 +28,15 @@ pub record FoundCall (bodies : Bodies) (b : Tables) (known : ℕ) (c : ℕ × St
   pub fits : bodies .fits rule (b .calls .action row) ≡ true
   pub place : ℕ
   pub state : State
-  pub way : Reach (EdgeT b known (bodies .words rule)) 0 (b .calls .state row) place state
-  pub inside : place < length (bodies .words rule)
-  pub comes : move (getD (bodies .words rule) place 0) state ≡ calls c
+  pub way : Reach (EdgeT b known (bodies .words rule (b .calls .action row))) 0 (b .calls .state row) place state
+  pub inside : place < length (bodies .words rule (b .calls .action row))
+  pub comes : move (getD (bodies .words rule (b .calls .action row)) place 0) state ≡ calls c
 
 -- A walk of the body of this rule from the call record `row` of b, by the answers below `known` in `ev`, ends in f.
 pub record FoundBy (bodies : Bodies) (b : Tables) (known row rule : ℕ) (ev : ℕ → ℕ) (f : State) : Type 0 where
   pub row-in : row < b .calls .count
   pub fits : bodies .fits rule (b .calls .action row) ≡ true
-  pub way : Way (EdgeT b known (bodies .words rule)) ev (b .calls .state row) (length (bodies .words rule)) f
+  pub way : Way (EdgeT b known (bodies .words rule (b .calls .action row))) ev (b .calls .state row) (length (bodies .words rule (b .calls .action row))) f
 
 -- A justification of n steps is no worse than another: by a lower rule, or by the same with the same or lesser evidence from the first place on.
 abbrev pub AsGood : ℕ → ℕ → (ℕ → ℕ) → ℕ → (ℕ → ℕ) → Type 0
@@ -51,18 +52,18 @@ pub record Made (bodies : Bodies) (r : ℕ) (b u : Tables) : Type 0 where
       → FoundBy bodies b (b .answers .count) (u .answers .call x) (u .answers .rule x) (u .answers .evidence x) (u .answers .final x) × (u .answers .round x ≡ r)
   pub best : (x : ℕ) → b .answers .count ≤ x → x < u .answers .count → (rule : ℕ) (ev : ℕ → ℕ)
       → FoundBy bodies b (b .answers .count) (u .answers .call x) rule ev (u .answers .final x)
-      → AsGood (length (bodies .words (u .answers .rule x))) (u .answers .rule x) (u .answers .evidence x) rule ev
+      → AsGood (length (bodies .words (u .answers .rule x) (b .calls .action (u .answers .call x)))) (u .answers .rule x) (u .answers .evidence x) rule ev
   pub by-row : (x y : ℕ) → b .answers .count ≤ x → x < y → y < u .answers .count → u .answers .call x ≤ u .answers .call y
 
 -- What round r gathers: all that is made, and every call record of b is closed under every rule, with the answers of b.
 pub record Gathered (bodies : Bodies) (r : ℕ) (b u : Tables) : Type 0 where
   pub made : Made bodies r b u
-  pub closed : (row i : ℕ) → row < b .calls .count → bodies .fits i (b .calls .action row) ≡ true → ClosedAt (bodies .words i) u (b .answers .count) row
+  pub closed : (row i : ℕ) → row < b .calls .count → bodies .fits i (b .calls .action row) ≡ true → ClosedAt (bodies .words i (b .calls .action row)) u (b .answers .count) row
 
 -- What it leaves: that in order, the calls by action and state, the answers by call record and final state, each once.
 pub record Rounded (bodies : Bodies) (r : ℕ) (b u : Tables) : Type 0 where
   pub inside : Inside b (b .answers .count)
-  pub short : (x : ℕ) → x < b .answers .count → length (bodies .words (b .answers .rule x)) ≤ 16
+  pub short : (x : ℕ) → x < b .answers .count → length (bodies .words (b .answers .rule x) (b .calls .action (b .answers .call x))) ≤ 16
   pub calls-once : CallsOnce (u .calls)
   pub answers-once : AnswersOnce (u .answers)
   pub gathered : Gathered bodies r b u
@@ -87,9 +88,9 @@ pub record RoundsOver (bodies : Bodies) (b₀ : Tables) (r : ℕ) (u : Tables) :
   pub same : size last ≡ size u
 
 -- ---- evidence that is the same at all places of the body
-pub found-same : {bodies : Bodies} {b : Tables} {known row rule : ℕ} {ev ev′ : ℕ → ℕ} {f : State} → ((q : ℕ) → q < length (bodies .words rule) → ev q ≡ ev′ q)
+pub found-same : {bodies : Bodies} {b : Tables} {known row rule : ℕ} {ev ev′ : ℕ → ℕ} {f : State} → ((q : ℕ) → q < length (bodies .words rule (b .calls .action row)) → ev q ≡ ev′ q)
     → FoundBy bodies b known row rule ev f → FoundBy bodies b known row rule ev′ f
-found-same {bodies} {b} {known} {rule = rule} same F =
+found-same {bodies} {b} {known} {row} {rule} same F =
     let W = F .way in
     record {
       row-in = F .row-in;
@@ -98,7 +99,7 @@ found-same {bodies} {b} {known} {rule = rule} same F =
         st = W .st;
         from = W .from;
         now = W .now;
-        edges = λ q l. subst (λ (x : ℕ). EdgeT b known (bodies .words rule) q (W .st q) x (W .st (suc q))) (same q l) (W .edges q l);
+        edges = λ q l. subst (λ (x : ℕ). EdgeT b known (bodies .words rule (b .calls .action row)) q (W .st q) x (W .st (suc q))) (same q l) (W .edges q l);
       };
     }
 
@@ -138,29 +139,30 @@ module _ {bodies : Bodies} {r : ℕ} where
 
     -- one answer more
     module _ {row rule : ℕ} {f : State} {evidence : List ℕ} {answers′ : Answers} (p : AnswerAdded (u .answers) row f rule evidence r answers′)
-        (short : (x : ℕ) → x < u .answers .count → length (bodies .words (u .answers .rule x)) ≤ 16) (low : length (bodies .words rule) ≤ 16) where
+        (proper : Proper bodies) where
       abbrev v : Tables
       v = tables (u .calls) answers′
 
       -- evidence of old records and of the new one
-      kept : (x q : ℕ) → x < u .answers .count → q < length (bodies .words (u .answers .rule x)) → answers′ .evidence x q ≡ u .answers .evidence x q
-      kept x q l h = p .evidence-kept x q l (omega (arith, short x l))
+      kept : (x q : ℕ) → b .answers .count ≤ x → x < u .answers .count → q < length (bodies .words (u .answers .rule x) (b .calls .action (u .answers .call x)))
+          → answers′ .evidence x q ≡ u .answers .evidence x q
+      kept x q h l k = p .evidence-kept x q l (omega (arith, proper .short _ _ (M .answer-found x h l .0 .fits)))
 
-      new : (q : ℕ) → q < length (bodies .words rule) → answers′ .evidence (u .answers .count) q ≡ getD evidence q 0
-      new q h = p .new-evidence q (omega arith)
+      new : bodies .fits rule (b .calls .action row) ≡ true → (q : ℕ) → q < length (bodies .words rule (b .calls .action row)) → answers′ .evidence (u .answers .count) q ≡ getD evidence q 0
+      new g q h = p .new-evidence q (omega (arith, proper .short _ _ g))
 
       abbrev FoundAt : Tables → ℕ → Type 0
       FoundAt t x = FoundBy bodies b (b .answers .count) (t .answers .call x) (t .answers .rule x) (t .answers .evidence x) (t .answers .final x) × (t .answers .round x ≡ r)
 
       abbrev BestAt : Tables → ℕ → Type 0
       BestAt t x = (rule′ : ℕ) (ev′ : ℕ → ℕ) → FoundBy bodies b (b .answers .count) (t .answers .call x) rule′ ev′ (t .answers .final x)
-          → AsGood (length (bodies .words (t .answers .rule x))) (t .answers .rule x) (t .answers .evidence x) rule′ ev′
+          → AsGood (length (bodies .words (t .answers .rule x) (b .calls .action (t .answers .call x)))) (t .answers .rule x) (t .answers .evidence x) rule′ ev′
 
       abbrev Found-new : Type 0
       Found-new = FoundBy bodies b (b .answers .count) row rule (λ q. getD evidence q 0) f
 
       abbrev Best-new : Type 0
-      Best-new = (rule′ : ℕ) (ev′ : ℕ → ℕ) → FoundBy bodies b (b .answers .count) row rule′ ev′ f → AsGood (length (bodies .words rule)) rule (λ q. getD evidence q 0) rule′ ev′
+      Best-new = (rule′ : ℕ) (ev′ : ℕ → ℕ) → FoundBy bodies b (b .answers .count) row rule′ ev′ f → AsGood (length (bodies .words rule (b .calls .action row))) rule (λ q. getD evidence q 0) rule′ ev′
 
       pub made-answer : Found-new → Best-new → ((x : ℕ) → b .answers .count ≤ x → x < u .answers .count → u .answers .call x ≤ row) → Made bodies r b (tables (u .calls) answers′)
       made-answer g least latest = record {
@@ -174,18 +176,18 @@ module _ {bodies : Bodies} {r : ℕ} where
           found-at : (x : ℕ) → b .answers .count ≤ x → x < answers′ .count → Dec (x < u .answers .count) → FoundAt v x
           found-at x h l (yes k) =
               let (F, e) = M .answer-found x h k in
-              rw (p .call-kept x k, p .final-kept x k, p .rule-kept x k, p .round-kept x k) (found-same (λ q i. sym (kept x q k i)) F, e)
+              rw (p .call-kept x k, p .final-kept x k, p .rule-kept x k, p .round-kept x k) (found-same (λ q i. sym (kept x q h k i)) F, e)
           found-at x h l (no k) =
               let z : x ≡ u .answers .count = omega (arith, p .count) in
-              rw (z, p .new .has-call, p .new .has-final, p .new-rule, p .new-round) (found-same (λ q i. sym (new q i)) g, refl)
+              rw (z, p .new .has-call, p .new .has-final, p .new-rule, p .new-round) (found-same (λ q i. sym (new (g .fits) q i)) g, refl)
 
           best-at : (x : ℕ) → b .answers .count ≤ x → x < answers′ .count → Dec (x < u .answers .count) → BestAt v x
           best-at x h l (yes k) =
               let B : BestAt u x = M .best x h k in
-              rw (p .call-kept x k, p .final-kept x k, p .rule-kept x k) (λ rule′ ev′ F. good-same (λ q i. sym (kept x q k i)) (B rule′ ev′ F))
+              rw (p .call-kept x k, p .final-kept x k, p .rule-kept x k) (λ rule′ ev′ F. good-same (λ q i. sym (kept x q h k i)) (B rule′ ev′ F))
           best-at x h l (no k) =
               let z : x ≡ u .answers .count = omega (arith, p .count) in
-              rw (z, p .new .has-call, p .new .has-final, p .new-rule) (λ rule′ ev′ F. good-same (λ q i. sym (new q i)) (least rule′ ev′ F))
+              rw (z, p .new .has-call, p .new .has-final, p .new-rule) (λ rule′ ev′ F. good-same (λ q i. sym (new (g .fits) q i)) (least rule′ ev′ F))
 
           rows-at : (x y : ℕ) → b .answers .count ≤ x → x < y → y < answers′ .count → Dec (y < u .answers .count) → answers′ .call x ≤ answers′ .call y
           rows-at x y h k l (yes i) = omega (arith, p .call-kept x (omega arith), p .call-kept y i, M .by-row x y h k i)

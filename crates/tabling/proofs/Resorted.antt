@@ -84,7 +84,7 @@ module _ (Same : ℕ → ℕ → Type 0) {lo n : ℕ} (P : Permuted lo n) (more 
         by (no p) (no q) =
             let k : i < n = omega arith in
             let e = alone (P .from i) (P .from j) (P .from-in i (omega arith) k .1) (P .from-in j (omega arith) h .1)
-                (back i (P .from i) (moved i (omega arith) k) x) (back j (P .from j) (moved j (omega arith) h) y) in
+            (back i (P .from i) (moved i (omega arith) k) x) (back j (P .from j) (moved j (omega arith) h) y) in
             omega (arith, sym (P .back-from i (omega arith) k) ∙ ap (P .back) e ∙ P .back-from j (omega arith) h)
 
 -- v has the records of u, those of b as they were, the others in another order.
@@ -144,9 +144,9 @@ module _ {b u v : Tables} (R : Resorted b u v) (more-calls : b .calls .count ≤
   }
 
   -- what was found is found
-  pub made-now : {bodies : Bodies} {r : ℕ} → ((x : ℕ) → x < u .answers .count → length (bodies .words (u .answers .rule x)) ≤ 16)
+  pub made-now : {bodies : Bodies} {r : ℕ} → Proper bodies
       → ((x y : ℕ) → b .answers .count ≤ x → x < y → y < v .answers .count → v .answers .call x ≤ v .answers .call y) → Made bodies r b u → Made bodies r b v
-  made-now {bodies} {r} short rising M = record {
+  made-now {bodies} {r} proper rising M = record {
     grew = grew-now (M .grew);
     call-found = λ i h l.
         (let k : i < u .calls .count = omega (arith, R .calls-count) in
@@ -158,12 +158,12 @@ module _ {b u v : Tables} (R : Resorted b u v) (more-calls : b .calls .count ≤
         let (p, q) = R .of-answers .from-in x h k in
         let s = R .answer-moved x h k in
         let (F, e) = M .answer-found (R .of-answers .from x) p q in
-        rw (s .call, s .final, s .rule, s .round) (found-same (λ j i. sym (s .evidence j (omega (arith, short (R .of-answers .from x) q)))) F, e));
+        rw (s .call, s .final, s .rule, s .round) (found-same (λ j i. sym (s .evidence j (omega (arith, proper .short _ _ (M .answer-found (R .of-answers .from x) p q .0 .fits))))) F, e));
     best = λ x h l rule ev.
         (let k : x < u .answers .count = omega (arith, R .answers-count) in
         let (p, q) = R .of-answers .from-in x h k in
         let s = R .answer-moved x h k in
-        rw (s .call, s .final, s .rule) (λ F. good-same (λ j i. sym (s .evidence j (omega (arith, short (R .of-answers .from x) q)))) (M .best (R .of-answers .from x) p q rule ev F)));
+        rw (s .call, s .final, s .rule) (λ F. good-same (λ j i. sym (s .evidence j (omega (arith, proper .short _ _ (M .answer-found (R .of-answers .from x) p q .0 .fits))))) (M .best (R .of-answers .from x) p q rule ev F)));
     by-row = rising;
   }
 
@@ -224,7 +224,7 @@ module _ {bodies : Bodies} {Root : ℕ → State → Type 0} {b u v : Tables} (R
         record {
           exists = rw c (omega (arith, j .exists, R .calls-count));
           fits = rw (same .rule, f) (j .fits);
-          followed = rw (same .rule, s) (follows-moved (omega (arith, length-map (bodies .words (u .answers .rule y)) step-of, proper .short _ _ (j .fits))) (j .followed));
+          followed = rw (same .rule, f, s) (follows-moved (omega (arith, length-map (bodies .words (u .answers .rule y) (u .calls .action (u .answers .call y))) step-of, proper .short _ _ (j .fits))) (j .followed));
         }
 
   pub valid-now : Valid bodies Root v

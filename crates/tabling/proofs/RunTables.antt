@@ -44,8 +44,8 @@ module _ {fluents actions : ℕ} (rules goal : List ℕ) (start : State) (acc : 
   -- the bodies by their numbers are those of the goal and the rules
   has-body : (a : ℕ) (body : Body) → Has (bodies-of rules goal) a body → BodyOf run a body
   has-body a body (i, f, e) = fits-cases rules goal i a f (BodyOf run a body)
-      (λ z g. subst (BodyOf run a) (sym (e ∙ ap body-of (words-goal rules goal i z))) (of-goal g))
-      (λ n l h. subst (BodyOf run a) (sym (e ∙ ap body-of (words-rule rules goal i n))) (of-rule (rule-of rules i) (rule-member rules i l) h))
+      (λ z g. subst (BodyOf run a) (sym (e ∙ ap body-of (words-goal rules goal i a z))) (of-goal g))
+      (λ n l h. subst (BodyOf run a) (sym (e ∙ ap body-of (words-rule rules goal i a n))) (of-rule (rule-of rules i) (rule-member rules i l) h))
 
   body-has : (a : ℕ) (body : Body) → BodyOf run a body → Has (bodies-of rules goal) a body
   body-has a body (of-goal g) = (goal-rule, eq-eqb a Goal g, refl)
@@ -55,7 +55,7 @@ module _ {fluents actions : ℕ} (rules goal : List ℕ) (start : State) (acc : 
       let n : i ≡ goal-rule → ⊥ = λ z. omega (arith, acc .few-rules) in (
         i,
         rw (ne-eqb i goal-rule n, lt-ltb i (length rules / rule-width) k, eq-eqb (head-of rules i) a (sym (ap (λ (r : Rule). r .head) e) ∙ h)) refl,
-        ap (λ (r : Rule). r .body) e ∙ ap body-of (sym (words-rule rules goal i n)),
+        ap (λ (r : Rule). r .body) e ∙ ap body-of (sym (words-rule rules goal i a n)),
       )
 
   -- what is reached are the run's calls; final states of bodies are those of the calls

@@ -64,13 +64,13 @@ module _ (calls : Calls) (answers : Answers) (bodies : Bodies) where
       by ih false e = let d : (x ≡ n → ⊥) = eqb-false x n e in below-other n x d ∙ ih (omega arith)
 
   below-same : (n : ℕ) → states-added calls answers bodies n
-      ≡ walked calls answers n (below calls answers bodies n) (body-of (bodies .words (answers .rule n))) 0 (calls .state (answers .call n))
+      ≡ walked calls answers n (below calls answers bodies n) (body-of (bodies .words (answers .rule n) (calls .action (answers .call n)))) 0 (calls .state (answers .call n))
   unfolding below
   below-same n = rw (eq-eqb n n refl) refl
 
   -- what record n adds is what walking its body adds
   pub added-walk : (n : ℕ) → states-added calls answers bodies n
-      ≡ walked calls answers n (states-added calls answers bodies) (body-of (bodies .words (answers .rule n))) 0 (calls .state (answers .call n))
+      ≡ walked calls answers n (states-added calls answers bodies) (body-of (bodies .words (answers .rule n) (calls .action (answers .call n)))) 0 (calls .state (answers .call n))
   added-walk n = below-same n ∙ walked-same calls answers n (below calls answers bodies n) (states-added calls answers bodies) (below-added n) _ 0 _
 
 -- ---- however many records are counted
@@ -128,7 +128,7 @@ module _ (calls answers : List ℕ) (k m k′ m′ : ℕ) where
   below-uncounted bodies (suc n) x = by (eqb x n) (below-uncounted bodies n)
     where
       words : Body
-      words = body-of (bodies .words (A .rule n))
+      words = body-of (bodies .words (A .rule n) (C .action (A .call n)))
 
       by : (b : Bool) → ((e : ℕ) → below C A bodies n e ≡ below C′ A′ bodies n e)
           → cond b (walked C A n (below C A bodies n) words 0 (C .state (A .call n))) (below C A bodies n x)

@@ -20,7 +20,7 @@ use Rattle.unfolding.proofs.Walk.{calls-of, answers-of, words-at, start
 
 module _ (calls : Calls) (answers : Answers) (n : ℕ) (bodies : Bodies) (j : justified calls answers n bodies ≡ true) where
   pub justified-parts : (ltb (answers .call n) (calls .count) ≡ true) × (bodies .fits (answers .rule n) (calls .action (answers .call n)) ≡ true)
-      × (follows calls answers n (body-of (bodies .words (answers .rule n))) 0 (calls .state (answers .call n)) ≡ true)
+      × (follows calls answers n (body-of (bodies .words (answers .rule n) (calls .action (answers .call n)))) 0 (calls .state (answers .call n)) ≡ true)
   unfolding justified
   justified-parts =
       let (e, r) = both (ltb (answers .call n) (calls .count)) _ j in

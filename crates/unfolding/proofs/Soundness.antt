@@ -51,7 +51,7 @@ module _ (rules goal : List ℕ) (calls : Calls) (answers : Answers) (apart : Se
   bodies = bodies-of rules goal
 
   abbrev body : ℕ → Body
-  body n = body-of (bodies .words (answers .rule n))
+  body n = body-of (bodies .words (answers .rule n) (calls .action (answers .call n)))
 
   -- What record n adds are the states of a complete deduction of its body.
   abbrev Deduced : ℕ → Type 0
@@ -62,11 +62,11 @@ module _ (rules goal : List ℕ) (calls : Calls) (answers : Answers) (apart : Se
     ruled : i ≢ goal-rule
     ruled e = ne (fits-goal rules goal i a fits e)
 
-    the-body : bodies .words i ≡ words-of rules i
+    the-body : bodies .words i a ≡ words-of rules i
     the-body = rw (ne-eqb i goal-rule ruled) refl
 
     -- a call of the action, by a deduction of the rule's body
-    by-rule : {D D′ : State} (rest : Body) {E : State} (d : Final book D (body-of (bodies .words i)) E) (d₂ : Final book E rest D′)
+    by-rule : {D D′ : State} (rest : Body) {E : State} (d : Final book D (body-of (bodies .words i a)) E) (d₂ : Final book E rest D′)
         → (d′ : Final book D (call a ∷ rest) D′) × (states d′ ≡ states d ++ states d₂)
     unfolding states move-states
     by-rule {D} {D′} rest {E} d d₂ =
@@ -118,7 +118,7 @@ module _ (rules goal : List ℕ) (calls : Calls) (answers : Answers) (apart : Se
             (d′, rw f f′)
 
   -- no body calls the goal
-  body-apart : (i a : ℕ) → bodies .fits i a ≡ true → Apart (body-of (bodies .words i))
+  body-apart : (i a : ℕ) → bodies .fits i a ≡ true → Apart (body-of (bodies .words i a))
   body-apart i a fits = by (eqb i goal-rule) refl
     where
       by : (b : Bool) → eqb i goal-rule ≡ b → Apart (body-of (cond b goal (words-of rules i)))
@@ -126,7 +126,7 @@ module _ (rules goal : List ℕ) (calls : Calls) (answers : Answers) (apart : Se
       by false z = apart .bodies (rule-of rules i) (rule-member rules i (fits-rule rules goal i a fits (eqb-false i goal-rule z) .0))
 
   -- action 64 has only the goal
-  goal-body : (i : ℕ) → bodies .fits i Goal ≡ true → bodies .words i ≡ goal
+  goal-body : (i : ℕ) → bodies .fits i Goal ≡ true → bodies .words i Goal ≡ goal
   goal-body i fits = by (eqb i goal-rule) refl
     where
       by : (b : Bool) → eqb i goal-rule ≡ b → cond b goal (words-of rules i) ≡ goal

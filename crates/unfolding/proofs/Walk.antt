@@ -11,6 +11,7 @@ use lib.Dec.{eqb}
 use borrow.Author.Tests.{eqb-true, ne-eqb}
 use Rattle.steps.specs.State.{State}
 use Rattle.steps.specs.Step.{Step, query, insert, delete, call, deny, Body}
+use Rattle.steps.specs.Run.{Goal}
 use Rattle.steps.specs.Words.{step-by, step-of, body-of}
 use Rattle.steps.specs.Inner.{is-call}
 use Rattle.steps.specs.Elementary.{Onward, on, stuck, elementary}
@@ -31,9 +32,9 @@ calls-of calls = call-table calls 0
 abbrev pub answers-of : List ℕ → Answers
 answers-of answers = answer-table answers 0
 
--- the step words of record n, and the state of its call
+-- the step words of record n, the same for every action, and the state of its call
 abbrev pub words-at : List ℕ → List ℕ → List ℕ → ℕ → List ℕ
-words-at rules goal answers n = bodies-of rules goal .words (getD answers (answer-width * n + 2) 0)
+words-at rules goal answers n = bodies-of rules goal .words (getD answers (answer-width * n + 2) 0) Goal
 
 abbrev pub start-at : List ℕ → List ℕ → ℕ → State
 start-at calls answers n = getD calls (call-width * getD answers (answer-width * n) 0 + 1) 0

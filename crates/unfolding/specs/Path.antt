@@ -37,8 +37,8 @@ module _ (calls : Calls) (answers : Answers) (bodies : Bodies) where
   -- What record x adds, if it is one of the records below n: they use only each other, and only downward.
   unfoldable pub below : ℕ → ℕ → List State
   below zero x = []
-  below (suc n) x =
-      cond (eqb x n) (walked calls answers n (below n) (body-of (bodies .words (answers .rule n))) 0 (calls .state (answers .call n))) (below n x)
+  below (suc n) x = let c = answers .call n in
+      cond (eqb x n) (walked calls answers n (below n) (body-of (bodies .words (answers .rule n) (calls .action c))) 0 (calls .state c)) (below n x)
 
   -- What record x adds after its call's state: the state after each update.
   abbrev pub states-added : ℕ → List State
