@@ -1,7 +1,7 @@
 /* Rehearsal sheets in ground Transaction Logic: read a sheet, write it as its one
  * fixed text, evaluate its goal, from one start or from a whole class of them, list the
- * path of an answer; merge two sheets into one; store states by fluent, and restore them;
- * take the figures of a class run; mark what a trainee did.
+ * path of an answer, find a call; merge two sheets into one; store states by fluent, and
+ * restore them; take the figures of a class run; mark what a trainee did.
  *
  * The host lends all memory; nothing is allocated, kept between calls, printed or
  * locked, so calls may run in any number of threads. Every call returns, whatever
@@ -14,8 +14,8 @@
  * Stack: lawhemuri_evaluate and lawhemuri_class need LAWHEMURI_STACK_EVALUATE bytes of it,
  * lawhemuri_path LAWHEMURI_STACK_PATH, lawhemuri_store and lawhemuri_restore
  * LAWHEMURI_STACK_ARCHIVE, lawhemuri_report LAWHEMURI_STACK_REPORT, lawhemuri_mark
- * LAWHEMURI_STACK_MARK, the others LAWHEMURI_STACK_READ. A main thread has 8 MiB on most
- * systems, a thread of Rust's 2 MiB, one of musl's only 128 KiB.
+ * LAWHEMURI_STACK_MARK, lawhemuri_lookup hardly any, the others LAWHEMURI_STACK_READ. A main
+ * thread has 8 MiB on most systems, a thread of Rust's 2 MiB, one of musl's only 128 KiB.
  */
 #ifndef LAWHEMURI_H
 #define LAWHEMURI_H
@@ -51,7 +51,7 @@ extern "C" {
  * Sheet's end:
  *  18  no `start` or no `goal`                               unchanged
  *  19  rule words lent are fewer than 18 times the rules     unchanged
- * Many starts (lawhemuri_class; its starts then meet 20 to 31 one by one):
+ * Many starts (lawhemuri_class; its starts then meet 20 to 34 one by one):
  *  25  over 1,024 starts, or under 4 result words for each   unchanged
  * Rule words (lawhemuri_evaluate, from here on):
  *  20  over 64 fluents or over 64 actions                    unchanged
@@ -61,12 +61,17 @@ extern "C" {
  *  23  over 16 steps or a bad step                           unchanged
  * Start:
  *  24  a bit at or above the fluent count                    unchanged
+ * List of calls (34 comes before 30, whatever its number):
+ *  34  fewer places than the call room                       unchanged
  * Tables:
- *  30  the run's calls outnumber the call room, or its       both tables wholly 0,
- *      answers the answer room                               list unchanged
- * List:
- *  31  fewer places than ends                                both tables finished,
- *                                                            list unchanged
+ *  30  the run's calls outnumber the call room, or its       both tables and list of calls
+ *      answers the answer room                               wholly 0, ends unchanged
+ * List of ends:
+ *  31  fewer places than ends                                both tables and list of calls
+ *                                                            finished, ends unchanged
+ * A call that is looked up (lawhemuri_lookup: 40 of the call count, then 35):
+ *  35  a list with fewer places than calls, or a place that
+ *      is read not below the call count                      nothing is written
  * Tables that are shown (lawhemuri_path, after 20 to 23):
  *  40  a record count over its room                          list unchanged
  *  41  record number not below the answer count              list unchanged
@@ -120,6 +125,8 @@ extern "C" {
 #define LAWHEMURI_REPORT_SHORT 27u
 #define LAWHEMURI_TABLES_FULL 30u
 #define LAWHEMURI_LIST_SHORT 31u
+#define LAWHEMURI_CALL_LIST_SHORT 34u
+#define LAWHEMURI_BAD_CALL_LIST 35u
 #define LAWHEMURI_BAD_RECORD_COUNT 40u
 #define LAWHEMURI_NO_RECORD 41u
 #define LAWHEMURI_BAD_RECORD 42u
@@ -151,6 +158,8 @@ extern "C" {
  * Order: calls stand by round, then action, then state; answers by round, then call record,
  *   then final state. Among the justifications of an answer by answers of smaller rounds the
  *   lowest rule number is kept, then the least evidence words from the first on.
+ * List of calls: the number of each call record once, by action, then state; the goal, action
+ *   64, last. So a call is found by halves, without a walk of the table.
  * Result words of a start in a class: 4 words: refusal number or 0, ends, calls, answers.
  * Room of a table: its length divided by 3 or 20, rounded down, at most 65,536.
  * States by fluent: for each block of 64 states, of which the last may be shorter, one
@@ -220,6 +229,13 @@ typedef struct lawhemuri_run {
     uint64_t answers; /* records in the answer table */
     uint64_t rounds;  /* rounds that added something: at most calls + answers - 1 */
 } lawhemuri_run;
+
+/* What a lookup gives. */
+typedef struct lawhemuri_found {
+    uint64_t refusal; /* 0: looked up */
+    uint64_t found;   /* 1 where there is such a call, else 0 */
+    uint64_t row;     /* its record number; 0 where there is none, or refused */
+} lawhemuri_found;
 
 /* What a path gives. */
 typedef struct lawhemuri_states {
@@ -309,7 +325,7 @@ lawhemuri_part lawhemuri_merged_fluent(const uint8_t *first, size_t first_len,
                                        const uint8_t *second, size_t second_len,
                                        uint64_t fluent);
 
-/* Evaluates a goal from a start (refusals 20 to 31).
+/* Evaluates a goal from a start (refusals 20 to 24, 34, 30, 31).
  *
  * No refusal:
  *   calls: result.calls records, each of the run's calls once, with its round, in the one
@@ -319,9 +335,11 @@ lawhemuri_part lawhemuri_merged_fluent(const uint8_t *first, size_t first_len,
  *     every word of both tables.
  *   ends: the goal's final states, result.ends of them in rising order; unchanged past
  *     them.
- * 20 to 24: all three unchanged.
- * 30: calls and answers 0 throughout, ends unchanged.
- * 31: calls and answers as with no refusal, all counts given, ends unchanged.
+ *   list: result.calls numbers, those of the call records by action, then state; 0 past them.
+ *     It must have a place for each record that the call table has room for; it may have more.
+ * 20 to 24, 34: all four unchanged.
+ * 30: calls, answers and list 0 throughout, ends unchanged.
+ * 31: calls, answers and list as with no refusal, all counts given, ends unchanged.
  */
 lawhemuri_run lawhemuri_evaluate(uint64_t fluents, uint64_t actions,
                                  const uint16_t *rules, size_t rules_len,
@@ -329,21 +347,23 @@ lawhemuri_run lawhemuri_evaluate(uint64_t fluents, uint64_t actions,
                                  uint64_t start,
                                  uint64_t *calls, size_t calls_len,
                                  uint64_t *answers, size_t answers_len,
-                                 uint64_t *ends, size_t ends_len);
+                                 uint64_t *ends, size_t ends_len,
+                                 uint64_t *list, size_t list_len);
 
 /* Runs a goal from many starts in turn (25, or 0). Everything equals calls of
- * lawhemuri_evaluate made in turn with the same tables, each lent what is left of the list
- * of ends.
+ * lawhemuri_evaluate made in turn with the same tables and the same list of calls, each lent
+ * what is left of the list of ends.
  *
  * 25: all buffers unchanged. Else:
- *   results: four words for each start, in the starts' order: its refusal number (20 to 31)
+ *   results: four words for each start, in the starts' order: its refusal number (20 to 34)
  *     or 0, its ends, calls and answers, as lawhemuri_evaluate gives them; its rounds have no
  *     word here; unchanged past them.
  *   ends: the ends of the unrefused starts, one start after another, each start's in rising
  *     order; unchanged past them. A refused start takes no places, and later ones still run:
  *     one that has fewer places left than ends is 31.
- *   calls, answers: as the last start that was refused with none of 20 to 24 left them;
- *     unchanged if there is none.
+ *   calls, answers, list: as the last start that was refused with none of 20 to 24 left
+ *     them; unchanged if there is none. A list of calls that is too short is 34 in the words
+ *     of each start that meets none of 20 to 24, and all three are unchanged.
  * With no starts nothing is changed and nothing is looked at, so a bad book is not refused.
  */
 uint64_t lawhemuri_class(uint64_t fluents, uint64_t actions,
@@ -353,7 +373,8 @@ uint64_t lawhemuri_class(uint64_t fluents, uint64_t actions,
                          uint64_t *results, size_t results_len,
                          uint64_t *calls, size_t calls_len,
                          uint64_t *answers, size_t answers_len,
-                         uint64_t *ends, size_t ends_len);
+                         uint64_t *ends, size_t ends_len,
+                         uint64_t *list, size_t list_len);
 
 /* Lists the path of an answer record (refusals 20 to 23, then 40 to 43): the call's
  * state, then one state for each update of the execution that the record's evidence
@@ -373,6 +394,21 @@ lawhemuri_states lawhemuri_path(uint64_t fluents, uint64_t actions,
                                 const uint64_t *answers, size_t answers_len,
                                 uint64_t answer_count, uint64_t record,
                                 uint64_t *states, size_t states_len);
+
+/* Finds the record of a call by a list of calls (refusals 40, then 35), without a walk of the
+ * table: of the places still left the one with half of them, rounded down, before it is read;
+ * what is asked stands there, or before it, or after it, by action and then state. At most 17
+ * places are read. Action and state are any numbers; the goal is action 64. With the call
+ * table, the count of calls and the list that lawhemuri_evaluate left it is never refused and
+ * finds what a walk of the table finds.
+ *
+ * Table and list may come from anybody: a place that is not read is not judged, and a list
+ * that is not in order may hide a call. Nothing is written; the two may overlap.
+ */
+lawhemuri_found lawhemuri_lookup(const uint64_t *calls, size_t calls_len,
+                                 uint64_t count,
+                                 const uint64_t *list, size_t list_len,
+                                 uint64_t action, uint64_t state);
 
 /* Stores states by fluent (refusals 20, 24, 80): any states, of a path or not.
  *

@@ -9,7 +9,7 @@ const CALL: u16 = 768;
 const ROOM: usize = 1_024;
 
 /// What a class leaves: result words, tables and list.
-type Left = [Vec<u64>; 4];
+type Left = [Vec<u64>; 5];
 
 /// A book whose one action goes on from any state, and its fluents.
 struct Case {
@@ -35,29 +35,29 @@ fn cases() -> [Case; 2] {
 }
 
 fn buffers() -> Left {
-    [vec![0; START_WORDS * MOST_STARTS], vec![0; CALL_WORDS * ROOM], vec![0; ANSWER_WORDS * ROOM], vec![0; 256 * MOST_STARTS]]
+    [START_WORDS * MOST_STARTS, CALL_WORDS * ROOM, ANSWER_WORDS * ROOM, 256 * MOST_STARTS, ROOM].map(|words| vec![0; words])
 }
 
 /// The class in one go.
 fn in_one_go(question: &Question<'_>, starts: &[u64]) -> Left {
-    let [mut results, mut calls, mut answers, mut ends] = buffers();
-    let mut lent = Buffers { calls: &mut calls, answers: &mut answers, ends: &mut ends };
+    let [mut results, mut calls, mut answers, mut ends, mut list] = buffers();
+    let mut lent = Buffers { calls: &mut calls, answers: &mut answers, ends: &mut ends, list: &mut list };
     class(question, starts, &mut results, &mut lent).expect("1,024 starts and their words are lent");
-    [results, calls, answers, ends]
+    [results, calls, answers, ends, list]
 }
 
 /// The same by single calls.
 fn in_turn(question: &Question<'_>, starts: &[u64]) -> Left {
-    let [mut results, mut calls, mut answers, mut ends] = buffers();
+    let [mut results, mut calls, mut answers, mut ends, mut list] = buffers();
     let mut used = 0;
     for (&start, words) in starts.iter().zip(results.chunks_exact_mut(START_WORDS)) {
-        let mut lent = Buffers { calls: &mut calls, answers: &mut answers, ends: &mut ends[used..] };
+        let mut lent = Buffers { calls: &mut calls, answers: &mut answers, ends: &mut ends[used..], list: &mut list };
         let told = evaluate(&Question { start, ..*question }, &mut lent);
         let (number, run) = told.map_or_else(|unrun| (unrun.refusal.number(), unrun.run), |run| (0, run));
         words.copy_from_slice(&[number, run.ends as u64, run.calls as u64, run.answers as u64]);
         used += told.map_or(0, |run| run.ends);
     }
-    [results, calls, answers, ends]
+    [results, calls, answers, ends, list]
 }
 
 /// The result, and the least time of five runs.

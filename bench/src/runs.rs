@@ -102,17 +102,24 @@ struct Lent {
     calls: Vec<u64>,
     answers: Vec<u64>,
     ends: Vec<u64>,
+    list: Vec<u64>,
 }
 
 impl Lent {
     fn new(run: &plain::Run) -> Lent {
         let words = |records: usize, width| vec![0; width * records.next_power_of_two()];
-        Lent { calls: words(run.calls, CALL_WORDS), answers: words(run.answers, ANSWER_WORDS), ends: words(run.ends.len(), 1) }
+        Lent {
+            calls: words(run.calls, CALL_WORDS),
+            answers: words(run.answers, ANSWER_WORDS),
+            ends: words(run.ends.len(), 1),
+            list: words(run.calls, 1),
+        }
     }
 
     /// The counts of ends, calls and answers, or nothing where the library refuses.
     fn evaluate(&mut self, book: &Book) -> Option<[usize; 3]> {
-        let mut lent = Buffers { calls: &mut self.calls, answers: &mut self.answers, ends: &mut self.ends };
+        let Lent { calls, answers, ends, list } = self;
+        let mut lent = Buffers { calls, answers, ends, list };
         evaluate(&book.question(), &mut lent).ok().map(|run| [run.ends, run.calls, run.answers])
     }
 }

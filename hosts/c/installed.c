@@ -1,5 +1,5 @@
-/* Built by pkg-config from an installed library, without this repository: drill D1 is read, evaluated and its path listed, and the
- * header's version is the library's. */
+/* Built by pkg-config from an installed library, without this repository: drill D1 is read, evaluated, its path listed and a call found,
+ * and the header's version is the library's. */
 #include <lawhemuri.h>
 #include <stdio.h>
 #include <string.h>
@@ -14,7 +14,7 @@ static int failed(const char *what) {
 
 int main(void) {
     static uint16_t rules[LAWHEMURI_MOST_RULES * LAWHEMURI_RULE_WORDS];
-    static uint64_t calls[8 * LAWHEMURI_CALL_WORDS], answers[8 * LAWHEMURI_ANSWER_WORDS], ends[4], states[4];
+    static uint64_t calls[8 * LAWHEMURI_CALL_WORDS], answers[8 * LAWHEMURI_ANSWER_WORDS], ends[4], list[8], states[4];
     const uint64_t path[4] = {0, 1, 3, 2};
     if (lawhemuri_version() != LAWHEMURI_VERSION_NUMBER)
         return failed("the header is not of the library's version");
@@ -23,7 +23,7 @@ int main(void) {
         return failed("the sheet is refused");
     size_t words = sheet.rules * LAWHEMURI_RULE_WORDS;
     lawhemuri_run run = lawhemuri_evaluate(sheet.fluents, sheet.actions, rules, words, sheet.goal, sheet.goal_len, sheet.start, calls,
-                                           sizeof calls / sizeof *calls, answers, sizeof answers / sizeof *answers, ends, 4);
+                                           sizeof calls / sizeof *calls, answers, sizeof answers / sizeof *answers, ends, 4, list, 8);
     if (run.refusal != LAWHEMURI_OK || run.ends != 1 || ends[0] != 2)
         return failed("the ends are others");
     lawhemuri_states listed =
@@ -31,6 +31,9 @@ int main(void) {
                        answers, sizeof answers / sizeof *answers, run.answers, run.answers - 1, states, 4);
     if (listed.refusal != LAWHEMURI_OK || listed.states != 4 || memcmp(states, path, sizeof path) != 0)
         return failed("the path is another");
+    lawhemuri_found light = lawhemuri_lookup(calls, sizeof calls / sizeof *calls, run.calls, list, 8, 1, 0);
+    if (light.refusal != LAWHEMURI_OK || light.found != 1 || light.row != 1)
+        return failed("the call is not found");
     printf("lawhemuri %s: ok\n", LAWHEMURI_VERSION);
     return 0;
 }

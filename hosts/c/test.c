@@ -24,7 +24,7 @@ static const char EXAMPLE[] = "fluent\topen\nfluent\tlit\naction\tpurge\naction\
 static const uint16_t RULES[36] = {0, 3, 768, 0, 257, [18] = 0, 1, 256};
 static const uint16_t GOAL[1] = {768};
 
-static uint64_t calls[LAWHEMURI_CALL_WORDS * 8], answers[LAWHEMURI_ANSWER_WORDS * 8], ends[8];
+static uint64_t calls[LAWHEMURI_CALL_WORDS * 8], answers[LAWHEMURI_ANSWER_WORDS * 8], ends[8], list[8];
 
 static int all(const uint64_t *words, size_t len, uint64_t value) {
     for (size_t i = 0; i < len; i++)
@@ -38,13 +38,28 @@ static void fill(uint64_t *words, size_t len) {
         words[i] = MARK;
 }
 
-/* Runs drill D2 in these rooms, over buffers filled with marks. */
-static lawhemuri_run in_rooms(size_t call_room, size_t answer_room, size_t list) {
+static void fill_all(void) {
     fill(calls, WORDS(calls));
     fill(answers, WORDS(answers));
     fill(ends, WORDS(ends));
+    fill(list, WORDS(list));
+}
+
+/* Whether all buffers are as `fill_all` left them. */
+static int as_lent(void) {
+    return all(calls, WORDS(calls), MARK) && all(answers, WORDS(answers), MARK) && all(ends, WORDS(ends), MARK) && all(list, WORDS(list), MARK);
+}
+
+/* Runs drill D2 in these rooms, over buffers filled with marks. */
+static lawhemuri_run in_rooms_with(size_t call_room, size_t answer_room, size_t places, size_t listed) {
+    fill_all();
     return lawhemuri_evaluate(2, 1, RULES, 36, GOAL, 1, 0, calls, LAWHEMURI_CALL_WORDS * call_room, answers,
-                              LAWHEMURI_ANSWER_WORDS * answer_room, ends, list);
+                              LAWHEMURI_ANSWER_WORDS * answer_room, ends, places, list, listed);
+}
+
+/* The same with a list of calls that just fits. */
+static lawhemuri_run in_rooms(size_t call_room, size_t answer_room, size_t places) {
+    return in_rooms_with(call_room, answer_room, places, call_room);
 }
 
 static lawhemuri_sheet read_text(const char *text, uint16_t *rules, size_t len) {
@@ -61,7 +76,7 @@ static void test_example(void) {
     EXPECT(rules[35] == 0 && rules[36] == 0x7777 && rules[39] == 0x7777);
     fill(ends, WORDS(ends));
     lawhemuri_run r = lawhemuri_evaluate(s.fluents, s.actions, rules, LAWHEMURI_RULE_WORDS * s.rules, s.goal, s.goal_len,
-                                         s.start, calls, WORDS(calls), answers, WORDS(answers), ends, WORDS(ends));
+                                         s.start, calls, WORDS(calls), answers, WORDS(answers), ends, WORDS(ends), list, WORDS(list));
     EXPECT(r.refusal == LAWHEMURI_OK && r.ends == 1 && r.calls == 3 && r.answers == 3 && r.rounds == 5);
     EXPECT(ends[0] == 2 && all(ends + 1, WORDS(ends) - 1, MARK));
     EXPECT(all(calls + 9, WORDS(calls) - 9, 0) && all(answers + 60, WORDS(answers) - 60, 0));
@@ -179,23 +194,100 @@ static void test_rooms(void) {
     EXPECT(calls[0] == LAWHEMURI_GOAL_ACTION && all(ends, WORDS(ends), MARK));
 }
 
+/* The numbers of the call records by action and then state, the goal last, and 0 past them: drills D1 and D2. */
+static void test_call_list(void) {
+    static const uint16_t rules[36] = {0, 1, 256, [18] = 1, 4, 768, 0, 257, 512};
+    static const uint16_t goal[1] = {769};
+    static const uint64_t records[9] = {64, 0, 0, 1, 0, 1, 0, 0, 2};
+    fill_all();
+    lawhemuri_run r = lawhemuri_evaluate(2, 2, rules, 36, goal, 1, 0, calls, 12, answers, WORDS(answers), ends, WORDS(ends), list, 5);
+    EXPECT(r.refusal == LAWHEMURI_OK && r.calls == 3 && memcmp(calls, records, sizeof records) == 0);
+    EXPECT(list[0] == 2 && list[1] == 1 && all(list + 2, 3, 0) && all(list + 5, WORDS(list) - 5, MARK));
+    r = in_rooms_with(2, 4, 2, 4);
+    EXPECT(r.refusal == LAWHEMURI_OK && list[0] == 1 && all(list + 1, 3, 0) && all(list + 4, WORDS(list) - 4, MARK));
+    r = in_rooms_with(2, 4, 1, 4);
+    EXPECT(r.refusal == LAWHEMURI_LIST_SHORT && list[0] == 1 && all(list + 1, 3, 0) && all(ends, WORDS(ends), MARK));
+}
+
+/* 34 comes after 24 and before 30 and 31, and leaves every buffer; 30 sets the list wholly to 0. */
+static void test_short_call_list(void) {
+    static const size_t rooms[5][4] = {{2, 4, 2, 1}, {8, 8, 8, 7}, {2, 4, 1, 1}, {2, 3, 2, 1}, {1, 4, 2, 0}};
+    for (size_t i = 0; i < WORDS(rooms); i++) {
+        lawhemuri_run r = in_rooms_with(rooms[i][0], rooms[i][1], rooms[i][2], rooms[i][3]);
+        EXPECT(r.refusal == LAWHEMURI_CALL_LIST_SHORT && r.ends == 0 && r.calls == 0 && r.answers == 0 && r.rounds == 0 && as_lent());
+    }
+    EXPECT(lawhemuri_evaluate(2, 1, RULES, 36, GOAL, 1, 4, calls, 6, answers, 80, ends, 2, list, 1).refusal == LAWHEMURI_BAD_START);
+    EXPECT(as_lent());
+    EXPECT(in_rooms_with(2, 3, 2, 4).refusal == LAWHEMURI_TABLES_FULL);
+    EXPECT(all(calls, 6, 0) && all(answers, 60, 0) && all(list, 4, 0) && all(list + 4, WORDS(list) - 4, MARK) && all(ends, WORDS(ends), MARK));
+}
+
+static void test_lookup(void) {
+    static const uint64_t table[12] = {64, 0, 0, 0, 0, 1, 0, 1, 2, 1, 0, 2};
+    static const struct {
+        uint64_t count, list[4], places, action, state;
+        lawhemuri_found found;
+    } cases[] = {
+        {4, {1, 2, 3, 0}, 4, 0, 0, {0, 1, 1}},
+        {4, {1, 2, 3, 0}, 4, 0, 1, {0, 1, 2}},
+        {4, {1, 2, 3, 0}, 4, 1, 0, {0, 1, 3}},
+        {4, {1, 2, 3, 0}, 4, 64, 0, {0, 1, 0}},
+        {4, {1, 2, 3, 0}, 4, 64, 1, {0, 0, 0}},
+        {4, {1, 2, 3, 0}, 4, 0, 2, {0, 0, 0}},
+        {4, {1, 2, 3, 0}, 4, UINT64_MAX, UINT64_MAX, {0, 0, 0}},
+        {0, {0}, 0, 64, 0, {0, 0, 0}},
+        {5, {1, 2, 3, 0}, 4, 0, 1, {LAWHEMURI_BAD_RECORD_COUNT, 0, 0}},
+        {4, {1, 2, 3}, 3, 0, 1, {LAWHEMURI_BAD_CALL_LIST, 0, 0}},
+        {4, {1, 2, 4, 0}, 4, 0, 1, {LAWHEMURI_BAD_CALL_LIST, 0, 0}}, /* place 2 is read first */
+        {4, {9, 2, 3, 0}, 4, 64, 0, {0, 1, 0}},                      /* place 0 is not read */
+        {4, {9, 2, 3, 0}, 4, 0, 0, {LAWHEMURI_BAD_CALL_LIST, 0, 0}},
+        {4, {3, 2, 1, 0}, 4, 0, 0, {0, 1, 1}}, /* not rising: as the procedure comes to it */
+    };
+    for (size_t i = 0; i < WORDS(cases); i++) {
+        lawhemuri_found f = lawhemuri_lookup(table, WORDS(table), cases[i].count, cases[i].list, cases[i].places, cases[i].action, cases[i].state);
+        EXPECT(f.refusal == cases[i].found.refusal && f.found == cases[i].found.found && f.row == cases[i].found.row);
+    }
+    lawhemuri_found none = lawhemuri_lookup(NULL, 0, 0, NULL, 0, 64, 0), over = lawhemuri_lookup(NULL, 0, UINT64_MAX, NULL, 0, 64, 0);
+    EXPECT(none.refusal == LAWHEMURI_OK && none.found == 0 && none.row == 0 && over.refusal == LAWHEMURI_BAD_RECORD_COUNT);
+}
+
+/* Every call of a run is found by its list, and a call that is none is not. */
+static void test_lookup_of_run(void) {
+    lawhemuri_run r = in_rooms(8, 8, 8);
+    for (uint64_t row = 0; row < r.calls; row++) {
+        lawhemuri_found f = lawhemuri_lookup(calls, WORDS(calls), r.calls, list, WORDS(list), calls[3 * row], calls[3 * row + 1]);
+        EXPECT(f.refusal == LAWHEMURI_OK && f.found == 1 && f.row == row);
+    }
+    lawhemuri_found none = lawhemuri_lookup(calls, WORDS(calls), r.calls, list, WORDS(list), 0, 1);
+    EXPECT(r.calls == 2 && none.refusal == LAWHEMURI_OK && none.found == 0 && none.row == 0);
+}
+
+/* A list that is too short is told of each start but one refused before it; else the last start's list is left. */
+static void test_call_list_of_class(void) {
+    static const uint64_t starts[2] = {4, 2}, told[8] = {24, 0, 0, 0, 34}, served[8] = {24, 0, 0, 0, 0, 1, 2, 2};
+    uint64_t results[8];
+    fill_all();
+#define LISTED(places) lawhemuri_class(2, 1, RULES, 36, GOAL, 1, starts, 2, results, 8, calls, 9, answers, 100, ends, 4, list, places)
+    EXPECT(LISTED(2) == LAWHEMURI_OK && memcmp(results, told, sizeof told) == 0 && as_lent());
+    EXPECT(LISTED(4) == LAWHEMURI_OK && memcmp(results, served, sizeof served) == 0);
+    EXPECT(list[0] == 1 && all(list + 1, 3, 0) && all(list + 4, WORDS(list) - 4, MARK));
+}
+
 static void test_refused_questions(void) {
     uint16_t bad[36], goal[17] = {0};
     memcpy(bad, RULES, sizeof bad);
     bad[17] = 1; /* an unused word that is not 0 */
-    fill(calls, WORDS(calls));
-    fill(answers, WORDS(answers));
-    fill(ends, WORDS(ends));
+    fill_all();
 #define RUN(f, a, rules, len, goal, goal_len, start) \
-    lawhemuri_evaluate(f, a, rules, len, goal, goal_len, start, calls, 24, answers, 160, ends, 8).refusal
+    lawhemuri_evaluate(f, a, rules, len, goal, goal_len, start, calls, 24, answers, 160, ends, 8, list, 8).refusal
     EXPECT(RUN(LAWHEMURI_MOST_FLUENTS + 1, 1, RULES, 36, GOAL, 1, 0) == LAWHEMURI_BAD_COUNTS);
     EXPECT(RUN(2, LAWHEMURI_MOST_ACTIONS + 1, RULES, 36, GOAL, 1, 0) == LAWHEMURI_BAD_COUNTS);
     EXPECT(RUN(2, 1, RULES, 35, GOAL, 1, 0) == LAWHEMURI_BAD_LENGTH);
     EXPECT(RUN(2, 1, bad, 36, GOAL, 1, 0) == LAWHEMURI_BAD_RULE);
     EXPECT(RUN(2, 1, RULES, 36, goal, 17, 0) == LAWHEMURI_BAD_GOAL);
     EXPECT(RUN(2, 1, RULES, 36, GOAL, 1, 4) == LAWHEMURI_BAD_START);
-    EXPECT(all(calls, WORDS(calls), MARK) && all(answers, WORDS(answers), MARK) && all(ends, WORDS(ends), MARK));
-    EXPECT(lawhemuri_evaluate(0, 0, NULL, 0, NULL, 0, 0, NULL, 0, NULL, 0, NULL, 0).refusal == LAWHEMURI_TABLES_FULL);
+    EXPECT(as_lent());
+    EXPECT(lawhemuri_evaluate(0, 0, NULL, 0, NULL, 0, 0, NULL, 0, NULL, 0, NULL, 0, NULL, 0).refusal == LAWHEMURI_TABLES_FULL);
 }
 
 /* The step `~`: goes on where the fluent does not hold, and nowhere else. */
@@ -205,7 +297,7 @@ static void test_denial(void) {
     EXPECT(s.refusal == LAWHEMURI_OK && s.goal_len == 2 && s.goal[0] == 1025 && s.goal[1] == 0);
     EXPECT(read_text("action\tg\nstart\ngoal\t~g\n", NULL, 0).refusal == LAWHEMURI_UNDEFINED);
 #define DENY(goal, start) \
-    lawhemuri_evaluate(2, 0, NULL, 0, goal, 1, start, calls, WORDS(calls), answers, WORDS(answers), ends, WORDS(ends))
+    lawhemuri_evaluate(2, 0, NULL, 0, goal, 1, start, calls, WORDS(calls), answers, WORDS(answers), ends, WORDS(ends), list, WORDS(list))
     lawhemuri_run r = DENY(deny_b, 1);
     EXPECT(r.refusal == LAWHEMURI_OK && r.ends == 1 && r.calls == 1 && r.answers == 1 && ends[0] == 1);
     r = DENY(deny_b, 2);
@@ -218,7 +310,8 @@ static void test_path(void) {
     static const uint16_t rules[36] = {0, 1, 256, [18] = 1, 4, 768, 0, 257, 512};
     static const uint16_t goal[1] = {769};
     uint64_t states[5];
-    lawhemuri_run r = lawhemuri_evaluate(2, 2, rules, 36, goal, 1, 0, calls, WORDS(calls), answers, WORDS(answers), ends, WORDS(ends));
+    lawhemuri_run r = lawhemuri_evaluate(2, 2, rules, 36, goal, 1, 0, calls, WORDS(calls), answers, WORDS(answers), ends, WORDS(ends), list,
+                                         WORDS(list));
     EXPECT(r.refusal == LAWHEMURI_OK && r.calls == 3 && r.answers == 3);
     uint64_t record = r.answers;
     for (uint64_t x = 0; x < r.answers; x++)
@@ -253,14 +346,14 @@ static void test_rounds(void) {
     };
     for (size_t i = 0; i < WORDS(drills); i++) {
         lawhemuri_run r = lawhemuri_evaluate(2, 2, drills[i].rules, 36, drills[i].goal, drills[i].goal_len, drills[i].start, calls,
-                                             WORDS(calls), answers, WORDS(answers), ends, WORDS(ends));
+                                             WORDS(calls), answers, WORDS(answers), ends, WORDS(ends), list, WORDS(list));
         EXPECT(r.refusal == LAWHEMURI_OK && r.rounds == drills[i].rounds && r.calls == drills[i].calls && r.answers == drills[i].answers);
     }
-    EXPECT(lawhemuri_evaluate(65, 1, RULES, 36, GOAL, 1, 0, NULL, 0, NULL, 0, NULL, 0).rounds == 0);
-    EXPECT(lawhemuri_evaluate(2, 1, RULES, 35, GOAL, 1, 0, NULL, 0, NULL, 0, NULL, 0).rounds == 0);
-    EXPECT(lawhemuri_evaluate(2, 0, RULES, 36, GOAL, 1, 0, NULL, 0, NULL, 0, NULL, 0).rounds == 0);
-    EXPECT(lawhemuri_evaluate(2, 1, RULES, 36, drills[0].goal, 1, 0, NULL, 0, NULL, 0, NULL, 0).rounds == 0);
-    EXPECT(lawhemuri_evaluate(2, 1, RULES, 36, GOAL, 1, 4, NULL, 0, NULL, 0, NULL, 0).rounds == 0);
+    EXPECT(lawhemuri_evaluate(65, 1, RULES, 36, GOAL, 1, 0, NULL, 0, NULL, 0, NULL, 0, NULL, 0).rounds == 0);
+    EXPECT(lawhemuri_evaluate(2, 1, RULES, 35, GOAL, 1, 0, NULL, 0, NULL, 0, NULL, 0, NULL, 0).rounds == 0);
+    EXPECT(lawhemuri_evaluate(2, 0, RULES, 36, GOAL, 1, 0, NULL, 0, NULL, 0, NULL, 0, NULL, 0).rounds == 0);
+    EXPECT(lawhemuri_evaluate(2, 1, RULES, 36, drills[0].goal, 1, 0, NULL, 0, NULL, 0, NULL, 0, NULL, 0).rounds == 0);
+    EXPECT(lawhemuri_evaluate(2, 1, RULES, 36, GOAL, 1, 4, NULL, 0, NULL, 0, NULL, 0, NULL, 0).rounds == 0);
 }
 
 /* The records of drill D2 with their rounds, and the rounds that the path refuses with 42. */
@@ -297,9 +390,10 @@ static void test_one_order(void) {
         {0, 1, 256, 0, 3, [19] = 5}, {0, 2, 256, 1, 5, [19] = 5}, {0, 3, 256, 0, 4, [19] = 5},
     };
     uint64_t got_calls[6][3], got[12][20], got_ends[3];
-    lawhemuri_run r = lawhemuri_evaluate(2, 1, rules, 54, goal, 2, 0, *got_calls, 18, *got, 240, got_ends, 3);
+    static const uint64_t wanted_list[6] = {1, 2, 3, 4, 0, 0};
+    lawhemuri_run r = lawhemuri_evaluate(2, 1, rules, 54, goal, 2, 0, *got_calls, 18, *got, 240, got_ends, 3, list, 6);
     EXPECT(r.refusal == LAWHEMURI_OK && r.ends == 3 && r.calls == 5 && r.answers == 11 && r.rounds == 5);
-    EXPECT(memcmp(got_calls, wanted_calls, sizeof wanted_calls) == 0);
+    EXPECT(memcmp(got_calls, wanted_calls, sizeof wanted_calls) == 0 && memcmp(list, wanted_list, sizeof wanted_list) == 0);
     EXPECT(memcmp(got, wanted, sizeof wanted) == 0);
 }
 
@@ -307,7 +401,8 @@ static void test_one_order(void) {
 static void test_idle_update(void) {
     static const uint16_t goal[1] = {256};
     uint64_t states[3];
-    lawhemuri_run r = lawhemuri_evaluate(2, 0, NULL, 0, goal, 1, 1, calls, WORDS(calls), answers, WORDS(answers), ends, WORDS(ends));
+    lawhemuri_run r = lawhemuri_evaluate(2, 0, NULL, 0, goal, 1, 1, calls, WORDS(calls), answers, WORDS(answers), ends, WORDS(ends), list,
+                                         WORDS(list));
     EXPECT(r.refusal == LAWHEMURI_OK && r.ends == 1 && ends[0] == 1);
 #define IDLE(places) lawhemuri_path(2, 0, NULL, 0, goal, 1, calls, WORDS(calls), r.calls, answers, WORDS(answers), r.answers, 0, states, places)
     fill(states, WORDS(states));
@@ -322,7 +417,8 @@ static void test_store(void) {
     static const uint16_t rules[36] = {0, 2, 256, 512, [18] = 1, 2, 768, 768};
     static const uint16_t goal[1] = {769};
     uint64_t states[6], words[3], back[6];
-    lawhemuri_run r = lawhemuri_evaluate(2, 2, rules, 36, goal, 1, 0, calls, WORDS(calls), answers, WORDS(answers), ends, WORDS(ends));
+    lawhemuri_run r = lawhemuri_evaluate(2, 2, rules, 36, goal, 1, 0, calls, WORDS(calls), answers, WORDS(answers), ends, WORDS(ends), list,
+                                         WORDS(list));
     EXPECT(r.refusal == LAWHEMURI_OK && r.answers == 3);
     uint64_t record = 0;
     while (record < r.answers && calls[LAWHEMURI_CALL_WORDS * answers[LAWHEMURI_ANSWER_WORDS * record]] != LAWHEMURI_GOAL_ACTION)
@@ -388,16 +484,15 @@ static void test_class(void) {
     static const uint64_t told[16] = {0, 2, 2, 4, 0, 1, 2, 2, 24, 0, 0, 0, 31, 2, 2, 4};
     uint64_t results[17], kept_calls[WORDS(calls)], kept_answers[WORDS(answers)];
     fill(results, WORDS(results));
-    fill(calls, WORDS(calls));
-    fill(answers, WORDS(answers));
-    fill(ends, WORDS(ends));
+    fill_all();
     EXPECT(lawhemuri_class(2, 1, RULES, 36, GOAL, 1, starts, 4, results, WORDS(results), calls, WORDS(calls), answers, WORDS(answers),
-                           ends, 4) == LAWHEMURI_OK);
+                           ends, 4, list, WORDS(list)) == LAWHEMURI_OK);
     EXPECT(memcmp(results, told, sizeof told) == 0 && results[16] == MARK);
     EXPECT(ends[0] == 1 && ends[1] == 3 && ends[2] == 3 && all(ends + 3, WORDS(ends) - 3, MARK));
     memcpy(kept_calls, calls, sizeof calls);
     memcpy(kept_answers, answers, sizeof answers);
-    lawhemuri_run r = lawhemuri_evaluate(2, 1, RULES, 36, GOAL, 1, 1, calls, WORDS(calls), answers, WORDS(answers), NULL, 0);
+    lawhemuri_run r = lawhemuri_evaluate(2, 1, RULES, 36, GOAL, 1, 1, calls, WORDS(calls), answers, WORDS(answers), NULL, 0, list,
+                                         WORDS(list));
     EXPECT(r.refusal == LAWHEMURI_LIST_SHORT && r.ends == 2);
     EXPECT(memcmp(kept_calls, calls, sizeof calls) == 0 && memcmp(kept_answers, answers, sizeof answers) == 0);
 }
@@ -407,16 +502,13 @@ static void test_refused_class(void) {
     static const uint64_t starts[LAWHEMURI_MOST_STARTS + 1] = {4};
     static uint64_t results[4 * (LAWHEMURI_MOST_STARTS + 1)];
     fill(results, WORDS(results));
-    fill(calls, WORDS(calls));
-    fill(answers, WORDS(answers));
-    fill(ends, WORDS(ends));
+    fill_all();
 #define CLASS(fluents, count, words) \
-    lawhemuri_class(fluents, 1, RULES, 36, GOAL, 1, starts, count, results, words, calls, 6, answers, 80, ends, 2)
+    lawhemuri_class(fluents, 1, RULES, 36, GOAL, 1, starts, count, results, words, calls, 6, answers, 80, ends, 2, list, 2)
     EXPECT(CLASS(2, LAWHEMURI_MOST_STARTS + 1, WORDS(results)) == LAWHEMURI_BAD_CLASS);
     EXPECT(CLASS(2, 1, 3) == LAWHEMURI_BAD_CLASS);
     EXPECT(CLASS(65, 0, 0) == LAWHEMURI_OK);
-    EXPECT(all(results, WORDS(results), MARK) && all(calls, WORDS(calls), MARK) && all(answers, WORDS(answers), MARK));
-    EXPECT(all(ends, WORDS(ends), MARK));
+    EXPECT(all(results, WORDS(results), MARK) && as_lent());
     EXPECT(CLASS(2, LAWHEMURI_MOST_STARTS, WORDS(results)) == LAWHEMURI_OK);
     EXPECT(results[0] == LAWHEMURI_BAD_START && all(results + 1, 3, 0) && results[4] == 0 && results[5] == 2);
     EXPECT(results[8] == LAWHEMURI_LIST_SHORT && results[9] == 2 && ends[0] == 1 && ends[1] == 3);
@@ -467,7 +559,7 @@ static void test_report_of_class(void) {
     fill(results, WORDS(results));
     fill(out, WORDS(out));
     EXPECT(lawhemuri_class(2, 1, RULES, 36, GOAL, 1, starts, 4, results, WORDS(results), calls, WORDS(calls), answers, WORDS(answers),
-                           ends, 4) == LAWHEMURI_OK);
+                           ends, 4, list, WORDS(list)) == LAWHEMURI_OK);
     for (size_t i = 0; i < 4; i++)
         listed += results[4 * i] == 0 ? results[4 * i + 1] : 0;
     EXPECT(listed == 3 && lawhemuri_report(2, results, 16, ends, listed, out, WORDS(out)) == LAWHEMURI_OK);
@@ -536,6 +628,11 @@ int main(void) {
     test_merge();
     test_refused_sheets();
     test_rooms();
+    test_call_list();
+    test_short_call_list();
+    test_lookup();
+    test_lookup_of_run();
+    test_call_list_of_class();
     test_refused_questions();
     test_denial();
     test_path();

@@ -46,6 +46,8 @@ MEANINGS = {
     27: "the output has fewer than 2 words for each fluent and 4 more",
     30: "the tables have too little room for the run",
     31: "the list has fewer places than there are ends",
+    34: "the list of calls has fewer places than the call table has room for records",
+    35: "a list of calls that is short, or has a number of no call",
     40: "a record count over its room",
     41: "no such answer record",
     42: "a bad call record, or an answer that is not justified",
@@ -116,6 +118,12 @@ class Run(Shown):
     _fields_ = [(name, U64) for name in ("refusal", "ends", "calls", "answers", "rounds")]
 
 
+class Found(Shown):
+    """The refusal, 0 for none, 1 where there is such a call, and its record."""
+
+    _fields_ = [(name, U64) for name in ("refusal", "found", "row")]
+
+
 class Start(Shown):
     """What a class run tells of a start: the refusal, 0 for none, and the counts. It tells no rounds."""
 
@@ -142,7 +150,7 @@ class Marked(Shown):
 
 class Refused(Exception):
     """A numbered refusal and what it means, with its line for 13 to 17, and of a merge the sheet at fault. With 31 `finished` has the
-    run's counts, its calls and its answers."""
+    run's counts, its calls, its answers and its list of calls."""
 
     def __init__(self, number: int, line: int = 0, finished: tuple | None = None, sheet: int = 0):
         self.number, self.line, self.finished, self.sheet = number, line, finished, sheet
@@ -169,10 +177,12 @@ class Library:
         self._merge.argtypes = [ctypes.c_char_p, SIZE] * 2 + [ctypes.POINTER(U8), SIZE]
         self._merged, self._merged.restype = lib.lawhemuri_merged_fluent, Part
         self._merged.argtypes = [ctypes.c_char_p, SIZE] * 2 + [U64]
-        self._evaluate.argtypes = [U64, U64, words, SIZE, words, SIZE, U64] + [longs, SIZE] * 3
+        self._evaluate.argtypes = [U64, U64, words, SIZE, words, SIZE, U64] + [longs, SIZE] * 4
         self._evaluate.restype = Run
         self._class, self._class.restype = lib.lawhemuri_class, U64
-        self._class.argtypes = [U64, U64, words, SIZE, words, SIZE] + [longs, SIZE] * 5
+        self._class.argtypes = [U64, U64, words, SIZE, words, SIZE] + [longs, SIZE] * 6
+        self._lookup, self._lookup.restype = lib.lawhemuri_lookup, Found
+        self._lookup.argtypes = [longs, SIZE, U64, longs, SIZE, U64, U64]
         self._path, self._path.restype = lib.lawhemuri_path, States
         self._path.argtypes = [U64, U64, words, SIZE, words, SIZE] + [longs, SIZE, U64] * 2 + [U64, longs, SIZE]
         self._store, self._store.restype = lib.lawhemuri_store, Archived
@@ -223,16 +233,31 @@ class Library:
         part = self._merged(first, len(first), second, len(second), fluent)
         return (second if part.sheet == 2 else first)[part.at : part.at + part.len]
 
-    def evaluate(self, sheet: Sheet, rules: Rules, rooms: tuple[int, int, int] = (512, 256, 256)) -> tuple[Run, list[int], Words, Words]:
-        """The run's counts, its ends in rising order, and the tables of calls and answers."""
+    def evaluate(
+        self, sheet: Sheet, rules: Rules, rooms: tuple[int, int, int] = (512, 256, 256), listed: Words | None = None
+    ) -> tuple[Run, list[int], Words, Words, Words]:
+        """The run's counts, its ends in rising order, the tables of calls and answers, and the list of calls, by which `find` finds one;
+        `listed` is the list lent, else one that is long enough."""
         calls, answers, ends = (U64 * (CALL_WORDS * rooms[0]))(), (U64 * (ANSWER_WORDS * rooms[1]))(), (U64 * rooms[2])()
+        listed = (U64 * rooms[0])() if listed is None else listed
         run = self._evaluate(
             sheet.fluents, sheet.actions, rules, 18 * sheet.rules, sheet.goal, sheet.goal_len, sheet.start,
-            calls, len(calls), answers, len(answers), ends, len(ends),
+            calls, len(calls), answers, len(answers), ends, len(ends), listed, len(listed),
         )
         if run.refusal:
-            raise Refused(run.refusal, finished=(run, calls, answers) if run.refusal == 31 else None)
-        return run, ends[: run.ends], calls, answers
+            raise Refused(run.refusal, finished=(run, calls, answers, listed) if run.refusal == 31 else None)
+        return run, ends[: run.ends], calls, answers, listed
+
+    def find(self, calls: Words, count: int, listed: Words, action: int, state: int) -> int | None:
+        """The record of a call, None where there is none, by the list of calls that a run left with its table and its count of calls. All
+        three may come from anybody: 40 for a count over the table's room, 35 for a list that is short or has a number of no call where it
+        is read."""
+        if not all(0 <= number < 2**64 for number in (count, action, state)):
+            raise ValueError("a count, an action and a state are numbers of 64 bits")
+        found = self._lookup(calls, len(calls), count, listed, len(listed), action, state)
+        if found.refusal:
+            raise Refused(found.refusal)
+        return found.row if found.found else None
 
     def class_run(
         self, sheet: Sheet, rules: Rules, starts: Sequence[int], rooms: tuple[int, int, int] | None = None, words: int | None = None
@@ -243,10 +268,10 @@ class Library:
             raise ValueError("a start is a number of 64 bits")
         rooms = (512, 256, 256 * len(starts)) if rooms is None else rooms
         calls, answers, ends = (U64 * (CALL_WORDS * rooms[0]))(), (U64 * (ANSWER_WORDS * rooms[1]))(), (U64 * rooms[2])()
-        results = (U64 * (4 * len(starts) if words is None else words))()
+        results, listed = (U64 * (4 * len(starts) if words is None else words))(), (U64 * rooms[0])()
         refusal = self._class(
             sheet.fluents, sheet.actions, rules, 18 * sheet.rules, sheet.goal, sheet.goal_len, (U64 * len(starts))(*starts), len(starts),
-            results, len(results), calls, len(calls), answers, len(answers), ends, len(ends),
+            results, len(results), calls, len(calls), answers, len(answers), ends, len(ends), listed, len(listed),
         )
         if refusal:
             raise Refused(refusal)
@@ -320,7 +345,7 @@ def print_ends(lib: Library, text: Text) -> None:
     """Prints the ends of a sheet, each with a path to it, or the sheet's refusal."""
     try:
         sheet, rules = lib.read(text)
-        run, ends, calls, answers = lib.evaluate(sheet, rules)
+        run, ends, calls, answers, _ = lib.evaluate(sheet, rules)
     except Refused as refusal:
         print("refused", refusal.number, refusal.line, sep="\t")
         return

@@ -227,14 +227,63 @@ class ShortList(unittest.TestCase):
 
     def test_counts_and_tables_are_given(self):
         sheet, rules = LIBRARY.read(content(os.path.join(SHEETS, "left_recursion.sheet")))
-        _, ends, calls, answers = LIBRARY.evaluate(sheet, rules, rooms=(2, 4, 2))
-        self.assertEqual(ends, [1, 3])
+        _, ends, calls, answers, listed = LIBRARY.evaluate(sheet, rules, rooms=(2, 4, 2))
+        self.assertEqual((ends, list(listed)), ([1, 3], [1, 0]))
         with self.assertRaises(lawhemuri.Refused) as short:
             LIBRARY.evaluate(sheet, rules, rooms=(2, 4, 1))
         self.assertEqual(short.exception.number, 31)
-        run, same_calls, same_answers = short.exception.finished
+        run, *same = short.exception.finished
         self.assertEqual((run.ends, run.calls, run.answers, run.rounds), (2, 2, 4, 4))
-        self.assertEqual((list(same_calls), list(same_answers)), (list(calls), list(answers)))
+        self.assertEqual([list(words) for words in same], [list(calls), list(answers), list(listed)])
+
+
+class CallList(unittest.TestCase):
+    """The list of calls that a run leaves, and calls found by it."""
+
+    # calls (64, 0), (0, 0), (0, 1) and (1, 0), with their rounds
+    TABLE = (lawhemuri.U64 * 12)(64, 0, 0, 0, 0, 1, 0, 1, 2, 1, 0, 2)
+
+    def find(self, count, listed, action, state):
+        return LIBRARY.find(self.TABLE, count, (lawhemuri.U64 * len(listed))(*listed), action, state)
+
+    def refusal(self, asked):
+        with self.assertRaises(lawhemuri.Refused) as refused:
+            asked()
+        return refused.exception.number
+
+    def test_lists_of_drills(self):
+        for name, records in ("example", [2, 1, 0]), ("left_recursion", [1, 0]):
+            lent = (lawhemuri.U64 * 9)(*[7] * 9)
+            run, _, calls, _, listed = LIBRARY.evaluate(*LIBRARY.read(content(os.path.join(SHEETS, name + ".sheet"))), (8, 8, 8), lent)
+            self.assertEqual(list(listed), records + [0] * (9 - len(records)))
+            rows = [calls[3 * row : 3 * row + 2] for row in range(run.calls)]
+            self.assertEqual([LIBRARY.find(calls, run.calls, listed, *row) for row in rows], list(range(run.calls)))
+            self.assertIsNone(LIBRARY.find(calls, run.calls, listed, 64, 1))
+
+    def test_short_list(self):
+        sheet, rules = LIBRARY.read(content(os.path.join(SHEETS, "left_recursion.sheet")))
+        for rooms, places, number, word in ((8, 8, 8), 7, 34, 7), ((2, 3, 2), 1, 34, 7), ((2, 4, 1), 1, 34, 7), ((2, 3, 2), 4, 30, 0):
+            lent = (lawhemuri.U64 * places)(*[7] * places)
+            self.assertEqual(self.refusal(lambda: LIBRARY.evaluate(sheet, rules, rooms, lent)), number)
+            self.assertEqual(list(lent), [word] * places)
+
+    def test_found(self):
+        for action, state, row in (0, 0, 1), (0, 1, 2), (1, 0, 3), (64, 0, 0), (64, 1, None), (0, 2, None), (2**64 - 1, 2**64 - 1, None):
+            self.assertEqual(self.find(4, [1, 2, 3, 0], action, state), row)
+        self.assertIsNone(self.find(0, [], 64, 0))
+        self.assertEqual(self.find(4, [9, 2, 3, 0], 64, 0), 0)  # place 0 is not read
+        self.assertEqual(self.find(4, [3, 2, 1, 0], 0, 0), 1)  # not rising: as the procedure comes to it
+
+    def test_refused(self):
+        for number, asked in (
+            (40, (5, [1, 2, 3, 0], 0, 1)),
+            (35, (4, [1, 2, 3], 0, 1)),
+            (35, (4, [1, 2, 4, 0], 0, 1)),  # place 2 is read first
+            (35, (4, [9, 2, 3, 0], 0, 0)),
+        ):
+            self.assertEqual(self.refusal(lambda: self.find(*asked)), number)
+        with self.assertRaises(ValueError):
+            self.find(4, [1, 2, 3, 0], -1, 0)
 
 
 class Rounds(unittest.TestCase):
@@ -259,14 +308,14 @@ class Rounds(unittest.TestCase):
         self.assertEqual((empty.answers, empty.rounds), (1, 1))
 
     def test_records_of_left_recursion(self):
-        run, _, calls, answers = LIBRARY.evaluate(self.sheet, self.rules, rooms=(2, 4, 2))
+        run, _, calls, answers, _ = LIBRARY.evaluate(self.sheet, self.rules, rooms=(2, 4, 2))
         self.assertEqual((run.rounds, list(calls)), (4, [64, 0, 0, 0, 0, 1]))
         records = [answers[20 * i : 20 * i + 20] for i in range(4)]
         self.assertEqual([record[:4] for record in records], [[1, 1, 1, 0], [0, 1, 256, 0], [1, 3, 0, 0], [0, 3, 256, 2]])
         self.assertEqual([record[19] for record in records], [2, 3, 3, 4])
 
     def test_rounds_that_no_table_has(self):
-        run, _, calls, answers = LIBRARY.evaluate(self.sheet, self.rules, rooms=(2, 4, 2))
+        run, _, calls, answers, _ = LIBRARY.evaluate(self.sheet, self.rules, rooms=(2, 4, 2))
 
         def shown():
             return LIBRARY.path(self.sheet, self.rules, run, calls, answers, 3)
@@ -289,7 +338,8 @@ class OneOrder(unittest.TestCase):
         sheet, rules = LIBRARY.read(
             "fluent\ta\nfluent\tb\naction\tg\nrule\tg\t+b\nrule\tg\t+a\nrule\tg\t+a\t+b\nstart\ngoal\t!g\t!g\n"
         )
-        run, ends, calls, answers = LIBRARY.evaluate(sheet, rules, rooms=(6, 12, 3))
+        run, ends, calls, answers, listed = LIBRARY.evaluate(sheet, rules, rooms=(6, 12, 3))
+        self.assertEqual(list(listed), [1, 2, 3, 4, 0, 0])
         self.assertEqual((run.calls, run.answers, run.rounds, ends), (5, 11, 5, [1, 2, 3]))
         self.assertEqual(list(calls), [64, 0, 0] + [0, 0, 1] + [0, 1, 3] + [0, 2, 3] + [0, 3, 3] + [0, 0, 0])
         words = []
@@ -354,7 +404,7 @@ class ByFluent(unittest.TestCase):
         # Drill D9 with a second fluent.
         text = b"fluent\ta\nfluent\tb\naction\tp\naction\tq\nrule\tp\t+a\t-a\nrule\tq\t!p\t!p\nstart\ngoal\t!q\n"
         sheet, rules = LIBRARY.read(text)
-        run, ends, calls, answers = LIBRARY.evaluate(sheet, rules)
+        run, ends, calls, answers, _ = LIBRARY.evaluate(sheet, rules)
         [record] = lawhemuri.goal_records(run, calls, answers).values()
         path = LIBRARY.path(sheet, rules, run, calls, answers, record)
         self.assertEqual(path, [0, 1, 0, 1, 0])

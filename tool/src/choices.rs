@@ -180,8 +180,9 @@ mod tests {
         for &start in from {
             let rules = drill.rehearsal.rules();
             let question = Question { fluents: sheet.fluents, actions: sheet.actions, rules, goal: body, start };
-            let (mut calls, mut answers, mut ends) = (vec![0; CALL_WORDS * ROOM], vec![0; ANSWER_WORDS * ROOM], vec![0; ROOM]);
-            let mut lent = Buffers { calls: &mut calls, answers: &mut answers, ends: &mut ends };
+            let (mut calls, mut answers) = (vec![0; CALL_WORDS * ROOM], vec![0; ANSWER_WORDS * ROOM]);
+            let (mut ends, mut list) = (vec![0; ROOM], vec![0; ROOM]);
+            let mut lent = Buffers { calls: &mut calls, answers: &mut answers, ends: &mut ends, list: &mut list };
             let run = evaluate(&question, &mut lent).unwrap();
             reached.extend(&ends[..run.ends]);
         }

@@ -19,7 +19,7 @@ use Rattle.checks.specs.Checks.{last-round, over-room}
 use Rattle.path.specs.Answered as path
 use Rattle.path.proofs.OutcomeLaws.{never-42}
 use Rattle.path.proofs.FinishedLaws.{finished-sound, finished-never-42}
-use Rattle.evaluator.specs.Evaluated.{Evaluated, Asked, Lent, Told, told, refused-with, rows-asked, buffers-after, Tabled, not-accepted, outgrown, short-list, ends-listed}
+use Rattle.evaluator.specs.Evaluated.{Evaluated, Asked, Lent, Told, told, refused-with, rows-asked, buffers-after, Tabled, not-accepted, list-of-calls-short, outgrown, short-list, ends-listed}
 use Rattle.evaluator.proofs.Determined.{tabled-rooms}
 
 -- What the path is lent after an evaluation: what was asked of it, the tables, and the counts given.
@@ -48,7 +48,8 @@ sound {q} {after = after} {r = r} list t s = finished-sound (left-by q after r) 
 -- After whatever evaluation no record number below the count of answers (which is 0 but after 0 or 31) meets a fault of the path, 20 to 42.
 pub evaluated-sound : {q : Asked} {before after : Lent} {r : Told} → Evaluated q before after r → (x : ℕ) → x < r .answers → path.fault (left-by q after r) x ≡ 0
 evaluated-sound (not-accepted n z u) x h = absurd (omega (arith, ap (λ (r : Told). r .answers) z))
-evaluated-sound (outgrown e f z u) x h = absurd (omega (arith, ap (λ (r : Told). r .answers) z))
+evaluated-sound (list-of-calls-short e h z u) x l = absurd (omega (arith, ap (λ (r : Told). r .answers) z))
+evaluated-sound (outgrown e k f z u) x h = absurd (omega (arith, ap (λ (r : Told). r .answers) z))
 evaluated-sound (short-list z t l u) x h = sound _ t u x h
 evaluated-sound (ends-listed z t l up u) x h = sound _ t u x h
 
@@ -63,6 +64,7 @@ module _ (q : Asked) (after : Lent) (x : ℕ) (list : List ℕ) where
 -- Whatever record is asked for, after whatever evaluation: not 42.
 pub evaluated-never-42 : {q : Asked} {before after : Lent} {r : Told} → Evaluated q before after r → (x : ℕ) (list : List ℕ) → path.path-refusal (left-by q after r) x list ≢ path-refusals .bad-record
 evaluated-never-42 {q} {after = after} (not-accepted n z u) x list = subst (Never q after x list) (sym z) (empty q after x list (refused-with q))
-evaluated-never-42 {q} {after = after} (outgrown e f z u) x list = subst (Never q after x list) (sym z) (empty q after x list (run-refusals .tables-full))
+evaluated-never-42 {q} {after = after} (list-of-calls-short e h z u) x list = subst (Never q after x list) (sym z) (empty q after x list (run-refusals .call-list-short))
+evaluated-never-42 {q} {after = after} (outgrown e h f z u) x list = subst (Never q after x list) (sym z) (empty q after x list (run-refusals .tables-full))
 evaluated-never-42 {q} {after = after} {r = r} (short-list z t l u) x list = finished-never-42 (left-by q after r) (q .start) (t .accepted) (t .finished) (rounds-low _ t u) x list
 evaluated-never-42 {q} {after = after} {r = r} (ends-listed z t l up u) x list = finished-never-42 (left-by q after r) (q .start) (t .accepted) (t .finished) (rounds-low _ t u) x list

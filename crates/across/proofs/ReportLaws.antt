@@ -90,7 +90,7 @@ module _ {fluents actions : ℕ} {rules goal : List ℕ} {begun : List State} {r
     sum-is = ap (λ (n : ℕ). sum-below n (own words)) long ∙ sum-written (S .given) ∙ sym (S .ends-many)
 
     ends-are : ends-left (words-left begun results′) after ≡ S .ends
-    ends-are = ap₂ take (ap all-ends words-are ∙ sum-is) (S .list) ∙ take-at (S .ends) _ (length (S .ends)) refl
+    ends-are = ap₂ take (ap all-ends words-are ∙ sum-is) (S .ends-list) ∙ take-at (S .ends) _ (length (S .ends)) refl
 
     few-ends : (i : ℕ) → i < starts words → few words i ≡ true
     few-ends i l =

@@ -10,6 +10,7 @@ ghost use Rattle.origin.specs.MergedName.{merged-span};
 ghost use Rattle.evaluator.specs.Evaluated.{Evaluated, asked, lent, told};
 ghost use Rattle.class.specs.Class.{Ran};
 ghost use Rattle.path.specs.Answered.{handed, Answered};
+ghost use Rattle.lookup.specs.Lookup.{looked-up};
 ghost use Rattle.archive.specs.Archived.{StatesStored, StatesRestored};
 ghost use Rattle.report.specs.Report.{refusal, output-after};
 ghost use Rattle.marking.specs.Marking.{question, RecordMarked};
@@ -73,7 +74,8 @@ pub extern "C" fn lawhemuri_merged_fluent<'a>(
     origin::merged_span(first, second, fluent)
 }
 
-// Evaluates the goal from the start: fills the tables with its calls and answers, and lists its ends in rising order.
+// Evaluates the goal from the start: fills the tables with its calls and answers, lists its ends in rising order in `ends`, and the
+// numbers of its call records, by action and then state, in `list`.
 #[no_mangle]
 pub extern "C" fn lawhemuri_evaluate<'a>(
     fluents: u64,
@@ -84,15 +86,27 @@ pub extern "C" fn lawhemuri_evaluate<'a>(
     calls: &mut [u64],
     answers: &mut [u64],
     ends: &mut [u64],
+    list: &mut [u64],
 ) -> evaluator::Run
     ensures { λ r. ⌜ Evaluated (asked fluents actions (now (rules .entry)) (now (goal .entry)) start)
-        (lent (now (calls .entry)) (now (answers .entry)) (now (ends .entry))) (lent (now (calls .exit)) (now (answers .exit)) (now (ends .exit)))
+        (lent (now (calls .entry)) (now (answers .entry)) (now (ends .entry)) (now (list .entry)))
+        (lent (now (calls .exit)) (now (answers .exit)) (now (ends .exit)) (now (list .exit)))
         (told (r .refusal) (r .ends) (r .calls) (r .answers) (r .rounds)) ⌝ }
 {
-    evaluator::evaluate(fluents, actions, rules, goal, start, calls, answers, ends)
+    evaluator::evaluate(
+        fluents,
+        actions,
+        rules,
+        goal,
+        start,
+        calls,
+        answers,
+        ends,
+        list,
+    )
 }
 
-// Runs the goal from each start in turn, with the same tables and one list of ends: four words for each start go to `results`.
+// Runs the goal from each start in turn, with the same tables, one list of ends and one list of calls: four words for each start go to `results`.
 #[no_mangle]
 pub extern "C" fn lawhemuri_class<'a>(
     fluents: u64,
@@ -104,10 +118,11 @@ pub extern "C" fn lawhemuri_class<'a>(
     calls: &mut [u64],
     answers: &mut [u64],
     ends: &mut [u64],
+    list: &mut [u64],
 ) -> u64
     ensures { λ r. ⌜ Ran (asked fluents actions (now (rules .entry)) (now (goal .entry))) (now (starts .entry))
-        (now (results .entry)) (lent (now (calls .entry)) (now (answers .entry)) (now (ends .entry)))
-        (now (results .exit)) (lent (now (calls .exit)) (now (answers .exit)) (now (ends .exit))) r ⌝ }
+        (now (results .entry)) (lent (now (calls .entry)) (now (answers .entry)) (now (ends .entry)) (now (list .entry)))
+        (now (results .exit)) (lent (now (calls .exit)) (now (answers .exit)) (now (ends .exit)) (now (list .exit))) r ⌝ }
 {
     class::class(
         fluents,
@@ -119,6 +134,7 @@ pub extern "C" fn lawhemuri_class<'a>(
         calls,
         answers,
         ends,
+        list,
     )
 }
 
@@ -153,6 +169,20 @@ pub extern "C" fn lawhemuri_path<'a>(
         record,
         states,
     )
+}
+
+// Finds the record of a call by the list of call record numbers; table and list may come from anybody, and nothing is written.
+#[no_mangle]
+pub extern "C" fn lawhemuri_lookup(
+    calls: &[u64],
+    count: u64,
+    list: &[u64],
+    action: u64,
+    state: u64,
+) -> lookup::Found
+    ensures { λ r. ⌜ r ≡ looked-up (now (calls .entry)) count (now (list .entry)) action state ⌝ }
+{
+    lookup::lookup(calls, count, list, action, state)
 }
 
 // Stores states by fluent. The words come first in `words`, which is unchanged past them and by a refusal.

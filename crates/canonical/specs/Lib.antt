@@ -2,5 +2,5 @@
 pub mod Order
 pub mod Rows
 pub mod Rounds
--- CallList: the call record numbers by action and state; no contract cites it yet.
+-- CallList: the call record numbers by action and state.
 pub mod CallList

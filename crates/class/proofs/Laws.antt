@@ -17,7 +17,7 @@ use Rattle.class.specs.Shown.{ClassShown, ClassDetermined}
 use Rattle.class.proofs.Turns.{turns-many, room-kept}
 use Rattle.class.proofs.Single.{turns-unique, start-single, words-of-start}
 use Rattle.class.proofs.Ends.{ends-written, ends-most, ends-of-starts, same-list}
-use Rattle.class.proofs.Tables.{tables-left}
+use Rattle.class.proofs.Tables.{tables-left, tables-same}
 
 module _ (ask : State → Asked) {starts : List State} {results : List ℕ} where
   shown : {before after : Lent} {rs : List Told} {results′ : List ℕ} → Turns ask starts before after rs → results′ ≡ result-words rs ++ drop (4 * length starts) results
@@ -34,7 +34,7 @@ module _ (ask : State → Asked) {starts : List State} {results : List ℕ} wher
         ends-many = W .many;
         most = ends-most T;
         of-starts = ends-of-starts T (W .in-turn);
-        list = W .list ∙ ap (λ (n : ℕ). W .ends ++ drop n (before .ends)) (sym (W .many));
+        ends-list = W .list ∙ ap (λ (n : ℕ). W .ends ++ drop n (before .ends)) (sym (W .many));
         tables = tables-left ask T;
         room = room-kept T;
       }
@@ -44,12 +44,12 @@ module _ (ask : State → Asked) {starts : List State} {results : List ℕ} wher
   class-shown (ran b e T w) z = shown T w
 
 pub class-determined : ClassDetermined
-class-determined ask starts results results₁ results₂ b₁ b₂ a₁ a₂ r₁ r₂ s f (refused b e w t) (refused b′ e′ w′ t′) = (e ∙ sym e′, w ∙ sym w′, ap (λ (l : Lent). l .ends) t ∙ f ∙ sym (ap (λ (l : Lent). l .ends) t′))
+class-determined ask starts results results₁ results₂ b₁ b₂ a₁ a₂ r₁ r₂ s f (refused b e w t) (refused b′ e′ w′ t′) = (e ∙ sym e′, w ∙ sym w′, ap (λ (l : Lent). l .ends) t ∙ f ∙ sym (ap (λ (l : Lent). l .ends) t′), λ start m ok z n. absurd (omega (arith, e, z)))
 class-determined ask starts results results₁ results₂ b₁ b₂ a₁ a₂ r₁ r₂ s f (refused b e w t) (ran b′ e′ T′ w′) = absurd (true-not-false (sym b ∙ b′))
 class-determined ask starts results results₁ results₂ b₁ b₂ a₁ a₂ r₁ r₂ s f (ran b e T w) (refused b′ e′ w′ t′) = absurd (true-not-false (sym b′ ∙ b))
 class-determined ask starts results results₁ results₂ b₁ b₂ a₁ a₂ r₁ r₂ s f (ran b e T w) (ran b′ e′ T′ w′) =
     let u = turns-unique s T T′ in
-    (e ∙ sym e′, w ∙ ap (λ (rs : List Told). result-words rs ++ drop (4 * length starts) results) u ∙ sym w′, same-list ask u f (ends-written ask T) (ends-written ask T′))
+    (e ∙ sym e′, w ∙ ap (λ (rs : List Told). result-words rs ++ drop (4 * length starts) results) u ∙ sym w′, same-list ask u f (ends-written ask T) (ends-written ask T′), λ start m ok z n. tables-same ask s n T T′ (start, m, ok))
 
 -- No end written has a bit at or above the fluent count.
 pub class-below : {fluents actions : ℕ} {rules goal : List ℕ} {starts : List State} {results results′ : List ℕ} {before after : Lent}

@@ -13,12 +13,13 @@ use Rattle.class.specs.Shown.{SameRoom}
 use Rattle.class.proofs.Running.{words-long}
 
 -- what two starts of the same room hand on has the same room
-handed-room : {q₁ q₂ : Asked} {b₁ b₂ l₁ l₂ : Lent} {r₁ r₂ : Told} → r₁ ≡ r₂ → SameRoom b₁ b₂ → Evaluated q₁ b₁ l₁ r₁ → Evaluated q₂ b₂ l₂ r₂
+pub handed-room : {q₁ q₂ : Asked} {b₁ b₂ l₁ l₂ : Lent} {r₁ r₂ : Told} → r₁ ≡ r₂ → SameRoom b₁ b₂ → Evaluated q₁ b₁ l₁ r₁ → Evaluated q₂ b₂ l₂ r₂
     → SameRoom (handed-on (places r₁) l₁) (handed-on (places r₂) l₂)
 handed-room {l₁ = l₁} {l₂ = l₂} {r₁ = r₁} {r₂ = r₂} e s E F = record {
   calls = tables-kept E .0 ∙ s .calls ∙ sym (tables-kept F .0);
   answers = tables-kept E .1 ∙ s .answers ∙ sym (tables-kept F .1);
   ends = length-drop (places r₁) (l₁ .ends) ∙ ap₂ (λ (n p : ℕ). n - p) (list-kept E ∙ s .ends ∙ sym (list-kept F)) (ap places e) ∙ sym (length-drop (places r₂) (l₂ .ends));
+  list = tables-kept E .2 ∙ s .list ∙ sym (tables-kept F .2);
 }
 
 module _ {ask : State → Asked} where
@@ -26,7 +27,7 @@ module _ {ask : State → Asked} where
   pub turns-unique : {starts : List State} {b₁ b₂ l₁ l₂ : Lent} {rs₁ rs₂ : List Told} → SameRoom b₁ b₂ → Turns ask starts b₁ l₁ rs₁ → Turns ask starts b₂ l₂ rs₂ → rs₁ ≡ rs₂
   turns-unique s over over = refl
   turns-unique {b₁ = b₁} {b₂ = b₂} s (turn {start = start} E T) (turn F U) =
-      let e = one-result (ask start) b₁ b₂ (s .calls) (s .answers) (s .ends) E F in
+      let e = one-result (ask start) b₁ b₂ (s .calls) (s .answers) (s .ends) (s .list) E F in
       ap₂ _∷_ e (turns-unique (handed-room e s E F) T U)
 
   -- Start i is told what any single evaluation of it tells, in tables of these lengths and a list of the places left.
@@ -34,13 +35,14 @@ module _ {ask : State → Asked} where
       → SameRoom b (handed-on (written (take i rs)) before) → Evaluated (ask (getD starts i 0)) b a r → getD rs i (told 0 0 0 0 0) ≡ r
   unfolding written
   start-single i l over s E = absurd (omega arith)
-  start-single {before = before} {b = b} zero l (turn {start = start} F T) s E = sym (one-result (ask start) b before (s .calls) (s .answers) (s .ends) E F)
+  start-single {before = before} {b = b} zero l (turn {start = start} F T) s E = sym (one-result (ask start) b before (s .calls) (s .answers) (s .ends) (s .list) E F)
   start-single {before = before} {b = b} (suc i) l (turn {left = left} {r = r} {rs = rs} F T) s E =
       start-single i (omega arith) T (record {
         calls = s .calls ∙ sym (tables-kept F .0);
         answers = s .answers ∙ sym (tables-kept F .1);
         ends = s .ends ∙ length-drop (places r + written (take i rs)) (before .ends) ∙ ap (λ (n : ℕ). n - (places r + written (take i rs))) (sym (list-kept F))
             ∙ sym (length-drop (places r + written (take i rs)) (left .ends)) ∙ ap length (sym (drop-drop (written (take i rs)) (places r) (left .ends)));
+        list = s .list ∙ sym (tables-kept F .2);
       }) E
 
 -- ---- result words

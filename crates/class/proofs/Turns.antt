@@ -45,21 +45,21 @@ module _ {ask : State → Asked} where
       → Turns ask (starts ++ start ∷ []) before (together (written rs) now left) (rs ++ r ∷ [])
   unfolding written
   turns-more {start = start} {before = before} {left = left} {r = r} over E =
-      subst (λ (ends : List ℕ). Turns ask (start ∷ []) before (lent (left .calls) (left .answers) ends) (r ∷ []))
+      subst (λ (ends : List ℕ). Turns ask (start ∷ []) before (lent (left .calls) (left .answers) ends (left .list)) (r ∷ []))
       (take-append-drop (places r) (left .ends))
       (turn E over)
   turns-more {start = start} {before = before} {left = left} {r = r} (turn {start = first} {later = later} {left = between} {last = last} {r = r₀} {rs = rs} E₀ T) E =
       let p = places r₀ in
       let w = written rs in
       let fits = places-fit E₀ in
-      let E′ = subst (λ (ends : List ℕ). Evaluated (ask start) (lent (last .calls) (last .answers) ends) left r) (drop-past p w (between .ends) (last .ends) fits) E in
-      subst (λ (ends : List ℕ). Turns ask (first ∷ later ++ start ∷ []) before (lent (left .calls) (left .answers) ends) (r₀ ∷ rs ++ r ∷ []))
+      let E′ = subst (λ (ends : List ℕ). Evaluated (ask start) (lent (last .calls) (last .answers) ends (last .list)) left r) (drop-past p w (between .ends) (last .ends) fits) E in
+      subst (λ (ends : List ℕ). Turns ask (first ∷ later ++ start ∷ []) before (lent (left .calls) (left .answers) ends (left .list)) (r₀ ∷ rs ++ r ∷ []))
       (sym (append-assoc (take p (between .ends)) (take w (last .ends)) (left .ends)) ∙ ap (λ (xs : List ℕ). xs ++ left .ends) (sym (take-past p w (between .ends) (last .ends) fits)))
       (turn E₀ (turns-more T E′))
 
   -- Every buffer keeps its length.
   pub room-kept : {starts : List State} {before last : Lent} {rs : List Told} → Turns ask starts before last rs → SameRoom last before
-  room-kept over = record { calls = refl; answers = refl; ends = refl }
+  room-kept over = record { calls = refl; answers = refl; ends = refl; list = refl }
   room-kept (turn {left = left} {last = last} {r = r} E T) =
       let k = room-kept T in
       let t = tables-kept E in
@@ -67,6 +67,7 @@ module _ {ask : State → Asked} where
         calls = k .calls ∙ t .0;
         answers = k .answers ∙ t .1;
         ends = simp (length-append, length-take) (omega (arith, k .ends, length-drop (places r) (left .ends), list-kept E, places-fit E));
+        list = k .list ∙ t .2;
       }
 
   -- As many places are taken as there are.

@@ -22,18 +22,20 @@ result-words (r ∷ rs) = four r ++ result-words rs
 abbrev pub places : Told → ℕ
 places r = cond (eqb (r .refusal) 0) (r .ends) 0
 
--- How many places of the list all starts take: so many ends are written.
+-- How many places of the list of ends all starts take: so many ends are written.
 unfoldable pub written : List Told → ℕ
 written [] = 0
 written (r ∷ rs) = places r + written rs
 
--- "With the same tables, each lent what is left of the list": what a start left, without the places that it took.
+-- "With the same tables, each lent what is left of the list": what a start left, without the places that it took. The list of calls (R-10) is lent
+-- whole to each.
 abbrev pub handed-on : ℕ → Lent → Lent
-handed-on taken left = lent (left .calls) (left .answers) (drop taken (left .ends))
+handed-on taken left = lent (left .calls) (left .answers) (drop taken (left .ends)) (left .list)
 
--- "Ends follow one another in one list": the tables as the last start left them, and the list with what a start wrote before what later ones left.
+-- "Ends follow one another in one list": the tables and the list of calls as the last start left them, and the list of ends with what a start wrote
+-- before what later ones left.
 abbrev pub together : ℕ → Lent → Lent → Lent
-together taken left last = lent (last .calls) (last .answers) (take taken (left .ends) ++ last .ends)
+together taken left last = lent (last .calls) (last .answers) (take taken (left .ends) ++ last .ends) (last .list)
 
 -- "Everything equals single calls made in turn with the same tables": from the buffers lent to those left, with what each evaluation gave.
 -- `ask` says what is asked from a start, over one book and goal.

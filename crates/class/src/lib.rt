@@ -1,4 +1,4 @@
-// A whole class in one go: one book and goal evaluated from many starts in turn, with the same tables and one list of ends.
+// A whole class in one go: one book and goal evaluated from many starts in turn, with the same tables and one list of ends and one list of calls.
 use evaluator::Run;
 ghost use mathlib.Core.Path.{_≡_};
 ghost use mathlib.Core.List.{_++_};
@@ -8,7 +8,8 @@ ghost use Rattle.evaluator.specs.Evaluated.{asked, lent, told};
 ghost use Rattle.class.specs.Class.{four, places, Ran};
 
 // Runs the goal from each start in turn. The four words of a start stand in `results` in the starts' order; the ends of unrefused starts follow
-// one another in `ends`; the tables are those of the last start that was refused with none of 20 to 24. The result is 0, or 25 and nothing done.
+// one another in `ends`; the tables and the list of calls are those of the last start that was refused with none of 20 to 24 and 34. The result is
+// 0, or 25 and nothing done.
 pub fn class<'a>(
     fluents: u64,
     actions: u64,
@@ -19,10 +20,11 @@ pub fn class<'a>(
     calls: &mut [u64],
     answers: &mut [u64],
     ends: &mut [u64],
+    list: &mut [u64],
 ) -> u64
     ensures { λ r. ⌜ Ran (asked fluents actions (now (rules .entry)) (now (goal .entry))) (now (starts .entry))
-        (now (results .entry)) (lent (now (calls .entry)) (now (answers .entry)) (now (ends .entry)))
-        (now (results .exit)) (lent (now (calls .exit)) (now (answers .exit)) (now (ends .exit))) r ⌝ }
+        (now (results .entry)) (lent (now (calls .entry)) (now (answers .entry)) (now (ends .entry)) (now (list .entry)))
+        (now (results .exit)) (lent (now (calls .exit)) (now (answers .exit)) (now (ends .exit)) (now (list .exit))) r ⌝ }
 {
     if 1024 < starts.len() {
         return refusals::BAD_CLASS;
@@ -42,6 +44,7 @@ pub fn class<'a>(
             calls,
             answers,
             &mut ends[used..],
+            list,
         );
         put(results, 4 * i, run);
         used += taken(run) as usize;
@@ -50,7 +53,7 @@ pub fn class<'a>(
     0
 }
 
-// How many places of the list a start has taken: none if it was refused.
+// How many places of the list of ends a start has taken: none if it was refused.
 fn taken(run: Run) -> u64
     ensures { λ n. ⌜ n ≡ places (told (run .refusal) (run .ends) (run .calls) (run .answers) (run .rounds)) ⌝ }
 {

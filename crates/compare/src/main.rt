@@ -1,6 +1,6 @@
 // Compares reader, writer and evaluator with a separately written evaluator on sheets at random and in some dress: the words read, the text
-// written and what it reads to, ends, calls, answers, rounds, justifications, the words of both tables, rooms, and a record's marks. The other
-// evaluator works on the words of a book of three fluents, from which a sheet of 64 was written.
+// written and what it reads to, ends, calls, answers, rounds, justifications, the words of both tables and of the list of calls, rooms, and a
+// record's marks. The other evaluator works on the words of a book of three fluents, from which a sheet of 64 was written.
 mod evidence;
 mod marks;
 mod order;
@@ -42,6 +42,7 @@ struct Tally {
     bad_answers: u64,
     bad_rounds: u64,
     bad_tables: u64,
+    bad_list: u64,
     bad_evidence: u64,
     bad_rooms: u64,
     bad_marks: u64,
@@ -74,6 +75,7 @@ fn plus(a: Tally, b: Tally) -> Tally {
         bad_answers: sum(a.bad_answers, b.bad_answers),
         bad_rounds: sum(a.bad_rounds, b.bad_rounds),
         bad_tables: sum(a.bad_tables, b.bad_tables),
+        bad_list: sum(a.bad_list, b.bad_list),
         bad_evidence: sum(a.bad_evidence, b.bad_evidence),
         bad_rooms: sum(a.bad_rooms, b.bad_rooms),
         bad_marks: sum(a.bad_marks, b.bad_marks),
@@ -103,6 +105,7 @@ fn none() -> Tally {
         bad_answers: 0,
         bad_rounds: 0,
         bad_tables: 0,
+        bad_list: 0,
         bad_evidence: 0,
         bad_rooms: 0,
         bad_marks: 0,
@@ -198,18 +201,28 @@ fn same_answers(
     tables::same_answers(calls, run.calls, answers, m, rel, called, found.ends, start)
 }
 
-// Whether the rounds of a run and the words of its tables are those of the book, and whether each answer is justified.
+// Whether the rounds of a run, the words of its tables and its list of calls are those of the book, and whether each answer is justified.
 struct Good {
     rounds: bool,
     words: bool,
+    list: bool,
     evidence: bool,
 }
 
-fn checked(book: &[u16; 126], start: u64, run: Run, calls: &[u64], answers: &[u64]) -> Good {
-    let told = order::compare(book, start, calls, answers);
+fn checked(
+    book: &[u16; 126],
+    start: u64,
+    found: Found,
+    run: Run,
+    calls: &[u64],
+    answers: &[u64],
+    list: &[u64],
+) -> Good {
+    let told = order::compare(book, start, found.calls, calls, answers, list);
     Good {
         rounds: told.rounds == run.rounds,
         words: told.same,
+        list: told.listed,
         evidence: evidence::all_justified(book, calls, run.calls, answers, run.answers),
     }
 }
@@ -229,36 +242,70 @@ fn evaluated(
     calls: &mut [u64],
     answers: &mut [u64],
     ends: &mut [u64],
+    list: &mut [u64],
 ) -> Run {
-    let run = rooms::evaluate(read, rules, calls, answers, ends);
+    let run = rooms::evaluate(read, rules, calls, answers, ends, list);
     spread::put_all_back(calls, 3, 1, run.calls, base);
     spread::put_all_back(answers, 20, 1, run.answers, base);
     spread::put_all_back(ends, 1, 0, run.ends, base);
     run
 }
 
-// Compares the sheet of one book from one state in a dress.
-fn compared(book: &[u16; 126], start: u64, dress: u64) -> Tally {
+// A run and what of it is the other evaluator's.
+struct Verdict {
+    run: Run,
+    ends: bool,
+    calls: bool,
+    answers: bool,
+    rooms: bool,
+    records: Good,
+}
+
+// Evaluates what was read from the sheet of one book from one state, and compares what it gives and leaves.
+fn judged(book: &[u16; 126], start: u64, base: u64, read: Sheet, rules: &[u16]) -> Verdict {
     let mut rel = [0u64; 32];
     let mut called = [0u64; 4];
     let found = relation::run(book, 6, start, &mut rel, &mut called);
+    let mut calls = [words::MARK; 120];
+    let mut answers = [words::MARK; 6000];
+    let mut ends = [words::MARK; 10];
+    let mut list = [words::MARK; 41];
+    let run = evaluated(
+        read,
+        rules,
+        base,
+        &mut calls,
+        &mut answers,
+        &mut ends,
+        &mut list,
+    );
+    let good_rooms = rooms::exact(read, rules, run, &list);
+    let good_ends = same_ends(run, found.ends, &ends);
+    let good_calls = same_calls(run, found, &calls, &called, start);
+    let good_answers = same_answers(run, found, &calls, &answers, &rel, &called, start);
+    let records = checked(book, start, found, run, &calls, &answers, &list);
+    Verdict {
+        run,
+        ends: good_ends,
+        calls: good_calls,
+        answers: good_answers,
+        rooms: good_rooms,
+        records,
+    }
+}
+
+// Compares the sheet of one book from one state in a dress.
+fn compared(book: &[u16; 126], start: u64, dress: u64) -> Tally {
     let base = random::pick(random::next(dress), 22);
     let wide = spread::book(book, base);
     let from = spread::state(start, base);
     let mut rules = [0u16; 108];
     let read = sheets::read(&wide, from, dress, &mut rules);
-    let mut calls = [words::MARK; 120];
-    let mut answers = [words::MARK; 6000];
-    let mut ends = [words::MARK; 10];
-    let run = evaluated(read, &rules, base, &mut calls, &mut answers, &mut ends);
-    let good_rooms = rooms::exact(read, &rules, run);
+    let good = judged(book, start, base, read, &rules);
+    let run = good.run;
     let good_words = sheets::as_written(&wide, from, read, &rules);
     let good_text = sheets::same_text(&wide, from, dress);
     let good_again = sheets::same_again(&wide, from, dress);
-    let good_ends = same_ends(run, found.ends, &ends);
-    let good_calls = same_calls(run, found, &calls, &called, start);
-    let good_answers = same_answers(run, found, &calls, &answers, &rel, &called, start);
-    let records = checked(book, start, run, &calls, &answers);
     let seen = marked(book, &wide, start, base, dress);
     Tally {
         sheets: 1,
@@ -277,13 +324,14 @@ fn compared(book: &[u16; 126], start: u64, dress: u64) -> Tally {
         bad_words: failed(good_words),
         bad_text: failed(good_text),
         bad_again: failed(good_again),
-        bad_ends: failed(good_ends),
-        bad_calls: failed(good_calls),
-        bad_answers: failed(good_answers),
-        bad_rounds: failed(records.rounds),
-        bad_tables: failed(records.words),
-        bad_evidence: failed(records.evidence),
-        bad_rooms: failed(good_rooms),
+        bad_ends: failed(good.ends),
+        bad_calls: failed(good.calls),
+        bad_answers: failed(good.answers),
+        bad_rounds: failed(good.records.rounds),
+        bad_tables: failed(good.records.words),
+        bad_list: failed(good.records.list),
+        bad_evidence: failed(good.records.evidence),
+        bad_rooms: failed(good.rooms),
         bad_marks: failed(seen.same),
     }
 }
@@ -342,6 +390,10 @@ fn print_differences(t: Tally) {
     line(b"sheets that differ in answers", t.bad_answers);
     line(b"sheets that differ in rounds", t.bad_rounds);
     line(b"sheets that differ in a word of the tables", t.bad_tables);
+    line(
+        b"sheets that differ in a word of the list of calls",
+        t.bad_list,
+    );
     line(b"sheets with an answer not justified", t.bad_evidence);
     line(b"sheets refused in wrong rooms", t.bad_rooms);
     line(b"records marked otherwise", t.bad_marks);

@@ -11,6 +11,7 @@ fn evaluate_steps<'a>(
     calls: &mut [u64],
     answers: &mut [u64],
     ends: &mut [u64],
+    list: &mut [u64],
 ) -> Run {
     let steps = read.goal_len as usize;
     if goal.len() < steps {
@@ -31,6 +32,7 @@ fn evaluate_steps<'a>(
         calls,
         answers,
         ends,
+        list,
     )
 }
 
@@ -41,23 +43,24 @@ pub fn evaluate(
     calls: &mut [u64],
     answers: &mut [u64],
     ends: &mut [u64],
+    list: &mut [u64],
 ) -> Run {
     let goal = read.goal;
-    evaluate_steps(read, rules, &goal, calls, answers, ends)
+    evaluate_steps(read, rules, &goal, calls, answers, ends, list)
 }
 
-// Whether a run refused with 30 gives no counts and leaves both tables wholly 0.
-fn full(run: Run, calls: &[u64], answers: &[u64]) -> bool {
+// Whether a run refused with 30 or 34 gives no counts and leaves both tables and the list of calls wholly v.
+fn wholly(run: Run, v: u64, calls: &[u64], answers: &[u64], list: &[u64]) -> bool {
     if run.ends != 0 || run.calls != 0 {
         return false;
     }
     if run.answers != 0 || run.rounds != 0 {
         return false;
     }
-    if !words::all_from(calls, 0, 0) {
+    if !words::all_from(calls, 0, v) || !words::all_from(list, 0, v) {
         return false;
     }
-    words::all_from(answers, 0, 0)
+    words::all_from(answers, 0, v)
 }
 
 // Whether the first n call records hold the goal's call, at the start.
@@ -92,11 +95,18 @@ fn refusal_with(
     read: Sheet,
     rules: &[u16],
     whole: Run,
+    listed: &[u64],
     calls: &mut [u64],
     answers: &mut [u64],
     ends: &mut [u64],
+    list: &mut [u64],
 ) -> u64 {
-    let run = evaluate(read, rules, calls, answers, ends);
+    let run = evaluate(read, rules, calls, answers, ends, list);
+    if run.refusal == 0 || run.refusal == 31 {
+        if !words::begins(listed, list) {
+            return 99;
+        }
+    }
     if run.refusal == 0 {
         return 0;
     }
@@ -104,7 +114,12 @@ fn refusal_with(
         return 99;
     }
     if run.refusal == 30 {
-        if !full(run, calls, answers) {
+        if !wholly(run, 0, calls, answers, list) {
+            return 99;
+        }
+    }
+    if run.refusal == 34 {
+        if !wholly(run, words::MARK, calls, answers, list) {
             return 99;
         }
     }
@@ -116,42 +131,88 @@ fn refusal_with(
     run.refusal
 }
 
-// The refusal in rooms for so many calls, answers and ends.
-fn refusal_in(read: Sheet, rules: &[u16], whole: Run, n: u64, m: u64, e: u64) -> u64 {
+// How many calls, answers, ends and places for call numbers there is room for.
+struct Rooms {
+    n: u64,
+    m: u64,
+    e: u64,
+    k: u64,
+}
+
+// The refusal in these rooms.
+fn refusal_in(read: Sheet, rules: &[u16], whole: Run, listed: &[u64], rooms: Rooms) -> u64 {
     let mut calls = [words::MARK; 120];
     let mut answers = [words::MARK; 6000];
     let mut ends = [words::MARK; 10];
-    let c = 120 - (n % 41) as usize * 3;
-    let a = 6000 - (m % 301) as usize * 20;
-    let l = 10 - (e % 11) as usize;
+    let mut list = [words::MARK; 40];
+    let c = 120 - (rooms.n % 41) as usize * 3;
+    let a = 6000 - (rooms.m % 301) as usize * 20;
+    let l = 10 - (rooms.e % 11) as usize;
+    let p = 40 - (rooms.k % 41) as usize;
     refusal_with(
         read,
         rules,
         whole,
+        listed,
         &mut calls[c..],
         &mut answers[a..],
         &mut ends[l..],
+        &mut list[p..],
     )
 }
 
-// Whether a sheet whose whole run is given is refused exactly in smaller rooms.
-pub fn exact(read: Sheet, rules: &[u16], whole: Run) -> bool {
-    let n = whole.calls;
-    let m = whole.answers;
-    let e = whole.ends;
-    if n == 0 || refusal_in(read, rules, whole, n, m, e) != 0 {
+// One number less another, or 0.
+fn but(a: u64, b: u64) -> u64 {
+    if b <= a {
+        return a - b;
+    }
+    0
+}
+
+// Rooms that just serve a run, less so many of each.
+fn less(whole: Run, n: u64, m: u64, e: u64, k: u64) -> Rooms {
+    Rooms {
+        n: but(whole.calls, n),
+        m: but(whole.answers, m),
+        e: but(whole.ends, e),
+        k: but(whole.calls, k),
+    }
+}
+
+// Whether it is refused with 30 for want of a place for a call or an answer, and with 31 for want of one for an end.
+fn exact_tables(read: Sheet, rules: &[u16], whole: Run, listed: &[u64]) -> bool {
+    if refusal_in(read, rules, whole, listed, less(whole, 1, 0, 0, 1)) != 30 {
         return false;
     }
-    if refusal_in(read, rules, whole, n - 1, m, e) != 30 {
-        return false;
-    }
-    if 0 < m {
-        if refusal_in(read, rules, whole, n, m - 1, e) != 30 {
+    if 0 < whole.answers {
+        if refusal_in(read, rules, whole, listed, less(whole, 0, 1, 0, 0)) != 30 {
             return false;
         }
     }
-    if 0 < e {
-        return refusal_in(read, rules, whole, n, m, e - 1) == 31;
+    if 0 < whole.ends {
+        return refusal_in(read, rules, whole, listed, less(whole, 0, 0, 1, 0)) == 31;
     }
     true
+}
+
+// Whether it is refused with 34 for want of a place for a call number, whatever else is short.
+fn exact_list(read: Sheet, rules: &[u16], whole: Run, listed: &[u64]) -> bool {
+    if refusal_in(read, rules, whole, listed, less(whole, 0, 0, 0, 1)) != 34 {
+        return false;
+    }
+    if 0 < whole.answers {
+        return refusal_in(read, rules, whole, listed, less(whole, 0, 1, 0, 1)) == 34;
+    }
+    true
+}
+
+// Whether a sheet whose whole run and list of calls are given is refused exactly in smaller rooms.
+pub fn exact(read: Sheet, rules: &[u16], whole: Run, listed: &[u64]) -> bool {
+    if whole.calls == 0 {
+        return false;
+    }
+    if refusal_in(read, rules, whole, listed, less(whole, 0, 0, 0, 0)) != 0 {
+        return false;
+    }
+    exact_tables(read, rules, whole, listed) && exact_list(read, rules, whole, listed)
 }

@@ -33,3 +33,15 @@ pub fn all_from(table: &[u64], from: usize, v: u64) -> bool {
     }
     true
 }
+
+// Whether a table begins with these words.
+pub fn begins(table: &[u64], first: &[u64]) -> bool {
+    let mut i: usize = 0;
+    while i < first.len() {
+        if word(table, i) != first[i] {
+            return false;
+        }
+        i += 1;
+    }
+    true
+}

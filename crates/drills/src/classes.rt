@@ -12,6 +12,7 @@ fn shown<'a>(
     calls: &mut [u64],
     answers: &mut [u64],
     ends: &mut [u64],
+    list: &mut [u64],
 ) {
     let r = class::class(
         fluents,
@@ -23,6 +24,7 @@ fn shown<'a>(
         calls,
         answers,
         ends,
+        list,
     );
     print::text(name);
     print::number(b"refusal", r);
@@ -30,20 +32,23 @@ fn shown<'a>(
     print::buffer(b"calls", calls);
     print::buffer(b"answers", answers);
     print::buffer(b"list", ends);
+    print::buffer(b"call list", list);
     print::text(b"\n");
 }
 
-// In rooms of at most 8 and 8, with at most 17 result words and a list of at most 4.
-fn in_rooms(name: &[u8], starts: &[u64], words: usize, n: usize, m: usize, e: usize) {
+// In rooms of at most 8 and 8, with at most 17 result words, a list of at most 4 and one for at most 8 calls.
+fn in_lists(name: &[u8], starts: &[u64], words: usize, n: usize, m: usize, e: usize, k: usize) {
     let rules = runs::book();
     let mut results = [9u64; 17];
     let mut calls = [9u64; 24];
     let mut answers = [9u64; 160];
     let mut ends = [9u64; 4];
+    let mut list = [9u64; 8];
     let w = 17 - words % 18;
     let c = 24 - n % 9 * 3;
     let a = 160 - m % 9 * 20;
     let l = 4 - e % 5;
+    let p = 8 - k % 9;
     shown(
         name,
         2,
@@ -54,7 +59,13 @@ fn in_rooms(name: &[u8], starts: &[u64], words: usize, n: usize, m: usize, e: us
         &mut calls[c..],
         &mut answers[a..],
         &mut ends[l..],
+        &mut list[p..],
     );
+}
+
+// With a list of as many places as the call room.
+fn in_rooms(name: &[u8], starts: &[u64], words: usize, n: usize, m: usize, e: usize) {
+    in_lists(name, starts, words, n, m, e, n);
 }
 
 fn lists() {
@@ -70,6 +81,14 @@ fn tables() {
     in_rooms(b"30 last", &[2, 0], 8, 2, 3, 2);
     in_rooms(b"24 last", &[2, 4], 9, 2, 3, 2);
     in_rooms(b"24 alone", &[4, 8], 9, 2, 3, 2);
+}
+
+// The list of calls is lent whole to each start; one that is short is told for each.
+fn call_lists() {
+    in_lists(b"34 from each start", &[0, 2], 8, 2, 4, 2, 1);
+    in_lists(b"24 before 34", &[4, 0], 9, 2, 4, 2, 1);
+    in_lists(b"25 before 34", &[0], 3, 2, 4, 2, 1);
+    in_lists(b"call list of 3", &[0, 4], 9, 2, 4, 2, 3);
 }
 
 // No starts at all; result words that are too few, so that the whole class is refused; and just enough of them.
@@ -88,6 +107,7 @@ fn asked(name: &[u8], fluents: u64, step: u16, starts: &[u64]) {
     let mut calls = [9u64; 6];
     let mut answers = [9u64; 80];
     let mut ends = [9u64; 2];
+    let mut list = [9u64; 2];
     shown(
         name,
         fluents,
@@ -98,6 +118,7 @@ fn asked(name: &[u8], fluents: u64, step: u16, starts: &[u64]) {
         &mut calls,
         &mut answers,
         &mut ends,
+        &mut list,
     );
 }
 
@@ -113,6 +134,7 @@ fn many(name: &[u8], starts: &[u64]) {
     let mut calls = [9u64; 3];
     let mut answers = [9u64; 20];
     let mut ends = [9u64; 1025];
+    let mut list = [9u64; 1];
     let r = class::class(
         2,
         0,
@@ -123,6 +145,7 @@ fn many(name: &[u8], starts: &[u64]) {
         &mut calls,
         &mut answers,
         &mut ends,
+        &mut list,
     );
     print::text(name);
     print::number(b"refusal", r);
@@ -152,6 +175,7 @@ fn too_many() {
 pub fn all() {
     lists();
     tables();
+    call_lists();
     rooms();
     books();
     most();

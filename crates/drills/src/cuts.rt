@@ -5,7 +5,18 @@ use crate::runs;
 fn ends<'a>(name: &[u8], rules: &'a [u16], goal: &'a [u16], start: u64, list: &mut [u64; 2]) {
     let mut calls = [7u64; 24];
     let mut answers = [7u64; 320];
-    let r = evaluator::evaluate(2, 1, rules, goal, start, &mut calls, &mut answers, list);
+    let mut numbers = [7u64; 8];
+    let r = evaluator::evaluate(
+        2,
+        1,
+        rules,
+        goal,
+        start,
+        &mut calls,
+        &mut answers,
+        list,
+        &mut numbers,
+    );
     print::text(name);
     print::number(b"from", start);
     print::number(b"refusal", r.refusal);

@@ -1,11 +1,12 @@
 // Denials (request R-2): the step `~`, kind 4, in goals, rules and paths. Every word lent is 7 before.
 use crate::runs;
 
-// A question in rooms of 4 records, with a list of 4.
+// A question in rooms of 4 records, with lists of 4.
 fn asked<'a>(name: &[u8], fluents: u64, rules: &'a [u16], goal: &'a [u16], start: u64) {
     let mut calls = [7u64; 12];
     let mut answers = [7u64; 80];
     let mut ends = [7u64; 4];
+    let mut list = [7u64; 4];
     runs::shown(
         name,
         fluents,
@@ -15,6 +16,7 @@ fn asked<'a>(name: &[u8], fluents: u64, rules: &'a [u16], goal: &'a [u16], start
         &mut calls,
         &mut answers,
         &mut ends,
+        &mut list,
     );
 }
 

@@ -2,11 +2,12 @@
 // is 7 before.
 use crate::runs;
 
-// A goal over two fluents and two actions, in rooms of 3 records, with a list of 1.
+// A goal over two fluents and two actions, in rooms of 3 records, with a list of 1 and one for 3 calls.
 fn asked<'a>(name: &[u8], rules: &'a [u16], goal: &'a [u16], start: u64) {
     let mut calls = [7u64; 9];
     let mut answers = [7u64; 60];
     let mut ends = [7u64; 1];
+    let mut list = [7u64; 3];
     let r = evaluator::evaluate(
         2,
         2,
@@ -16,8 +17,9 @@ fn asked<'a>(name: &[u8], rules: &'a [u16], goal: &'a [u16], start: u64) {
         &mut calls,
         &mut answers,
         &mut ends,
+        &mut list,
     );
-    runs::told(name, r, &calls, &answers, &ends);
+    runs::told(name, r, &calls, &answers, &ends, &list);
 }
 
 // purge: `+open`; light: `!purge ?open +lit -open`.
@@ -70,11 +72,12 @@ fn d9() {
     asked(b"D9 rounds", &rules, &[769], 0);
 }
 
-// A goal over two fluents and an action, in rooms of 6 and 12 records, with a list of 4.
+// A goal over two fluents and an action, in rooms of 6 and 12 records, with a list of 4 and one for 6 calls.
 fn wide<'a>(name: &[u8], rules: &'a [u16], goal: &'a [u16], start: u64) {
     let mut calls = [7u64; 18];
     let mut answers = [7u64; 240];
     let mut ends = [7u64; 4];
+    let mut list = [7u64; 6];
     let r = evaluator::evaluate(
         2,
         1,
@@ -84,8 +87,9 @@ fn wide<'a>(name: &[u8], rules: &'a [u16], goal: &'a [u16], start: u64) {
         &mut calls,
         &mut answers,
         &mut ends,
+        &mut list,
     );
-    runs::told(name, r, &calls, &answers, &ends);
+    runs::told(name, r, &calls, &answers, &ends, &list);
 }
 
 // g: `+b`; g: `+a`; g: `+a +b`; goal `!g !g`: calls by round and state, answers by round, call record and final state, by the lowest rule.

@@ -1,5 +1,5 @@
-// Drills that run: D1 to D13 with their rounds, a goal cut in two, denials, the path of D9, updates that change nothing, tables written by hand,
-// classes of many starts, and each refusal from 20 to 43, with what every buffer holds afterwards.
+// Drills that run: D1 to D13 with their rounds and lists of calls, a goal cut in two, denials, the path of D9, updates that change nothing, tables
+// written by hand, classes of many starts, and each refusal from 20 to 43, with what every buffer holds afterwards.
 mod classes;
 mod cuts;
 mod denials;

@@ -1,7 +1,14 @@
 // Drill D2 in several rooms, and questions that are refused. Every word lent is 7 before.
 
 // Prints what an evaluation gives and leaves.
-pub fn told(name: &[u8], r: evaluator::Run, calls: &[u64], answers: &[u64], ends: &[u64]) {
+pub fn told(
+    name: &[u8],
+    r: evaluator::Run,
+    calls: &[u64],
+    answers: &[u64],
+    ends: &[u64],
+    list: &[u64],
+) {
     print::text(name);
     print::number(b"refusal", r.refusal);
     print::number(b"ends", r.ends);
@@ -11,6 +18,7 @@ pub fn told(name: &[u8], r: evaluator::Run, calls: &[u64], answers: &[u64], ends
     print::buffer(b"calls", calls);
     print::buffer(b"answers", answers);
     print::buffer(b"list", ends);
+    print::buffer(b"call list", list);
     print::text(b"\n");
 }
 
@@ -24,9 +32,10 @@ pub fn shown<'a>(
     calls: &mut [u64],
     answers: &mut [u64],
     ends: &mut [u64],
+    list: &mut [u64],
 ) {
-    let r = evaluator::evaluate(fluents, 1, rules, goal, start, calls, answers, ends);
-    told(name, r, calls, answers, ends);
+    let r = evaluator::evaluate(fluents, 1, rules, goal, start, calls, answers, ends, list);
+    told(name, r, calls, answers, ends, list);
 }
 
 // The book of drill D2, g: `!g ?a +b`; g: `+a`.
@@ -40,15 +49,17 @@ pub fn book() -> [u16; 36] {
     rules
 }
 
-// Drill D2 in these rooms, at most 3, 5 and 3.
-fn in_rooms(name: &[u8], n: usize, m: usize, e: usize) {
+// Drill D2 in these rooms, at most 3, 5 and 3, with a list for at most 4 calls.
+fn in_lists(name: &[u8], n: usize, m: usize, e: usize, k: usize) {
     let rules = book();
     let mut calls = [7u64; 9];
     let mut answers = [7u64; 100];
     let mut ends = [7u64; 3];
+    let mut list = [7u64; 4];
     let c = 9 - n % 4 * 3;
     let a = 100 - m % 6 * 20;
     let l = 3 - e % 4;
+    let p = 4 - k % 5;
     shown(
         name,
         2,
@@ -58,7 +69,13 @@ fn in_rooms(name: &[u8], n: usize, m: usize, e: usize) {
         &mut calls[c..],
         &mut answers[a..],
         &mut ends[l..],
+        &mut list[p..],
     );
+}
+
+// With a list of as many places as the call room.
+fn in_rooms(name: &[u8], n: usize, m: usize, e: usize) {
+    in_lists(name, n, m, e, n);
 }
 
 fn rooms() {
@@ -75,11 +92,27 @@ fn lists() {
     in_rooms(b"30 before 31", 2, 3, 1);
 }
 
-// A question in rooms 2 and 4, with a list of 2.
+// The list of calls (request R-10): longer than the call room, just as long, and one place short, 34, which comes before 30 and 31.
+fn call_lists() {
+    in_lists(b"call list of 4", 2, 4, 2, 4);
+    in_lists(b"30, call list of 3", 2, 3, 2, 3);
+    in_lists(b"31, call list of 3", 2, 4, 1, 3);
+    in_lists(b"34 of 1 place", 2, 4, 2, 1);
+    in_lists(b"34 of no place", 2, 4, 2, 0);
+}
+
+fn refused_lists() {
+    in_lists(b"34 before 30", 2, 3, 2, 1);
+    in_lists(b"34 before 31", 2, 4, 1, 1);
+    in_lists(b"34 of 2 places, room 3", 3, 5, 3, 2);
+}
+
+// A question in rooms 2 and 4, with lists of 2.
 fn asked<'a>(name: &[u8], fluents: u64, rules: &'a [u16], goal: &'a [u16], start: u64) {
     let mut calls = [7u64; 6];
     let mut answers = [7u64; 80];
     let mut ends = [7u64; 2];
+    let mut list = [7u64; 2];
     shown(
         name,
         fluents,
@@ -89,6 +122,27 @@ fn asked<'a>(name: &[u8], fluents: u64, rules: &'a [u16], goal: &'a [u16], start
         &mut calls,
         &mut answers,
         &mut ends,
+        &mut list,
+    );
+}
+
+// A start with a bit too high, in rooms 2 and 4 with a list for no call.
+fn bad_start() {
+    let rule = [0u16; 18];
+    let mut calls = [7u64; 6];
+    let mut answers = [7u64; 80];
+    let mut ends = [7u64; 2];
+    let mut list = [0u64; 0];
+    shown(
+        b"24 before 34",
+        2,
+        &rule,
+        &[768],
+        4,
+        &mut calls,
+        &mut answers,
+        &mut ends,
+        &mut list,
     );
 }
 
@@ -116,6 +170,9 @@ fn bad_goals() {
 pub fn all() {
     rooms();
     lists();
+    call_lists();
+    refused_lists();
     bad_rules();
     bad_goals();
+    bad_start();
 }

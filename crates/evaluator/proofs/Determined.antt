@@ -1,4 +1,5 @@
--- What a request, the rooms and the list determine of an evaluation, whatever the tables held: what it tells, and the list. Assumes nothing.
+-- What a request, the rooms and the list of ends determine of an evaluation, whatever the tables held: what it tells, and every buffer.
+-- Assumes nothing.
 use Prim.Native.Nat.{ℕ, _/_, _≤_, zero-le}
 use native.Mathlib.Omega.{arith}
 use native.Mathlib.Decide.{decLt}
@@ -14,11 +15,12 @@ use Rattle.steps.proofs.Counting.{pigeonhole, exactly-long, rising-unique}
 use Rattle.steps.specs.Widths.{rule-width}
 use Rattle.steps.proofs.AcceptanceLaws.{start-accepted}
 use Rattle.canonical.specs.Rows.{call-words, answer-words, filled}
+use Rattle.canonical.specs.CallList.{call-list}
 use Rattle.canonical.proofs.AfterRounds.{settled-once}
 use Rattle.steps.proofs.Rows.{rows-length, rows-many, rows-outnumber}
 use Rattle.records.specs.Records.{room, call-width, answer-width}
 use Rattle.records.specs.Full.{Full}
-use Rattle.evaluator.specs.Evaluated.{Asked, Lent, Told, told, refused-with, run-asked, rows-asked, buffers-after, Tabled, Evaluated, not-accepted, outgrown, short-list, ends-listed}
+use Rattle.evaluator.specs.Evaluated.{Asked, Lent, Told, lent, told, refused-with, run-asked, CallListShort, rows-asked, buffers-after, Tabled, Evaluated, not-accepted, list-of-calls-short, outgrown, short-list, ends-listed}
 
 -- ---- what is told
 
@@ -36,7 +38,7 @@ module _ (q : Asked) {b₁ b₂ a₁ a₂ : Lent} {r₁ r₂ : Told} (t₁ : Tab
       (settled-once (q .rules) (q .goal) few (q .start) (t₁ .settled) (t₂ .settled) k)
 
 module _ (q : Asked) (b₁ b₂ : Lent) (calls : length (b₁ .calls) ≡ length (b₂ .calls)) (answers : length (b₁ .answers) ≡ length (b₂ .answers))
-    (ends : length (b₁ .ends) ≡ length (b₂ .ends)) where
+    (ends : length (b₁ .ends) ≡ length (b₂ .ends)) (list : length (b₁ .list) ≡ length (b₂ .list)) where
   abbrev FullIn : Lent → Type 0
   FullIn b = Full (run-asked q) (length (b .calls)) (length (b .answers))
 
@@ -46,37 +48,57 @@ module _ (q : Asked) (b₁ b₂ : Lent) (calls : length (b₁ .calls) ≡ length
   full-back : FullIn b₂ → FullIn b₁
   full-back f = rw (← calls, ← answers) at f
 
+  short-too : CallListShort b₁ → CallListShort b₂
+  short-too h = rw (calls, list) at h
+
+  pub short-back : CallListShort b₂ → CallListShort b₁
+  short-back h = rw (← calls, ← list) at h
+
   -- Two evaluations of one request in tables and lists of equal lengths tell the same, whatever the buffers held.
   pub one-result : {a₁ a₂ : Lent} {r₁ r₂ : Told} → Evaluated q b₁ a₁ r₁ → Evaluated q b₂ a₂ r₂ → r₁ ≡ r₂
   one-result (not-accepted n z s) (not-accepted n′ z′ s′) = z ∙ sym z′
-  one-result (not-accepted n z s) (outgrown a f z′ s′) = absurd (n a)
-  one-result (not-accepted n z s) (short-list z′ t l s′) = absurd (n (t .accepted))
-  one-result (not-accepted n z s) (ends-listed z′ t l up s′) = absurd (n (t .accepted))
-  one-result (outgrown a f z s) (not-accepted n z′ s′) = absurd (n a)
-  one-result (outgrown a f z s) (outgrown a′ f′ z′ s′) = z ∙ sym z′
-  one-result (outgrown a f z s) (short-list z′ t l s′) = absurd (t .fits (full-too f))
-  one-result (outgrown a f z s) (ends-listed z′ t l up s′) = absurd (t .fits (full-too f))
-  one-result (short-list z t l s) (not-accepted n z′ s′) = absurd (n (t .accepted))
-  one-result (short-list z t l s) (outgrown a′ f z′ s′) = absurd (t .fits (full-back f))
+  one-result (not-accepted n z s) (list-of-calls-short a′ h′ z′ s′) = absurd (n a′)
+  one-result (not-accepted n z s) (outgrown a′ k′ f′ z′ s′) = absurd (n a′)
+  one-result (not-accepted n z s) (short-list z′ t′ l′ s′) = absurd (n (t′ .accepted))
+  one-result (not-accepted n z s) (ends-listed z′ t′ l′ up′ s′) = absurd (n (t′ .accepted))
+  one-result (list-of-calls-short a h z s) (not-accepted n′ z′ s′) = absurd (n′ a)
+  one-result (list-of-calls-short a h z s) (list-of-calls-short a′ h′ z′ s′) = z ∙ sym z′
+  one-result (list-of-calls-short a h z s) (outgrown a′ k′ f′ z′ s′) = absurd (k′ (short-too h))
+  one-result (list-of-calls-short a h z s) (short-list z′ t′ l′ s′) = absurd (t′ .listed (short-too h))
+  one-result (list-of-calls-short a h z s) (ends-listed z′ t′ l′ up′ s′) = absurd (t′ .listed (short-too h))
+  one-result (outgrown a k f z s) (not-accepted n′ z′ s′) = absurd (n′ a)
+  one-result (outgrown a k f z s) (list-of-calls-short a′ h′ z′ s′) = absurd (k (short-back h′))
+  one-result (outgrown a k f z s) (outgrown a′ k′ f′ z′ s′) = z ∙ sym z′
+  one-result (outgrown a k f z s) (short-list z′ t′ l′ s′) = absurd (t′ .fits (full-too f))
+  one-result (outgrown a k f z s) (ends-listed z′ t′ l′ up′ s′) = absurd (t′ .fits (full-too f))
+  one-result (short-list z t l s) (not-accepted n′ z′ s′) = absurd (n′ (t .accepted))
+  one-result (short-list z t l s) (list-of-calls-short a′ h′ z′ s′) = absurd (t .listed (short-back h′))
+  one-result (short-list z t l s) (outgrown a′ k′ f′ z′ s′) = absurd (t .fits (full-back f′))
   one-result (short-list z t l s) (short-list z′ t′ l′ s′) = same-counts q t t′ (z ∙ sym z′)
-  one-result (short-list z t l s) (ends-listed z′ t′ l′ up s′) = absurd (omega (arith, same-ends q t t′))
-  one-result (ends-listed z t l up s) (not-accepted n z′ s′) = absurd (n (t .accepted))
-  one-result (ends-listed z t l up s) (outgrown a′ f z′ s′) = absurd (t .fits (full-back f))
+  one-result (short-list z t l s) (ends-listed z′ t′ l′ up′ s′) = absurd (omega (arith, same-ends q t t′))
+  one-result (ends-listed z t l up s) (not-accepted n′ z′ s′) = absurd (n′ (t .accepted))
+  one-result (ends-listed z t l up s) (list-of-calls-short a′ h′ z′ s′) = absurd (t .listed (short-back h′))
+  one-result (ends-listed z t l up s) (outgrown a′ k′ f′ z′ s′) = absurd (t .fits (full-back f′))
   one-result (ends-listed z t l up s) (short-list z′ t′ l′ s′) = absurd (omega (arith, same-ends q t t′))
   one-result (ends-listed z t l up s) (ends-listed z′ t′ l′ up′ s′) = same-counts q t t′ (z ∙ sym z′)
 
--- ---- the list
+-- ---- the list of ends
 
--- The list by the refusal: unchanged, or the ends that are counted and past them what it held.
+-- The list of ends by the refusal: unchanged, or the ends that are counted and past them what it held.
 pub data Listing (q : Asked) (before after : Lent) (r : Told) : Type 0 where
   as-it-was : r .refusal ≢ 0 → after .ends ≡ before .ends → Listing q before after r
   with-ends : r .refusal ≡ 0 → (t : Tabled q before after r) → r .ends ≤ length (before .ends) → Rising (t .ends)
       → after .ends ≡ t .ends ++ drop (r .ends) (before .ends) → Listing q before after r
 
+as-lent : {before after : Lent} → after ≡ before
+    → (length (after .calls) ≡ length (before .calls)) × (length (after .answers) ≡ length (before .answers)) × (length (after .list) ≡ length (before .list))
+as-lent s = (ap (λ (l : Lent). length (l .calls)) s, ap (λ (l : Lent). length (l .answers)) s, ap (λ (l : Lent). length (l .list)) s)
+
 module _ {q : Asked} {before after : Lent} {r : Told} where
   pub listing : Evaluated q before after r → Listing q before after r
   listing (not-accepted n z s) = as-it-was (λ e. n (sym (ap (λ (r : Told). r .refusal) z) ∙ e)) (ap (λ (l : Lent). l .ends) s)
-  listing (outgrown a f z s) = as-it-was (λ e. omega (arith, ap (λ (r : Told). r .refusal) z)) (ap (λ (l : Lent). l .ends) s)
+  listing (list-of-calls-short a h z s) = as-it-was (λ e. omega (arith, ap (λ (r : Told). r .refusal) z)) (ap (λ (l : Lent). l .ends) s)
+  listing (outgrown a h f z s) = as-it-was (λ e. omega (arith, ap (λ (r : Told). r .refusal) z)) (ap (λ (l : Lent). l .ends) s)
   listing (short-list z t l s) = as-it-was (λ e. omega (arith, z)) (ap (λ (l : Lent). l .ends) s)
   listing (ends-listed z t l up s) = with-ends z t l up (ap (λ (l : Lent). l .ends) s)
 
@@ -97,20 +119,25 @@ module _ {q : Asked} {before after : Lent} {r : Told} where
       go (as-it-was n s) = ap length s
       go (with-ends z t l up s) = ap length s ∙ simp (length-append, length-drop) (omega (arith, t .counted))
 
-  pub tables-kept : Evaluated q before after r → (length (after .calls) ≡ length (before .calls)) × (length (after .answers) ≡ length (before .answers))
-  tables-kept (not-accepted n z s) = (ap (λ (l : Lent). length (l .calls)) s, ap (λ (l : Lent). length (l .answers)) s)
-  tables-kept (outgrown a f z s) = (
+  -- The tables and the list of calls keep their lengths.
+  pub tables-kept : Evaluated q before after r
+      → (length (after .calls) ≡ length (before .calls)) × (length (after .answers) ≡ length (before .answers)) × (length (after .list) ≡ length (before .list))
+  tables-kept (not-accepted n z s) = as-lent s
+  tables-kept (list-of-calls-short a h z s) = as-lent s
+  tables-kept (outgrown a h f z s) = (
     ap (λ (l : Lent). length (l .calls)) s ∙ length-replicate {A = ℕ} (length (before .calls)) 0,
     ap (λ (l : Lent). length (l .answers)) s ∙ length-replicate {A = ℕ} (length (before .answers)) 0,
+    ap (λ (l : Lent). length (l .list)) s ∙ length-replicate {A = ℕ} (length (before .list)) 0,
   )
-  tables-kept (short-list z t l s) = (t .calls-long, t .answers-long)
-  tables-kept (ends-listed z t l up s) = (t .calls-long, t .answers-long)
+  tables-kept (short-list z t l s) = (t .calls-long, t .answers-long, t .list-long)
+  tables-kept (ends-listed z t l up s) = (t .calls-long, t .answers-long, t .list-long)
 
--- Two evaluations of one request, in tables of equal lengths and one list, leave the same list, whatever the tables held.
+-- Two evaluations of one request, in tables and lists of calls of equal lengths and one list of ends, leave the same list of ends, whatever the
+-- other buffers held.
 module _ (q : Asked) (b₁ b₂ : Lent) (calls : length (b₁ .calls) ≡ length (b₂ .calls)) (answers : length (b₁ .answers) ≡ length (b₂ .answers))
-    (ends : b₁ .ends ≡ b₂ .ends) {a₁ a₂ : Lent} {r₁ r₂ : Told} where
+    (ends : b₁ .ends ≡ b₂ .ends) (list : length (b₁ .list) ≡ length (b₂ .list)) {a₁ a₂ : Lent} {r₁ r₂ : Told} where
   pub same-list : Evaluated q b₁ a₁ r₁ → Evaluated q b₂ a₂ r₂ → a₁ .ends ≡ a₂ .ends
-  same-list E F = go (one-result q b₁ b₂ calls answers (ap length ends) E F) (listing E) (listing F)
+  same-list E F = go (one-result q b₁ b₂ calls answers (ap length ends) list E F) (listing E) (listing F)
     where
       go : r₁ ≡ r₂ → Listing q b₁ a₁ r₁ → Listing q b₂ a₂ r₂ → a₁ .ends ≡ a₂ .ends
       go e (as-it-was n s) (as-it-was n′ s′) = s ∙ ends ∙ sym s′
@@ -121,32 +148,43 @@ module _ (q : Asked) (b₁ b₂ : Lent) (calls : length (b₁ .calls) ≡ length
           let y = t′ .exactly .members in
           s ∙ ap₂ _++_ (rising-unique up up′ (λ D m. y D .1 (x D .0 m)) (λ D m. x D .1 (y D .0 m))) (ap₂ drop (ap (λ (r : Told). r .ends) e) ends) ∙ sym s′
 
--- ---- the tables
+-- ---- the tables and the list of calls
 
--- Two evaluations of one accepted request in buffers of equal lengths leave equal tables, word for word, whatever the buffers held.
+-- Two evaluations of one accepted request in buffers of equal lengths, of which the list of calls is not short, leave equal tables and equal lists of
+-- calls, word for word, whatever the buffers held.
 module _ (q : Asked) (b₁ b₂ : Lent) (calls : length (b₁ .calls) ≡ length (b₂ .calls)) (answers : length (b₁ .answers) ≡ length (b₂ .answers))
-    (ends : length (b₁ .ends) ≡ length (b₂ .ends)) (ok : refused-with q ≡ 0) where
-  -- the tables after an evaluation, by what it tells
+    (ends : length (b₁ .ends) ≡ length (b₂ .ends)) (list : length (b₁ .list) ≡ length (b₂ .list)) (ok : refused-with q ≡ 0) (long : ¬ CallListShort b₁) where
+  -- what an evaluation leaves, by what it tells
   data Left (b a : Lent) (r : Told) : Type 0 where
-    cleared : r .refusal ≡ run-refusals .tables-full → (a .calls ≡ replicate (length (b .calls)) 0) → (a .answers ≡ replicate (length (b .answers)) 0) → Left b a r
-    filled-in : r .refusal ≢ run-refusals .tables-full → (list : List ℕ) → a ≡ buffers-after q (r .rounds) b list → Left b a r
+    cleared : r .refusal ≡ run-refusals .tables-full → (ends : List ℕ)
+        → a ≡ lent (replicate (length (b .calls)) 0) (replicate (length (b .answers)) 0) ends (replicate (length (b .list)) 0) → Left b a r
+    filled-in : r .refusal ≢ run-refusals .tables-full → (ends : List ℕ) → a ≡ buffers-after q (r .rounds) b ends → Left b a r
 
-  left : {b a : Lent} {r : Told} → Evaluated q b a r → Left b a r
-  left (not-accepted n z s) = absurd (n ok)
-  left (outgrown a f z s) = cleared (ap (λ (r : Told). r .refusal) z) (ap (λ (l : Lent). l .calls) s) (ap (λ (l : Lent). l .answers) s)
-  left (short-list z t l s) = filled-in (λ e. omega (arith, z, e)) _ s
-  left (ends-listed z t l up s) = filled-in (λ e. omega (arith, z, e)) _ s
+  left : {b a : Lent} {r : Told} → ¬ CallListShort b → Evaluated q b a r → Left b a r
+  left k (not-accepted n z s) = absurd (n ok)
+  left k (list-of-calls-short a h z s) = absurd (k h)
+  left k (outgrown a h f z s) = cleared (ap (λ (r : Told). r .refusal) z) _ s
+  left k (short-list z t l s) = filled-in (λ e. omega (arith, z, e)) _ s
+  left k (ends-listed z t l up s) = filled-in (λ e. omega (arith, z, e)) _ s
 
-  pub one-table : {a₁ a₂ : Lent} {r₁ r₂ : Told} → Evaluated q b₁ a₁ r₁ → Evaluated q b₂ a₂ r₂ → (a₁ .calls ≡ a₂ .calls) × (a₁ .answers ≡ a₂ .answers)
-  one-table {a₁} {a₂} {r₁} {r₂} E F = go (one-result q b₁ b₂ calls answers ends E F) (left E) (left F)
+  abbrev Same : Lent → Lent → Type 0
+  Same a₁ a₂ = (a₁ .calls ≡ a₂ .calls) × (a₁ .answers ≡ a₂ .answers) × (a₁ .list ≡ a₂ .list)
+
+  pub one-table : {a₁ a₂ : Lent} {r₁ r₂ : Told} → Evaluated q b₁ a₁ r₁ → Evaluated q b₂ a₂ r₂ → Same a₁ a₂
+  one-table {a₁} {a₂} {r₁} {r₂} E F = go (one-result q b₁ b₂ calls answers ends list E F) (left long E) (left (λ h. long (short-back q b₁ b₂ calls answers ends list h)) F)
     where
-      go : r₁ ≡ r₂ → Left b₁ a₁ r₁ → Left b₂ a₂ r₂ → (a₁ .calls ≡ a₂ .calls) × (a₁ .answers ≡ a₂ .answers)
-      go e (cleared z c d) (cleared z′ c′ d′) = (c ∙ ap (λ (n : ℕ). replicate n 0) calls ∙ sym c′, d ∙ ap (λ (n : ℕ). replicate n 0) answers ∙ sym d′)
-      go e (cleared z c d) (filled-in n l s) = absurd (n (sym (ap (λ (r : Told). r .refusal) e) ∙ z))
-      go e (filled-in n l s) (cleared z c d) = absurd (n (ap (λ (r : Told). r .refusal) e ∙ z))
-      go e (filled-in n l s) (filled-in n′ l′ s′) = (
-        ap (λ (k : Lent). k .calls) s ∙ ap₂ (λ (k m : ℕ). filled k (call-words (rows-asked q m .calls))) calls (ap (λ (r : Told). r .rounds) e) ∙ sym (ap (λ (k : Lent). k .calls) s′),
-        ap (λ (k : Lent). k .answers) s ∙ ap₂ (λ (k m : ℕ). filled k (answer-words (rows-asked q m .answers))) answers (ap (λ (r : Told). r .rounds) e) ∙ sym (ap (λ (k : Lent). k .answers) s′),
+      go : r₁ ≡ r₂ → Left b₁ a₁ r₁ → Left b₂ a₂ r₂ → Same a₁ a₂
+      go e (cleared z x s) (cleared z′ x′ s′) = (
+        ap (λ (k : Lent). k .calls) s ∙ ap (λ (n : ℕ). replicate n 0) calls ∙ sym (ap (λ (k : Lent). k .calls) s′),
+        ap (λ (k : Lent). k .answers) s ∙ ap (λ (n : ℕ). replicate n 0) answers ∙ sym (ap (λ (k : Lent). k .answers) s′),
+        ap (λ (k : Lent). k .list) s ∙ ap (λ (n : ℕ). replicate n 0) list ∙ sym (ap (λ (k : Lent). k .list) s′),
+      )
+      go e (cleared z x s) (filled-in n y s′) = absurd (n (sym (ap (λ (r : Told). r .refusal) e) ∙ z))
+      go e (filled-in n x s) (cleared z y s′) = absurd (n (ap (λ (r : Told). r .refusal) e ∙ z))
+      go e (filled-in n x s) (filled-in n′ x′ s′) = let rounds = ap (λ (r : Told). r .rounds) e in (
+        ap (λ (k : Lent). k .calls) s ∙ ap₂ (λ (k m : ℕ). filled k (call-words (rows-asked q m .calls))) calls rounds ∙ sym (ap (λ (k : Lent). k .calls) s′),
+        ap (λ (k : Lent). k .answers) s ∙ ap₂ (λ (k m : ℕ). filled k (answer-words (rows-asked q m .answers))) answers rounds ∙ sym (ap (λ (k : Lent). k .answers) s′),
+        ap (λ (k : Lent). k .list) s ∙ ap₂ (λ (k m : ℕ). filled k (call-list (rows-asked q m .calls))) list rounds ∙ sym (ap (λ (k : Lent). k .list) s′),
       )
 
 -- ---- the counts
@@ -186,6 +224,7 @@ module _ (q : Asked) {before after : Lent} {r : Told} where
   -- The counts of every evaluation are within the rooms of the tables lent: so no count is over 65,536.
   pub in-rooms : Evaluated q before after r → InRooms before r
   in-rooms (not-accepted n z s) = subst (InRooms before) (sym z) (nothing before (refused-with q))
-  in-rooms (outgrown a f z s) = subst (InRooms before) (sym z) (nothing before (run-refusals .tables-full))
+  in-rooms (list-of-calls-short a h z s) = subst (InRooms before) (sym z) (nothing before (run-refusals .call-list-short))
+  in-rooms (outgrown a h f z s) = subst (InRooms before) (sym z) (nothing before (run-refusals .tables-full))
   in-rooms (short-list z t l s) = tabled-rooms t
   in-rooms (ends-listed z t l up s) = tabled-rooms t

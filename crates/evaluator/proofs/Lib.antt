@@ -2,5 +2,6 @@
 pub mod FinalsLaws
 pub mod Listing
 pub mod Finishing
+pub mod CallNumbers
 pub mod Outcomes
 pub mod Determined

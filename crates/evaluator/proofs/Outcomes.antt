@@ -27,9 +27,14 @@ use Rattle.loops.proofs.Filling.{Filled}
 use Rattle.canonical.specs.Rows.{call-words, answer-words, filled}
 use Rattle.canonical.proofs.Beginning.{Begins}
 use Rattle.canonical.proofs.Words.{Worded, over-words}
+use Rattle.canonical.proofs.AfterRounds.{calls-once}
+use Rattle.canonical.proofs.CodeRounds.{over-rows}
+use Rattle.canonical.specs.CallList.{call-list}
 use Rattle.records.proofs.Numbers.{proper-of}
 use Rattle.evaluator.specs.Finals.{finals-below, FinalsListed}
-use Rattle.evaluator.specs.Evaluated.{Asked, Lent, lent, told, refused-with, run-asked, rows-asked, buffers-after, Tabled, Evaluated, short-list, ends-listed}
+use Rattle.evaluator.specs.CallNumbers.{CallsListed}
+use Rattle.evaluator.specs.Evaluated.{Asked, Lent, lent, told, refused-with, run-asked, CallListShort, rows-asked, buffers-after, Tabled, Evaluated, short-list, ends-listed}
+use Rattle.evaluator.proofs.CallNumbers.{listed-is}
 use Rattle.evaluator.proofs.Finishing.{finished, not-full, goal-ends, ends-exactly}
 
 -- words that are all 0 store no record
@@ -51,9 +56,14 @@ first-begins {start} places calls calls′ answers row full (call-added f i l no
     let at : CallAt calls′ 0 Goal start = rw n at (p .new) in
     record { one = p .count ∙ ap (λ (k : ℕ). k + 1) n; none = m; action-is = at .has-action; state-is = at .has-state; round-is = rw n at (p .new-round) }
 
-module _ (q : Asked) (before : Lent) (ok : refused-with q ≡ 0) {calls₀ answers₀ : List ℕ} (cl : length calls₀ ≡ length (before .calls)) (al : length answers₀ ≡ length (before .answers))
-    {calls answers : List ℕ} {full : Bool} {n m rounds : ℕ} {b₀ : Tables} (B : full ≡ false → Begins (q .start) b₀)
-    (F : Filled (q .rules) (q .goal) ((Goal, q .start) ∷ []) 0 b₀ calls₀ answers₀ calls answers full n m rounds) where
+-- the records of a table fit a list of its room
+pub listed-fits : {calls : List ℕ} {n len : ℕ} → Stored call-width calls n → ¬ (len < room call-width (length calls)) → n ≤ len
+listed-fits s k = omega (arith, s .fits, s .most)
+
+module _ (q : Asked) (before : Lent) (ok : refused-with q ≡ 0) (long : ¬ CallListShort before) {calls₀ answers₀ : List ℕ} (cl : length calls₀ ≡ length (before .calls)) (al : length answers₀ ≡ length (before .answers))
+    {calls answers list : List ℕ} {full : Bool} {n m rounds : ℕ} {b₀ : Tables} (B : full ≡ false → Begins (q .start) b₀)
+    (F : Filled (q .rules) (q .goal) ((Goal, q .start) ∷ []) 0 b₀ calls₀ answers₀ calls answers full n m rounds)
+    (N : full ≡ false → CallsListed (call-table calls n) (length (before .list)) list) where
   acc : AcceptedWords (q .fluents) (q .actions) (q .rules) (q .goal)
   acc = start-accepted (q .fluents) (q .actions) (q .rules) (q .goal) (q .start) ok .0
 
@@ -72,19 +82,28 @@ module _ (q : Asked) (before : Lent) (ok : refused-with q ≡ 0) {calls₀ answe
     worded : Worded (q .rules) (q .goal) (q .start) calls answers n m rounds
     worded = over-words (q .rules) (q .goal) calls n answers m (proper-of (q .rules) (q .goal) acc) (whole .valid) (q .start) (acc .few-rules) (F .kept .calls-stored) (F .kept .answers-stored) (B e) (F .rounded e refl)
 
-    pub words-are : (list : List ℕ) → lent calls answers list ≡ buffers-after q rounds before list
-    words-are list k = lent
+    -- the list of calls
+    listed : list ≡ filled (length (before .list)) (call-list (rows-asked q rounds .calls))
+    listed = listed-is (bodies-of (q .rules) (q .goal)) (in-words calls n answers m)
+        (listed-fits (F .kept .calls-stored) (λ h. long (rw (F .calls-long, cl) at h)))
+        (N e) (over-rows (q .rules) (q .goal) (acc .few-rules) (q .start) (B e) (F .rounded e refl) .1) (calls-once (q .rules) (q .goal) (acc .few-rules) (q .start) rounds)
+
+    pub words-are : (ends : List ℕ) → lent calls answers ends list ≡ buffers-after q rounds before ends
+    words-are ends k = lent
         ((worded .calls-are ∙ ap (λ (l : ℕ). filled l (call-words (rows-asked q rounds .calls))) (F .calls-long ∙ cl)) k)
         ((worded .answers-are ∙ ap (λ (l : ℕ). filled l (answer-words (rows-asked q rounds .answers))) (F .answers-long ∙ al)) k)
-        list
+        ends
+        (listed k)
 
-    -- the finished tables, whatever the refusal and the list
-    ran : (list ends : List ℕ) (refusal k : ℕ) → Exactly (End (run-asked q)) ends → length ends ≡ k → Tabled q before (lent calls answers list) (told refusal k n m rounds)
-    ran list ends refusal k x z = record {
+    -- the finished tables, whatever the refusal and the list of ends
+    ran : (given ends : List ℕ) (refusal k : ℕ) → Exactly (End (run-asked q)) ends → length ends ≡ k → Tabled q before (lent calls answers given list) (told refusal k n m rounds)
+    ran given ends refusal k x z = record {
       accepted = ok;
+      listed = long;
       fits = fits;
       calls-long = F .calls-long ∙ cl;
       answers-long = F .answers-long ∙ al;
+      list-long = N e .long;
       settled = worded .settled;
       calls-many = worded .calls-many;
       answers-many = worded .answers-many;
@@ -112,12 +131,12 @@ module _ (q : Asked) (before : Lent) (ok : refused-with q ≡ 0) {calls₀ answe
       exactly = ends-exactly (q .rules) (q .goal) (q .start) acc calls n answers m (F .kept) whole row (goal-row .0) (goal-row .1)
 
       -- 31
-      pub is-short : {k : ℕ} → k ≡ length finals → length (before .ends) < k → Evaluated q before (lent calls answers (before .ends)) (told (run-refusals .list-short) k n m rounds)
+      pub is-short : {k : ℕ} → k ≡ length finals → length (before .ends) < k → Evaluated q before (lent calls answers (before .ends) list) (told (run-refusals .list-short) k n m rounds)
       is-short {k} z l = short-list refl (ran (before .ends) finals (run-refusals .list-short) k exactly (sym z)) l (words-are (before .ends))
 
       -- no refusal
       pub is-listed : {k : ℕ} {ends : List ℕ} → k ≡ length finals → k ≤ length (before .ends) → FinalsListed (answer-table answers m) row (before .ends) ends
-          → Evaluated q before (lent calls answers ends) (told 0 k n m rounds)
+          → Evaluated q before (lent calls answers ends list) (told 0 k n m rounds)
       unfolding ran
       is-listed {k} {ends} z l L =
           let held = goal-ends (q .rules) (q .goal) (q .start) acc calls n answers m (F .kept) whole row (goal-row .0) (goal-row .1) in

@@ -16,7 +16,7 @@ use Rattle.steps.specs.Run.{End}
 use Rattle.steps.specs.Acceptance.{good-step, bad-counts, bad-length, bad-rules, bad-goal, bad-state, words-refusal, refusal-of}
 use Rattle.steps.proofs.EachBelow.{each-all}
 use Rattle.steps.proofs.AcceptanceLaws.{AcceptedWords, accepted, words-accepted, start-accepted, accepted-below}
-use Rattle.evaluator.specs.Evaluated.{Asked, Told, refused-with, run-asked, not-accepted, outgrown, short-list, ends-listed}
+use Rattle.evaluator.specs.Evaluated.{Asked, Told, refused-with, run-asked, not-accepted, list-of-calls-short, outgrown, short-list, ends-listed}
 use Rattle.halves.specs.Cut.{first-half, second-half, HalvesAccepted, OnlyRoom, HalvesRefused}
 
 module _ (fluents actions : ℕ) (rules : List ℕ) where
@@ -81,11 +81,12 @@ module _ (q : Asked) (k : ℕ) (e : refused-with q ≡ 0) where
 pub halves-accepted : HalvesAccepted
 halves-accepted q k e = (first q k e, second q k e)
 
--- Words, goal and start that are accepted are refused with nothing but 30 or 31.
+-- Words, goal and start that are accepted are refused with nothing but 30, 31 or 34.
 only-room : (q : Asked) → refused-with q ≡ 0 → OnlyRoom q
 only-room q ok before after r (not-accepted n z s) = absurd (n ok)
-only-room q ok before after r (outgrown a f z s) = inr (inl (ap (λ (r : Told). r .refusal) z))
-only-room q ok before after r (short-list z t l s) = inr (inr z)
+only-room q ok before after r (list-of-calls-short a h z s) = inr (inr (inr (ap (λ (r : Told). r .refusal) z)))
+only-room q ok before after r (outgrown a h f z s) = inr (inl (ap (λ (r : Told). r .refusal) z))
+only-room q ok before after r (short-list z t l s) = inr (inr (inl z))
 only-room q ok before after r (ends-listed z t l up s) = inl z
 
 pub halves-refused : HalvesRefused

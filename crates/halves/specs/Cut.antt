@@ -25,7 +25,7 @@ pub record Unrefused (q : Asked) : Type 0 where
   pub evaluated : Evaluated q before after told
   pub unrefused : told .refusal ≡ 0
 
--- The states that it lists as ends: they stand in the places of the list that its result counts.
+-- The states that it lists as ends: they stand in the places of the list of ends that its result counts.
 abbrev pub Listed : {q : Asked} → Unrefused q → State → Type 0
 Listed u D = List·Memᴰ D (take (u .told .ends) (u .after .ends))
 
@@ -49,10 +49,10 @@ HalvesAccepted =
     (q : Asked) (k : ℕ) → refused-with q ≡ 0
     → (refused-with (first-half q k) ≡ 0) × ((D : State) → End (run-asked (first-half q k)) D → refused-with (second-half q k D) ≡ 0)
 
--- What is evaluated here is refused with nothing but 30 or 31: for want of room.
+-- What is evaluated here is refused with nothing but 30, 31 or 34: for want of room.
 abbrev pub OnlyRoom : Asked → Type 0
 OnlyRoom q = (before after : Lent) (r : Told) → Evaluated q before after r → (r .refusal ≡ 0) ⊎ (r .refusal ≡ run-refusals .tables-full)
-    ⊎ (r .refusal ≡ run-refusals .list-short)
+    ⊎ (r .refusal ≡ run-refusals .list-short) ⊎ (r .refusal ≡ run-refusals .call-list-short)
 
 -- So only room can be wanting in a half of an accepted whole.
 abbrev pub HalvesRefused : Type 0

@@ -3,6 +3,7 @@ pub mod Sheet
 pub mod Run
 pub mod Class
 pub mod Path
+pub mod Lookup
 pub mod Text
 pub mod Marking
 pub mod Archive

@@ -60,6 +60,12 @@ pub const TABLES_FULL: u64 = 30;
 // Fewer places for ends than there are ends.
 pub const LIST_SHORT: u64 = 31;
 
+// A list of calls shorter than the call room.
+pub const CALL_LIST_SHORT: u64 = 34;
+
+// A list of calls with fewer places than calls, or a place read that is not below the call count.
+pub const BAD_CALL_LIST: u64 = 35;
+
 // A record count over its room.
 pub const BAD_RECORD_COUNT: u64 = 40;
 

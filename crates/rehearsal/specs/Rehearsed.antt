@@ -19,8 +19,8 @@ asked-by b = asked (length (b .names .fluents)) (length (b .names .actions)) (jo
 pub data Rehearsed (sheet before after : List ℕ) (r : Rehearsal) : Type 0 where
   -- 10 to 18: the list unchanged.
   not-read : (number line : ℕ) → read-sheet sheet ≡ refused number line → r ≡ refusal number line → after ≡ before → Rehearsed sheet before after r
-  -- The book's goal evaluated in rooms of 512 calls and 256 answers, both tables 0 at first; no line.
-  evaluated : (b : Book) (calls answers : List ℕ) → read-sheet sheet ≡ written b → r .line ≡ 0
-      → Evaluated (asked-by b) (lent (replicate 1536 0) (replicate 5120 0) before) (lent calls answers after)
+  -- The book's goal evaluated in rooms of 512 calls and 256 answers, with a list for 512 calls, all 0 at first; no line.
+  evaluated : (b : Book) (calls answers list : List ℕ) → read-sheet sheet ≡ written b → r .line ≡ 0
+      → Evaluated (asked-by b) (lent (replicate 1536 0) (replicate 5120 0) before (replicate 512 0)) (lent calls answers after list)
       (told (r .refusal) (r .ends) (r .calls) (r .answers) (r .rounds))
       → Rehearsed sheet before after r

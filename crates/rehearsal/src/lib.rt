@@ -29,6 +29,7 @@ pub fn rehearse(text: &[u8], ends: &mut [u64]) -> Rehearsal
     }
     let mut calls = [0u64; 1536];
     let mut answers = [0u64; 5120];
+    let mut list = [0u64; 512];
     let goal = read.goal;
     let used = steps::word::RULE_WORDS * read.rules as usize;
     let steps = read.goal_len as usize;
@@ -41,6 +42,7 @@ pub fn rehearse(text: &[u8], ends: &mut [u64]) -> Rehearsal
         &mut calls,
         &mut answers,
         ends,
+        &mut list,
     );
     Rehearsal {
         refusal: run.refusal,

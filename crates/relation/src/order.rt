@@ -1,5 +1,6 @@
 // The words of both tables of a run, straight from request R-7: calls by round, action and state; answers by round, call record and final state,
-// each with its lowest rule and then its least evidence. The rounds are known before (`depth`). The states from which a body leads to a final
+// each with its lowest rule and then its least evidence. The rounds are known before (`depth`). The list of calls (R-10) goes through all actions and
+// states in turn. The states from which a body leads to a final
 // state are sought from its end back to its beginning; a rule gives an answer if the call's state is among them.
 //
 // Calls stand here at the place of their action and state, 32 for the goal's, answers at 8 times that plus the final state.
@@ -285,4 +286,29 @@ pub fn write_tables(
         );
     }
     rounds
+}
+
+// The number of the call record with this action and state among the first n, or n.
+fn number(calls: &[u64; 120], n: u64, action: u64, s: u64) -> u64 {
+    for i in 0..40usize {
+        let at = i * 3;
+        if (i as u64) < n && calls[at] == action && calls[at + 1] == s {
+            return i as u64;
+        }
+    }
+    n
+}
+
+// Writes the numbers of the first n call records over a list of zeros: for each action, the goal's last, and each state in turn.
+pub fn write_list(calls: &[u64; 120], n: u64, start: u64, list: &mut [u64; 41]) {
+    let mut next: usize = 0;
+    for at in 0..33usize {
+        let action = if at == 32 { 64 } else { (at / 8) as u64 };
+        let s = if at == 32 { start } else { (at % 8) as u64 };
+        let i = number(calls, n, action, s);
+        if i < n {
+            put(list, next, i);
+            next = next % 41 + 1;
+        }
+    }
 }

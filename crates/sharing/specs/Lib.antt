@@ -1,6 +1,6 @@
--- Parties: what is kept beside the tables of two parties. Charged: the rows that they hold, and when the tables are as kept (90 and 91). Shared and
--- Shown: what an opening and a run, and the path of a shared record, give and leave.
+-- Parties: what is kept beside the tables of two parties. Charged: the rows that they hold, and when the tables are as kept (90 and 91). Shared:
+-- what an opening and a run give and leave. SharedPath: what the path of a shared record gives and leaves.
 pub mod Parties
 pub mod Charged
 pub mod Shared
-pub mod Shown
+pub mod SharedPath

@@ -48,11 +48,11 @@ entered l second a n m = record { first = l .first; second = a; calls = n; answe
 -- "unused goal words are always 0".
 unfoldable pub account-words : Account → List ℕ
 account-words a =
-    a .call-limit ∷ a .answer-limit ∷ cond (a .holds) 1 0 ∷ a .start ∷ length (a .goal) ∷ a .goal ++ replicate (16 - length (a .goal)) 0
+    a .call-limit ∷ a .answer-limit ∷ cond (a .holds) 1 0 ∷ a .start ∷ length (a .goal) ∷ (a .goal ++ replicate (16 - length (a .goal)) 0)
 
 -- A ledger's 44 words: both accounts, the count of call records and that of answer records.
 unfoldable pub ledger-words : Ledger → List ℕ
-ledger-words l = account-words (l .first) ++ account-words (l .second) ++ l .calls ∷ l .answers ∷ []
+ledger-words l = account-words (l .first) ++ (account-words (l .second) ++ (l .calls ∷ l .answers ∷ []))
 
 -- The account whose words begin at place i. Any word but 0 says that it holds rows; the start and the goal of one that holds none are not looked at.
 -- Its goal are as many words as are counted: more than 16 are no goal (23).

@@ -12,7 +12,7 @@ use Rattle.steps.specs.State.{State}
 use Rattle.steps.specs.Run.{Call, Answer, End}
 use Rattle.steps.specs.Acceptance.{words-refusal}
 use Rattle.steps.specs.Counting.{Exactly, Rising}
-use Rattle.evaluator.specs.Evaluated.{Asked, Lent, refused-with, run-asked}
+use Rattle.evaluator.specs.Evaluated.{Asked, refused-with, run-asked}
 use Rattle.sharing.specs.Parties.{Party, Account, Ledger, vacant, opened, account-of, entered, ledger-words, ledger-width, ledger-of}
 use Rattle.sharing.specs.Charged.{over-limits, Exceeds, AsKept}
 
@@ -28,6 +28,10 @@ pub data Opening (limits : Ledger) (calls answers : List ℕ) (refusal : ℕ) (k
       → calls′ ≡ replicate (length calls) 0 → answers′ ≡ replicate (length answers) 0 → Opening limits calls answers refusal kept calls′ answers′
 
 -- ---- a run
+
+-- The buffers lent to a run: both tables and the list of ends. "R-10's list" does "not apply here".
+abbrev pub Panel : Type 0
+Panel = record { calls : List ℕ; answers : List ℕ; ends : List ℕ }
 
 -- What a run gives: the refusal number, 0 for none, the party's own counts of ends, calls and answers, and the words kept from then on.
 abbrev pub Reply : Type 0
@@ -54,20 +58,20 @@ abbrev pub takes-up : Account → Asked → Account
 takes-up a q = record { call-limit = a .call-limit; answer-limit = a .answer-limit; holds = true; goal = q .goal; start = q .start }
 
 -- The tables and the words kept do not meet 91 under the book of this run.
-abbrev pub Stands : Asked → List ℕ → Lent → Type 0
-Stands q words b = AsKept (q .fluents) (q .actions) (q .rules) words (b .calls) (b .answers)
+abbrev pub AsKeptUnder : Asked → List ℕ → Panel → Type 0
+AsKeptUnder q words b = AsKept (q .fluents) (q .actions) (q .rules) words (b .calls) (b .answers)
 
 -- A run that is refused with none of 20 to 22 and 91, of a party that has this account then. The other's account stays. "What ... a run refused
 -- with none of 20 to 22 and 91, left does not meet 91 under the same book": the party's earlier rows that the other does not need are given up.
-pub record Entered (party : Party) (q : Asked) (words : List ℕ) (before after : Lent) (account : Account) (kept : List ℕ) : Type 0 where
+pub record Entered (party : Party) (q : Asked) (words : List ℕ) (before after : Panel) (account : Account) (kept : List ℕ) : Type 0 where
   pub accepted-book : book-refusal q ≡ 0
-  pub stood : Stands q words before
+  pub stood : AsKeptUnder q words before
   pub calls : ℕ
   pub answers : ℕ
   pub kept-words : kept ≡ ledger-words (entered (ledger-of words) party account calls answers)
   pub calls-long : length (after .calls) ≡ length (before .calls)
   pub answers-long : length (after .answers) ≡ length (before .answers)
-  pub stands : Stands q kept after
+  pub stands : AsKeptUnder q kept after
 
 -- An accepted run within the limits of this account: "a party's ends, counts and refusals are the same as if it ran alone in tables of its limits".
 pub record Alone (q : Asked) (account : Account) (r : Reply) : Type 0 where
@@ -88,12 +92,12 @@ module _ (party : Party) (q : Asked) (words : List ℕ) where
   abbrev pub account : Account
   account = account-of (ledger-of words) party
 
-  pub data Shared (before after : Lent) (r : Reply) : Type 0 where
+  pub data Shared (before after : Panel) (r : Reply) : Type 0 where
     -- 20 to 22: all is unchanged.
     refused-book : book-refusal q ≢ 0 → r ≡ refused (book-refusal q) (handed-back words) → after ≡ before → Shared before after r
     -- 91: all is unchanged.
-    refused-kept : book-refusal q ≡ 0 → ¬ Stands q words before → r ≡ refused (sharing-refusals .not-as-kept) (handed-back words) → after ≡ before
-        → Shared before after r
+    refused-kept : book-refusal q ≡ 0 → ¬ AsKeptUnder q words before → r ≡ refused (sharing-refusals .not-as-kept) (handed-back words)
+        → after ≡ before → Shared before after r
     -- 23 and 24: the party holds no rows, the list is unchanged.
     refused-goal : refused-with q ≢ 0 → Entered party q words before after (gives-up account) (r .kept) → r ≡ refused (refused-with q) (r .kept)
         → after .ends ≡ before .ends → Shared before after r

@@ -8,4 +8,5 @@ pub mod Adding
 pub mod Closed
 pub mod Found
 pub mod Resorted
+pub mod Rewritten
 pub mod RunTables

@@ -11,6 +11,7 @@ use lib.ListN.{getD, length, length-map}
 use Rattle.steps.specs.State.{State}
 use Rattle.steps.specs.Step.{Step, call, Body}
 use Rattle.steps.specs.Words.{step-of}
+use Rattle.sorting.specs.Permuted.{Permuted}
 use Rattle.records.specs.Records.{Bodies}
 use Rattle.records.specs.Storage.{CallAt, AnswerAt}
 use Rattle.records.proofs.Growth.{Tables, HeldCall, Held, Grew, Inside, CallsOnce, AnswersOnce, held-call-up}
@@ -35,15 +36,6 @@ pub record SameAnswer (u v : Tables) (x y : ℕ) : Type 0 where
   pub rule : v .answers .rule x ≡ u .answers .rule y
   pub evidence : (q : ℕ) → q < 16 → v .answers .evidence x q ≡ u .answers .evidence y q
   pub round : v .answers .round x ≡ u .answers .round y
-
--- Numbers below n and from lo on, each once.
-pub record Permuted (lo n : ℕ) : Type 0 where
-  pub from : ℕ → ℕ
-  pub back : ℕ → ℕ
-  pub from-in : (i : ℕ) → lo ≤ i → i < n → (lo ≤ from i) × (from i < n)
-  pub back-in : (i : ℕ) → lo ≤ i → i < n → (lo ≤ back i) × (back i < n)
-  pub from-back : (i : ℕ) → lo ≤ i → i < n → from (back i) ≡ i
-  pub back-from : (i : ℕ) → lo ≤ i → i < n → back (from i) ≡ i
 
 -- What stood at i before, and what stands there in the other order: the places below lo keep what stood there.
 module _ (Same : ℕ → ℕ → Type 0) {lo n : ℕ} (P : Permuted lo n) (more : lo ≤ n) (stays : (i : ℕ) → i < lo → Same i i)

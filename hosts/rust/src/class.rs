@@ -32,17 +32,18 @@ pub struct Outcome<'a> {
 
 /// Runs a goal from many starts in turn (refusal 25); the question's own start is not used.
 ///
-/// Everything equals calls of [`evaluate`](crate::evaluate) made in turn with the same tables, each lent what is left of the list: a refused
-/// start takes no places of it, and later ones still run. Four words for each start go to `results`, which is unchanged past them, and
-/// the ends of unrefused starts follow one another in the list; [`outcomes`] takes both apart. The tables are those of the last start
-/// that was refused with none of 20 to 24. With 25 nothing is changed.
+/// Everything equals calls of [`evaluate`](crate::evaluate) made in turn with the same tables and the same list of calls, each lent what is
+/// left of the list of ends: a refused start takes no places of it, and later ones still run. Four words for each start go to `results`,
+/// which is unchanged past them, and the ends of unrefused starts follow one another in their list; [`outcomes`] takes both apart. The
+/// tables and the list of calls are those of the last start that was refused with none of 20 to 24, and unchanged where that list is too
+/// short (34, told of each such start). With 25 nothing is changed.
 ///
 /// ```
 /// let text = b"fluent\ta\nfluent\tb\naction\tg\nrule\tg\t!g\t?a\t+b\nrule\tg\t+a\nstart\ngoal\t!g\n";
 /// let mut rules = [0; 4608];
 /// let sheet = lawhemuri::read(text, &mut rules).unwrap();
-/// let (mut calls, mut answers, mut ends, mut results) = ([0; 3 * 8], [0; 20 * 8], [0; 8], [0; 4 * 2]);
-/// let mut buffers = lawhemuri::Buffers { calls: &mut calls, answers: &mut answers, ends: &mut ends };
+/// let (mut calls, mut answers, mut ends, mut list, mut results) = ([0; 3 * 8], [0; 20 * 8], [0; 8], [0; 8], [0; 4 * 2]);
+/// let mut buffers = lawhemuri::Buffers { calls: &mut calls, answers: &mut answers, ends: &mut ends, list: &mut list };
 /// lawhemuri::class(&sheet.question(&rules), &[0, 2], &mut results, &mut buffers).unwrap();
 /// let listed: Vec<&[u64]> = lawhemuri::outcomes(&results, &ends).map(|outcome| outcome.ends).collect();
 /// assert_eq!(listed, [&[1, 3][..], &[3]]);
@@ -68,6 +69,8 @@ pub fn class(question: &Question<'_>, starts: &[u64], results: &mut [u64], lent:
             lent.answers.len(),
             lent.ends.as_mut_ptr(),
             lent.ends.len(),
+            lent.list.as_mut_ptr(),
+            lent.list.len(),
         )
     };
     accepted(refusal)

@@ -50,6 +50,13 @@ pub struct Run {
 }
 
 #[repr(C)]
+pub struct Found {
+    pub refusal: u64,
+    pub found: u64,
+    pub row: u64,
+}
+
+#[repr(C)]
 pub struct States {
     pub refusal: u64,
     pub states: u64,
@@ -96,6 +103,8 @@ extern "C" {
         answers_len: usize,
         ends: *mut u64,
         ends_len: usize,
+        list: *mut u64,
+        list_len: usize,
     ) -> Run;
     pub fn lawhemuri_class(
         fluents: u64,
@@ -114,6 +123,8 @@ extern "C" {
         answers_len: usize,
         ends: *mut u64,
         ends_len: usize,
+        list: *mut u64,
+        list_len: usize,
     ) -> u64;
     pub fn lawhemuri_path(
         fluents: u64,
@@ -132,6 +143,15 @@ extern "C" {
         states: *mut u64,
         states_len: usize,
     ) -> States;
+    pub fn lawhemuri_lookup(
+        calls: *const u64,
+        calls_len: usize,
+        count: u64,
+        list: *const u64,
+        list_len: usize,
+        action: u64,
+        state: u64,
+    ) -> Found;
     pub fn lawhemuri_store(fluents: u64, states: *const u64, states_len: usize, words: *mut u64, words_len: usize) -> Archived;
     pub fn lawhemuri_restore(
         fluents: u64,

@@ -1,6 +1,6 @@
 //! Safe functions over the proved library: read a rehearsal sheet, write it as its one fixed text, evaluate its goal, from one start
-//! or from a whole class of them, list the path of an answer; merge two sheets into one; store states by fluent, and restore them;
-//! take the figures of a class run; mark what a trainee did.
+//! or from a whole class of them, list the path of an answer, find a call; merge two sheets into one; store states by fluent, and
+//! restore them; take the figures of a class run; mark what a trainee did.
 //!
 //! [`Rehearsal`] reads, evaluates and lists paths in memory of its own, and gives the steps of each way, held against the library's
 //! path:
@@ -22,16 +22,19 @@
 //! let text = b"fluent\ta\nfluent\tb\naction\tg\nrule\tg\t!g\t?a\t+b\nrule\tg\t+a\nstart\ngoal\t!g\n";
 //! let mut rules = [0; 4608];
 //! let sheet = lawhemuri::read(text, &mut rules).unwrap();
-//! let (mut calls, mut answers, mut ends) = ([0; 3 * 512], [0; 20 * 256], [0; 256]);
-//! let mut buffers = lawhemuri::Buffers { calls: &mut calls, answers: &mut answers, ends: &mut ends };
+//! let (mut calls, mut answers, mut ends, mut list) = ([0; 3 * 512], [0; 20 * 256], [0; 256], [0; 512]);
+//! let mut buffers = lawhemuri::Buffers { calls: &mut calls, answers: &mut answers, ends: &mut ends, list: &mut list };
 //! let run = lawhemuri::evaluate(&sheet.question(&rules), &mut buffers).unwrap();
 //! assert_eq!((run.ends, run.calls, run.answers, run.rounds), (2, 2, 4, 4));
 //! assert_eq!(&ends[..2], [1, 3]);
+//! let calls = lawhemuri::Calls { words: &calls, count: run.calls, list: &list };
+//! assert_eq!((calls.find(0, 0), calls.find(0, 1)), (Ok(Some(1)), Ok(None)));
 //! ```
 
 use std::error::Error;
 use std::fmt;
 
+mod calls;
 mod class;
 mod ffi;
 mod refusal;
@@ -39,6 +42,7 @@ mod rehearsal;
 mod report;
 pub mod unfolding;
 
+pub use calls::Calls;
 pub use class::{class, outcomes, Counts, Outcome, Uncounted, MOST_STARTS, START_WORDS};
 use refusal::accepted;
 pub use refusal::Refusal;
@@ -147,12 +151,14 @@ pub struct Question<'a> {
     pub start: u64,
 }
 
-/// The buffers lent to [`evaluate`]: two tables and the list of ends.
+/// The buffers lent to [`evaluate`]: two tables, the list of ends, and the list of calls, with a place for each record that the call table
+/// has room for.
 #[derive(Debug)]
 pub struct Buffers<'a> {
     pub calls: &'a mut [u64],
     pub answers: &'a mut [u64],
     pub ends: &'a mut [u64],
+    pub list: &'a mut [u64],
 }
 
 /// The counts of ends, of call records and of answer records, and how many rounds added something.
@@ -251,13 +257,14 @@ pub fn fluent_name(sheet: &[u8], fluent: u64) -> &[u8] {
     &sheet[part.at..part.at + part.len]
 }
 
-/// Evaluates a goal from a start (refusals 20 to 31).
+/// Evaluates a goal from a start (refusals 20 to 24, 34, 30, 31).
 ///
 /// * No refusal: both tables hold the run's calls and answers, each once and with its round, and 0 past
-///   them; the list begins with the ends in rising order and is unchanged past them.
-/// * 20 to 24: the buffers are unchanged.
-/// * 30: both tables are 0 throughout, the list is unchanged.
-/// * 31: both tables as with no refusal, the counts are given, the list is unchanged.
+///   them; `ends` begins with the ends in rising order and is unchanged past them; `list` has the numbers of the
+///   call records by action and then state, as [`Calls`] takes them, and 0 past them.
+/// * 20 to 24, 34: the buffers are unchanged.
+/// * 30: both tables and `list` are 0 throughout, `ends` is unchanged.
+/// * 31: both tables and `list` as with no refusal, the counts are given, `ends` is unchanged.
 pub fn evaluate(question: &Question<'_>, lent: &mut Buffers<'_>) -> Result<Run, Unrun> {
     // SAFETY: the library reads rules and goal and writes the buffers, within the lengths given, and keeps
     // none; the borrows make them disjoint.
@@ -276,6 +283,8 @@ pub fn evaluate(question: &Question<'_>, lent: &mut Buffers<'_>) -> Result<Run, 
             lent.answers.len(),
             lent.ends.as_mut_ptr(),
             lent.ends.len(),
+            lent.list.as_mut_ptr(),
+            lent.list.len(),
         )
     };
     let run = Run { ends: r.ends as usize, calls: r.calls as usize, answers: r.answers as usize, rounds: r.rounds as usize };

@@ -47,6 +47,10 @@ pub enum Refusal {
     TablesFull = 30,
     /// 31: the list has fewer places than there are ends.
     ListShort = 31,
+    /// 34: the list of calls has fewer places than the call table has room for records; it comes before 30.
+    CallListShort = 34,
+    /// 35: a list of calls with fewer places than there are calls, or a place that is read not below their count.
+    BadCallList = 35,
     /// 40: a record count is over its room.
     BadRecordCount = 40,
     /// 41: the record number is not below the answer count.
@@ -96,6 +100,8 @@ impl Refusal {
         Refusal::ReportShort,
         Refusal::TablesFull,
         Refusal::ListShort,
+        Refusal::CallListShort,
+        Refusal::BadCallList,
         Refusal::BadRecordCount,
         Refusal::NoRecord,
         Refusal::BadRecord,
@@ -143,6 +149,8 @@ impl Refusal {
             Refusal::ReportShort => "the output has fewer than 2 words for each fluent and 4 more",
             Refusal::TablesFull => "the tables have too little room for the run",
             Refusal::ListShort => "the list has fewer places than there are ends",
+            Refusal::CallListShort => "the list of calls has fewer places than the call table has room for records",
+            Refusal::BadCallList => "a list of calls that is short, or has a number of no call",
             Refusal::BadRecordCount => "a record count over its room",
             Refusal::NoRecord => "no such answer record",
             Refusal::BadRecord => "a bad call record, or an answer that is not justified",

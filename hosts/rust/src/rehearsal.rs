@@ -4,7 +4,7 @@ use std::collections::HashMap;
 use std::{fmt, io, panic, thread};
 
 use crate::unfolding::{hold, hold_structure, replay, unfold, Answer, Difference, Event, Kind, Step, Tables};
-use crate::{class, evaluate, fluent_name, outcomes, path, read, Buffers, Counts, Question, Records, Refusal, Run, Sheet};
+use crate::{class, evaluate, fluent_name, outcomes, path, read, Buffers, Calls, Counts, Question, Records, Refusal, Run, Sheet};
 use crate::{Uncounted, Unread, ANSWER_WORDS, CALL_WORDS, GOAL_ACTION, MOST_RULE_WORDS, START_WORDS};
 
 /// Records that a table has at most, whatever is lent.
@@ -84,6 +84,8 @@ pub struct Rehearsal {
     calls: Vec<u64>,
     answers: Vec<u64>,
     ends: Vec<u64>,
+    /// The numbers of the call records, by action and then state.
+    list: Vec<u64>,
     sizes: Vec<u64>,
     /// The goal's answer record for each end.
     records: HashMap<u64, usize>,
@@ -95,6 +97,7 @@ struct Finished {
     calls: Vec<u64>,
     answers: Vec<u64>,
     ends: Vec<u64>,
+    list: Vec<u64>,
 }
 
 impl Rehearsal {
@@ -104,10 +107,10 @@ impl Rehearsal {
         let sheet = read(&text, &mut rules).map_err(Trouble::Sheet)?;
         let names = (0..sheet.fluents).map(|k| String::from_utf8_lossy(fluent_name(&text, k)).into_owned()).collect();
         let question = sheet.question(&rules);
-        let Finished { run, calls, answers, ends } = with_stack(STACK_EVALUATE, || grow(&question))??;
+        let Finished { run, calls, answers, ends, list } = with_stack(STACK_EVALUATE, || grow(&question))??;
         rules.truncate(question.rules.len());
         let mut rehearsal =
-            Rehearsal { text, sheet, rules, names, run, calls, answers, ends, sizes: Vec::new(), records: HashMap::new() };
+            Rehearsal { text, sheet, rules, names, run, calls, answers, ends, list, sizes: Vec::new(), records: HashMap::new() };
         rehearsal.sizes = rehearsal.tables().sizes(run.answers);
         rehearsal.records = rehearsal.goals();
         Ok(rehearsal)
@@ -152,6 +155,12 @@ impl Rehearsal {
     /// The finished tables.
     pub fn tables(&self) -> Tables<'_> {
         Tables { rules: &self.rules, goal: self.sheet.goal(), calls: &self.calls, answers: &self.answers }
+    }
+
+    /// The record of a call of the run, if there is one; the goal is action [`GOAL_ACTION`].
+    pub fn find(&self, action: u64, state: u64) -> Option<usize> {
+        let calls = Calls { words: &self.calls, count: self.run.calls, list: &self.list };
+        calls.find(action, state).expect("table, count and list are those of one run")
     }
 
     /// The words of the rules, 18 for each.
@@ -240,13 +249,13 @@ fn grow(question: &Question<'_>) -> Result<Finished, Trouble> {
     let mut room = FIRST_ROOM;
     loop {
         let (mut calls, mut answers) = (vec![0; CALL_WORDS * room], vec![0; ANSWER_WORDS * room]);
-        // The ends are at most half of the answers, or one.
-        let mut ends = vec![0; room / 2 + 1];
-        let mut lent = Buffers { calls: &mut calls, answers: &mut answers, ends: &mut ends };
+        // The ends are at most half of the answers, or one; a place for each call that there is room for.
+        let (mut ends, mut list) = (vec![0; room / 2 + 1], vec![0; room]);
+        let mut lent = Buffers { calls: &mut calls, answers: &mut answers, ends: &mut ends, list: &mut list };
         match evaluate(question, &mut lent) {
             Ok(run) => {
                 ends.truncate(run.ends);
-                return Ok(Finished { run, calls, answers, ends });
+                return Ok(Finished { run, calls, answers, ends, list });
             }
             Err(unrun) if unrun.refusal != Refusal::TablesFull => return Err(Trouble::Refused(unrun.refusal)),
             Err(_) if room == MOST_RECORDS => return Err(Trouble::TooLarge),
@@ -260,8 +269,9 @@ fn grow_class(question: &Question<'_>, starts: &[u64]) -> Result<Vec<OfStart>, R
     let (mut room, mut places) = (FIRST_ROOM, FIRST_ROOM);
     loop {
         let (mut calls, mut answers, mut ends) = (vec![0; CALL_WORDS * room], vec![0; ANSWER_WORDS * room], vec![0; places]);
-        let mut results = vec![0; START_WORDS * starts.len()];
-        class(question, starts, &mut results, &mut Buffers { calls: &mut calls, answers: &mut answers, ends: &mut ends })?;
+        let (mut results, mut list) = (vec![0; START_WORDS * starts.len()], vec![0; room]);
+        let mut lent = Buffers { calls: &mut calls, answers: &mut answers, ends: &mut ends, list: &mut list };
+        class(question, starts, &mut results, &mut lent)?;
         let told: Vec<OfStart> = outcomes(&results, &ends).map(|start| (start.told, start.ends.to_vec())).collect();
         let refused_with = |number| told.iter().any(|(told, _)| told.is_err_and(|refused| refused.refusal == number));
         if refused_with(Refusal::TablesFull) && room < MOST_RECORDS {

@@ -4,8 +4,8 @@ use std::error::Error;
 
 use lawhemuri::{
     class, evaluate, fluent_name, mark, merge, merged_fluent, outcomes, path, read, report, report_of, report_words, restore,
-    store, write, Buffers, Counts, Fraction, OfStart, Question, Records, Refusal, Report, Run, Uncounted, Unmerged, Unread,
-    Unrun, ANSWER_WORDS, CALL_WORDS, MARK_WORDS, MOST_ACTIONS, MOST_CALL_ROUND, MOST_FLUENTS, MOST_RECORDED,
+    store, write, Buffers, Calls, Counts, Fraction, OfStart, Question, Records, Refusal, Report, Run, Uncounted, Unmerged,
+    Unread, Unrun, ANSWER_WORDS, CALL_WORDS, MARK_WORDS, MOST_ACTIONS, MOST_CALL_ROUND, MOST_FLUENTS, MOST_RECORDED,
 };
 
 const EXAMPLE: &[u8] = b"fluent\topen\nfluent\tlit\naction\tpurge\naction\tlight\nrule\tpurge\t+open\n\
@@ -27,10 +27,17 @@ fn with_rooms(
     answers: usize,
     ends: usize,
 ) -> (Result<Run, Unrun>, Vec<u64>, Vec<u64>, Vec<u64>) {
-    let (mut c, mut a, mut e) = (vec![MARK; CALL_WORDS * calls], vec![MARK; ANSWER_WORDS * answers], vec![MARK; ends]);
-    let mut lent = Buffers { calls: &mut c, answers: &mut a, ends: &mut e };
-    let run = evaluate(question, &mut lent);
+    let (run, c, a, e, _) = with_list(question, [calls, answers, ends, calls]);
     (run, c, a, e)
+}
+
+/// The same with a list of calls of any length: rooms of calls, answers, ends and list, and what each buffer then holds.
+#[allow(clippy::type_complexity)]
+fn with_list(question: &Question<'_>, rooms: [usize; 4]) -> (Result<Run, Unrun>, Vec<u64>, Vec<u64>, Vec<u64>, Vec<u64>) {
+    let [mut c, mut a, mut e, mut l] =
+        [CALL_WORDS * rooms[0], ANSWER_WORDS * rooms[1], rooms[2], rooms[3]].map(|words| vec![MARK; words]);
+    let run = evaluate(question, &mut Buffers { calls: &mut c, answers: &mut a, ends: &mut e, list: &mut l });
+    (run, c, a, e, l)
 }
 
 #[test]
@@ -204,6 +211,94 @@ fn short_list_keeps_tables_and_counts() {
     assert_eq!((calls, answers), (c, a));
 }
 
+/// The numbers of the call records by action and then state, the goal last, and 0 past them; also with 31.
+#[test]
+fn list_of_calls() {
+    let mut rules = [0; 36];
+    let sheet = read(EXAMPLE, &mut rules).unwrap();
+    let (run, calls, _, _, list) = with_list(&sheet.question(&rules), [4, 4, 1, 5]);
+    assert_eq!(run, Ok(Run { ends: 1, calls: 3, answers: 3, rounds: 5 }));
+    assert_eq!(calls, [64, 0, 0, 1, 0, 1, 0, 0, 2, 0, 0, 0]);
+    assert_eq!(list, [2, 1, 0, 0, 0]);
+    let rules = left_recursion();
+    let question = Question { fluents: 2, actions: 1, rules: &rules, goal: &[768], start: 0 };
+    let (run, calls, _, _, list) = with_list(&question, [2, 4, 2, 4]);
+    assert!(run.is_ok());
+    assert_eq!((calls, list), (vec![64, 0, 0, 0, 0, 1], vec![1, 0, 0, 0]));
+    let (run, _, _, ends, list) = with_list(&question, [3, 4, 1, 3]);
+    assert_eq!(run.unwrap_err().refusal, Refusal::ListShort);
+    assert_eq!((ends, list), (vec![MARK], vec![1, 0, 0]));
+}
+
+/// A list of calls that is too short: 34, before 30 and after 24, and every buffer as it was lent; with 30 it is wholly 0.
+#[test]
+fn short_list_of_calls() {
+    let rules = left_recursion();
+    let question = Question { fluents: 2, actions: 1, rules: &rules, goal: &[768], start: 0 };
+    let short = Err(Unrun { refusal: Refusal::CallListShort, run: Run::default() });
+    let high = Err(Unrun { refusal: Refusal::BadStart, run: Run::default() });
+    for (start, rooms, told) in [
+        (0, [2, 4, 2, 1], short),
+        (0, [8, 8, 8, 7], short),
+        (0, [2, 4, 1, 1], short),
+        (0, [2, 3, 2, 1], short),
+        (0, [1, 4, 2, 0], short),
+        (4, [2, 4, 2, 1], high),
+    ] {
+        let (run, c, a, e, l) = with_list(&Question { start, ..question }, rooms);
+        assert_eq!(run, told);
+        assert!([c, a, e, l].concat().iter().all(|&word| word == MARK));
+    }
+    let (run, c, a, e, l) = with_list(&question, [2, 3, 2, 4]);
+    assert_eq!(run.unwrap_err().refusal, Refusal::TablesFull);
+    assert!([c, a, l].concat().iter().all(|&word| word == 0));
+    assert_eq!(e, [MARK; 2]);
+}
+
+/// Calls found by halves, in tables and lists that came from anybody.
+#[test]
+fn calls_found() {
+    let words = [64, 0, 0, 0, 0, 1, 0, 1, 2, 1, 0, 2];
+    let calls = |count, list| Calls { words: &words, count, list };
+    let listed = calls(4, &[1, 2, 3, 0]);
+    assert_eq!([(0, 0), (0, 1), (1, 0), (64, 0)].map(|(a, s)| listed.find(a, s)), [1, 2, 3, 0].map(|row| Ok(Some(row))));
+    for (action, state) in [(64, 1), (0, 2), (u64::MAX, u64::MAX)] {
+        assert_eq!(listed.find(action, state), Ok(None));
+    }
+    assert_eq!(calls(0, &[]).find(64, 0), Ok(None));
+    assert_eq!(calls(4, &[1, 2, 3, 0, MARK]).find(0, 1), Ok(Some(2)));
+    assert_eq!(calls(5, &[]).find(0, 1), Err(Refusal::BadRecordCount));
+    assert_eq!(calls(5, &[1, 2, 3, 0, 0]).find(0, 1), Err(Refusal::BadRecordCount));
+    assert_eq!(calls(4, &[1, 2, 3]).find(0, 1), Err(Refusal::BadCallList));
+    // The place with half of the places before it is read first.
+    assert_eq!(calls(4, &[1, 2, 4, 0]).find(0, 1), Err(Refusal::BadCallList));
+    assert_eq!(calls(4, &[9, 2, 3, 0]).find(64, 0), Ok(Some(0)));
+    assert_eq!(calls(4, &[9, 2, 3, 0]).find(0, 0), Err(Refusal::BadCallList));
+    assert_eq!(calls(4, &[3, 2, 1, 0]).find(0, 0), Ok(Some(1)));
+    assert_eq!(
+        calls(4, &[]).find(0, 0).unwrap_err().to_string(),
+        "refused 35: a list of calls that is short, or has a number of no call"
+    );
+}
+
+/// A class lends the list to each start: the last one's is left, and a short one is told of each start but one refused before it.
+#[test]
+fn list_of_a_class() {
+    let rules = left_recursion();
+    let question = Question { fluents: 2, actions: 1, rules: &rules, goal: &[768], start: 0 };
+    let run = |places: usize| {
+        let [mut results, mut calls, mut answers, mut ends, mut list] = [8, 9, 100, 4, places].map(|words| vec![MARK; words]);
+        let mut lent = Buffers { calls: &mut calls, answers: &mut answers, ends: &mut ends, list: &mut list };
+        assert_eq!(class(&question, &[4, 2], &mut results, &mut lent), Ok(()));
+        (results, [calls, answers, ends].concat(), list)
+    };
+    let (results, _, list) = run(4);
+    assert_eq!((results, list), (vec![24, 0, 0, 0, 0, 1, 2, 2], vec![1, 0, 0, 0]));
+    let (results, others, list) = run(2);
+    assert_eq!(results, [24, 0, 0, 0, 34, 0, 0, 0]);
+    assert!([others, list].concat().iter().all(|&word| word == MARK));
+}
+
 #[test]
 fn refused_questions_leave_the_buffers() {
     let rules = left_recursion();
@@ -244,12 +339,12 @@ fn denial() {
 #[test]
 fn numbers_of_refusals() {
     let numbers = [
-        10, 11, 12, 13, 14, 15, 16, 17, 18, 19, 20, 21, 22, 23, 24, 25, 26, 27, 30, 31, 40, 41, 42, 43, 50, 60, 61, 62, 70, 80,
-        81, 82,
+        10, 11, 12, 13, 14, 15, 16, 17, 18, 19, 20, 21, 22, 23, 24, 25, 26, 27, 30, 31, 34, 35, 40, 41, 42, 43, 50, 60, 61, 62,
+        70, 80, 81, 82,
     ];
     assert!(Refusal::ALL.iter().map(|refusal| refusal.number()).eq(numbers));
     assert!(numbers.iter().map(|&number| Refusal::of(number)).eq(Refusal::ALL.iter().copied().map(Some)));
-    assert!([0, 9, 28, 29, 32, 39, 44, 59, 63, 79, 83].map(Refusal::of).iter().all(Option::is_none));
+    assert!([0, 9, 28, 29, 32, 33, 36, 39, 44, 59, 63, 79, 83].map(Refusal::of).iter().all(Option::is_none));
 }
 
 /// What a host prints of an error that it handed on by `?`.
@@ -429,8 +524,8 @@ fn refused_stores_leave_the_output() {
 fn class_of(starts: &[u64], words: usize, list: usize) -> (Result<(), Refusal>, Vec<u64>, Vec<u64>, Vec<u64>, Vec<u64>) {
     let rules = left_recursion();
     let question = Question { fluents: 2, actions: 1, rules: &rules, goal: &[768], start: 0 };
-    let (mut results, mut calls, mut answers, mut ends) = (vec![MARK; words], vec![MARK; 24], vec![MARK; 160], vec![MARK; list]);
-    let mut lent = Buffers { calls: &mut calls, answers: &mut answers, ends: &mut ends };
+    let [mut results, mut calls, mut answers, mut ends] = [words, 24, 160, list].map(|words| vec![MARK; words]);
+    let mut lent = Buffers { calls: &mut calls, answers: &mut answers, ends: &mut ends, list: &mut [MARK; 8] };
     let told = class(&question, starts, &mut results, &mut lent);
     (told, results, calls, answers, ends)
 }
@@ -463,11 +558,12 @@ fn class_as_single_calls() {
     let starts: Vec<u64> = (0..1024).map(|i| i % 5).collect();
     let (told, results, calls, answers, ends) = class_of(&starts, 4096, 700);
     assert_eq!(told, Ok(()));
-    let (mut c, mut a, mut e) = (vec![MARK; 24], vec![MARK; 160], vec![MARK; 700]);
+    let (mut c, mut a, mut e, mut l) = (vec![MARK; 24], vec![MARK; 160], vec![MARK; 700], [MARK; 8]);
     let mut used = 0;
     for (start, outcome) in starts.iter().zip(outcomes(&results, &ends)) {
         let question = Question { fluents: 2, actions: 1, rules: &rules, goal: &[768], start: *start };
-        let told = evaluate(&question, &mut Buffers { calls: &mut c, answers: &mut a, ends: &mut e[used..] });
+        let mut lent = Buffers { calls: &mut c, answers: &mut a, ends: &mut e[used..], list: &mut l };
+        let told = evaluate(&question, &mut lent);
         let counts = |run: Run| Counts { ends: run.ends, calls: run.calls, answers: run.answers };
         let single = told.map(counts).map_err(|refused| Uncounted { refusal: refused.refusal, counts: counts(refused.run) });
         assert_eq!(outcome.told, single);

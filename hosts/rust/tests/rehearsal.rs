@@ -130,6 +130,25 @@ fn random_sheets_have_ways_to_all_ends() {
     assert!(ways > 200 && idle > 200, "{ways} ways with {idle} updates without effect");
 }
 
+/// Each call of a run is found where a walk of the table finds it, and no other is.
+#[test]
+fn every_call_is_found() {
+    let (mut numbers, mut calls) = (Numbers(29), 0);
+    for _ in 0..100 {
+        let rehearsal = Rehearsal::new(random_sheet(&mut numbers)).unwrap();
+        let tables = rehearsal.tables();
+        let walked: Vec<(u64, u64)> = (0..rehearsal.counts().calls).map(|record| tables.call(record)).collect();
+        for action in (0..=rehearsal.sheet().actions).chain([64, 65, u64::MAX]) {
+            for state in (0..1 << rehearsal.sheet().fluents).chain([u64::MAX]) {
+                let record = walked.iter().position(|&call| call == (action, state));
+                assert_eq!(rehearsal.find(action, state), record);
+                calls += record.is_some() as usize;
+            }
+        }
+    }
+    assert!(calls > 200, "{calls} calls");
+}
+
 /// Each event of each way in turn is left out, and put one level deeper: both are told, whatever they do to the states.
 #[test]
 fn events_lost_or_in_another_depth_are_told() {

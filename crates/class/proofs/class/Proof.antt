@@ -16,15 +16,15 @@ use Rattle.class.proofs.class.Statement.{statement}
 use Rattle.class.proofs.class.Tie as tie
 
 abbrev Inv-loop : tie.InvT-loop
-Inv-loop fluents actions rules goal starts results₀ calls₀ answers₀ ends₀ used₀ i₀ results calls answers ends used i =
-    Done (asked fluents actions rules goal) starts results₀ (lent calls₀ answers₀ ends₀) i used results (lent calls answers ends) × (i ≤ length starts)
+Inv-loop fluents actions rules goal starts results₀ calls₀ answers₀ ends₀ list₀ used₀ i₀ results calls answers ends list used i =
+    Done (asked fluents actions rules goal) starts results₀ (lent calls₀ answers₀ ends₀ list₀) i used results (lent calls answers ends list) × (i ≤ length starts)
 
 abbrev μ-loop : tie.MeasureT-loop
-μ-loop fluents actions rules goal starts results₀ calls₀ answers₀ ends₀ used₀ i₀ results calls answers ends used i = length starts - i
+μ-loop fluents actions rules goal starts results₀ calls₀ answers₀ ends₀ list₀ used₀ i₀ results calls answers ends list used i = length starts - i
 
 -- ---- the places: where the function begins, where the loop stands, and a start's evaluation
 abbrev entry : tie.Else2 Inv-loop μ-loop → tie.Start Inv-loop μ-loop
-entry c = c .before .before .before .before .before .before .before .before .before
+entry c = c .before .before .before .before .before .before .before .before .before .before
 
 module _ (c : tie.At-loop Inv-loop μ-loop) where
   -- what is left of the list is a part of it
@@ -32,8 +32,8 @@ module _ (c : tie.At-loop Inv-loop μ-loop) where
   fits = done-fits _ _ _ _ (c .loop .inv .0)
 
   -- the buffers have the lengths that were lent
-  same-room : SameRoom (lent (c .loop .calls) (c .loop .answers) (c .loop .ends))
-      (lent (entry (c .before) .args .calls .now) (entry (c .before) .args .answers .now) (entry (c .before) .args .ends .now))
+  same-room : SameRoom (lent (c .loop .calls) (c .loop .answers) (c .loop .ends) (c .loop .list))
+      (lent (entry (c .before) .args .calls .now) (entry (c .before) .args .answers .now) (entry (c .before) .args .ends .now) (entry (c .before) .args .list .now))
   same-room = done-room _ _ _ _ (c .loop .inv .0)
 
   long : length (c .loop .results) ≡ length (entry (c .before) .args .results .now)
@@ -45,7 +45,7 @@ module _ (c : tie.At-loop Inv-loop μ-loop) where
 
 module _ (c : tie.After-evaluate Inv-loop μ-loop) where
   abbrev at : tie.At-loop Inv-loop μ-loop
-  at = c .before .before .before .before .before .before
+  at = c .before .before .before .before .before .before .before
 
   abbrev first : tie.Start Inv-loop μ-loop
   first = entry (at .before)
@@ -57,14 +57,14 @@ module _ (c : tie.After-evaluate Inv-loop μ-loop) where
   given = told (c .evaluate .result .refusal) (c .evaluate .result .ends) (c .evaluate .result .calls) (c .evaluate .result .answers) (c .evaluate .result .rounds)
 
   abbrev left : Lent
-  left = lent (c .evaluate .last .1 .1 .1 .1 .1 .0) (c .evaluate .last .1 .1 .1 .1 .1 .1 .0) (c .evaluate .last .1 .1 .1 .1 .1 .1 .1 .0)
+  left = lent (c .evaluate .last .1 .1 .1 .1 .1 .0) (c .evaluate .last .1 .1 .1 .1 .1 .1 .0) (c .evaluate .last .1 .1 .1 .1 .1 .1 .1 .0) (c .evaluate .last .1 .1 .1 .1 .1 .1 .1 .1 .0)
 
   abbrev now : Lent
-  now = lent (at .loop .calls) (at .loop .answers) (at .loop .ends)
+  now = lent (at .loop .calls) (at .loop .answers) (at .loop .ends) (at .loop .list)
 
   evaluated : Evaluated (ask (getD (first .args .starts .now) (at .loop .i) 0)) (handed-on (at .loop .used) now) left given
   evaluated =
-      subst (λ (ends : List ℕ). Evaluated (ask (getD (first .args .starts .now) (at .loop .i) 0)) (lent (at .loop .calls) (at .loop .answers) ends) left given)
+      subst (λ (ends : List ℕ). Evaluated (ask (getD (first .args .starts .now) (at .loop .i) 0)) (lent (at .loop .calls) (at .loop .answers) ends (at .loop .list)) left given)
       (part-left (at .loop .used) (at .loop .ends))
       (c .evaluate .ensures)
 
@@ -92,22 +92,22 @@ part-evaluate-start c = fits (c .before .before .before .before)
 
 put-requires : tie.Need-put-requires Inv-loop μ-loop
 put-requires c κs =
-    let e = c .before .before .before .before .before .before .before in
-    omega (arith, long (at e), at e .before .if2 .left, e .before .before .before .before .before .loop-test .taken)
+    let e = c .before .before .before .before .before .before .before .before .before in
+    omega (arith, long (at e), at e .before .if2 .left, e .before .before .before .before .before .before .loop-test .taken)
 
 add-used : tie.Need-add-used Inv-loop μ-loop
 add-used c =
-    let e = c .before .before .before .before .before .before .before .before .before .before .before in
+    let e = c .before .before .before .before .before .before .before .before .before .before .before .before .before in
     record { fits = omega (arith, c .taken .ensures, room-for e, scaled (at e)) }
 
 loop-again : tie.Need-loop-again Inv-loop μ-loop
 loop-again c =
-    let e = c .before .before .before .before .before .before .before .before .before .before .before in
-    let test = e .before .before .before .before .before .loop-test .taken in (
+    let e = c .before .before .before .before .before .before .before .before .before .before .before .before .before in
+    let test = e .before .before .before .before .before .before .loop-test .taken in (
       done-as _ _ _ _
           (ap (λ (n : ℕ). at e .loop .used + n) (c .taken .ensures))
           (c .before .before .before .put .ensures)
-          (ap (λ (ends : List ℕ). lent (left e .calls) (left e .answers) ends) (part-back (at e .loop .used) (at e .loop .ends) (left e .ends)))
+          (ap (λ (ends : List ℕ). lent (left e .calls) (left e .answers) ends (left e .list)) (part-back (at e .loop .used) (at e .loop .ends) (left e .ends)))
           (done-more _ _ _ _ (at e .loop .inv .0) test (evaluated e)),
       omega (arith, test),
     )
@@ -123,6 +123,9 @@ same-length-3 c = same-room (c .before) .answers
 
 same-length-4 : tie.Need-same-length-4 Inv-loop μ-loop
 same-length-4 c = same-room (c .before) .ends
+
+same-length-5 : tie.Need-same-length-5 Inv-loop μ-loop
+same-length-5 c = same-room (c .before) .list
 
 returns-3 : tie.Need-returns-3 Inv-loop μ-loop
 returns-3 c =
@@ -157,4 +160,5 @@ class-spec =
     same-length-2
     same-length-3
     same-length-4
+    same-length-5
     returns-3)

@@ -40,9 +40,9 @@ slice-aggregate-evaluate-2 c = sym (length-take-le _ _ (goal-fits (read (c .befo
 
 returns-2 : tie.Need-returns-2
 returns-2 c =
-    let v = c .before .before .before .before in
-    let R = read (v .before .before .before .before .before .before .before) in
-    evaluated (R .book) (v .evaluate .last .1 .1 .1 .1 .1 .0) (v .evaluate .last .1 .1 .1 .1 .1 .1 .0) (R .is) refl (rw (← asks R) (v .evaluate .ensures))
+    let v = c .before .before .before .before .before in
+    let R = read (v .before .before .before .before .before .before .before .before) in
+    evaluated (R .book) (v .evaluate .last .1 .1 .1 .1 .1 .0) (v .evaluate .last .1 .1 .1 .1 .1 .1 .0) (v .evaluate .last .1 .1 .1 .1 .1 .1 .1 .1 .0) (R .is) refl (rw (← asks R) (v .evaluate .ensures))
 
 pub rehearse-spec : {M : Type 1} → statement M
 rehearse-spec =
@@ -56,6 +56,7 @@ rehearse-spec =
     slice-aggregate-evaluate
     array-share-prefix-goal
     slice-aggregate-evaluate-2
+    (λ c. search needs)
     (λ c. search needs)
     (λ c. search needs)
     (λ c κs. search needs)

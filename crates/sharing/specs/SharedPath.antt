@@ -47,13 +47,13 @@ module _ (fluents actions : ℕ) (rules words calls answers : List ℕ) where
       (cond bad-rows (path-refusals .bad-record) 0))) goals-refusal
 
   -- The refusal, or 0. 43: fewer places than states in the path.
-  unfoldable pub shown-refusal : ℕ → List ℕ → ℕ
-  shown-refusal x list = let fault = shared-fault x in
+  unfoldable pub traced-refusal : ℕ → List ℕ → ℕ
+  traced-refusal x list = let fault = shared-fault x in
       cond (eqb fault 0) (cond (ltb (length list) (length (shared-states x))) (path-refusals .states-short) 0) fault
 
   -- The operation's answer and the list that it leaves: the count of states, 0 where refused; and the states, past them what the list held, or the
   -- list unchanged.
-  pub record Shown (x : ℕ) (list : List ℕ) (refusal states : ℕ) (list′ : List ℕ) : Type 0 where
-    pub the-refusal : refusal ≡ shown-refusal x list
-    pub the-count : states ≡ cond (eqb (shown-refusal x list) 0) (length (shared-states x)) 0
-    pub the-list : list′ ≡ cond (eqb (shown-refusal x list) 0) (shared-states x ++ drop (length (shared-states x)) list) list
+  pub record Traced (x : ℕ) (list : List ℕ) (refusal states : ℕ) (list′ : List ℕ) : Type 0 where
+    pub the-refusal : refusal ≡ traced-refusal x list
+    pub the-count : states ≡ cond (eqb (traced-refusal x list) 0) (length (shared-states x)) 0
+    pub the-list : list′ ≡ cond (eqb (traced-refusal x list) 0) (shared-states x ++ drop (length (shared-states x)) list) list

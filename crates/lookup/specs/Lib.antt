@@ -1,0 +1,3 @@
+-- Lookup: what a lookup answers, the paper's procedure. Walked: what a walk of the table answers, and the lists with which both agree.
+pub mod Lookup
+pub mod Walked
