@@ -1,0 +1,3 @@
+-- Laws of records put in order.
+pub mod PlacingLaws
+pub mod OrderLaws

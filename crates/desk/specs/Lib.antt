@@ -1,0 +1,2 @@
+-- The two tables while a run lasts.
+pub mod Desk

@@ -1,0 +1,2 @@
+-- What the indexes of the two tables hold.
+pub mod Index

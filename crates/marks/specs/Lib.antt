@@ -1,0 +1,2 @@
+-- Marks of walks, for the proofs.
+pub mod Marks

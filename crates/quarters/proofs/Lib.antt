@@ -1,0 +1,2 @@
+-- Laws of quarters.
+pub mod QuarterLaws

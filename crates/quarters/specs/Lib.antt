@@ -1,0 +1,2 @@
+-- The quarters of a word: four numbers of 16 bits.
+pub mod Quarters

@@ -1,0 +1,2 @@
+-- Leaving: what the functions of a walk say to one another and to the rounds.
+pub mod Leaving

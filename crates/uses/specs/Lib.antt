@@ -1,0 +1,2 @@
+-- The uses of call records, for the proofs.
+pub mod Uses
