@@ -1,8 +1,12 @@
-/* The operations as a C host meets them: results, refusals, and what each buffer holds afterwards. */
+/* The operations as a C host meets them: results, refusals, what each buffer holds afterwards, and the stack of a run and of a path. */
+#define _POSIX_C_SOURCE 200809L
 #include "lawhemuri.h"
 
+#include <pthread.h>
 #include <stdio.h>
+#include <stdlib.h>
 #include <string.h>
+#include <unistd.h>
 
 #define MARK 0x5555555555555555u
 #define WORDS(a) (sizeof(a) / sizeof(a)[0])
@@ -332,6 +336,72 @@ static void test_path(void) {
     EXPECT(p.refusal == LAWHEMURI_BAD_RECORD && p.states == 0 && all(states, WORDS(states), MARK));
 }
 
+/* Answers of one call, in state 0: +a -a for the first, and for each other the one before it, twice. The last of n adds 2^n states. */
+static const uint16_t DOUBLES[36] = {0, 2, 256, 512, [18] = 0, 2, 768, 768};
+static const uint64_t DOUBLED[LAWHEMURI_CALL_WORDS];
+
+static void doubles(uint64_t *table, uint64_t count) {
+    memset(table, 0, LAWHEMURI_ANSWER_WORDS * count * sizeof *table);
+    for (uint64_t n = 1; n < count; n++) {
+        uint64_t *record = table + LAWHEMURI_ANSWER_WORDS * n;
+        record[2] = 1;
+        record[3] = record[4] = n - 1;
+        record[LAWHEMURI_ANSWER_WORDS - 1] = n;
+    }
+}
+
+/* A path that is listed in a thread of its own. */
+struct asked {
+    const uint64_t *table;
+    uint64_t count, record, *states;
+    size_t places;
+    lawhemuri_states listed;
+};
+
+static void *list_path(void *asked) {
+    struct asked *a = asked;
+    a->listed = lawhemuri_path(1, 1, DOUBLES, 36, GOAL, 1, DOUBLED, WORDS(DOUBLED), 1, a->table, LAWHEMURI_ANSWER_WORDS * a->count, a->count,
+                               a->record, a->states, a->places);
+    return NULL;
+}
+
+/* Lists it with so many bytes of stack, rounded up to pages, and frees the list; whether the states are 0, 1, 0, 1 and so on. */
+static int listed_with(size_t stack, struct asked *a) {
+    size_t page = (size_t)sysconf(_SC_PAGESIZE);
+    pthread_attr_t attributes;
+    pthread_t thread;
+    a->states = malloc(a->places * sizeof *a->states);
+    int holds = a->states != NULL && pthread_attr_init(&attributes) == 0 &&
+                pthread_attr_setstacksize(&attributes, (stack + page - 1) / page * page) == 0 &&
+                pthread_create(&thread, &attributes, list_path, a) == 0 && pthread_join(thread, NULL) == 0 &&
+                a->listed.states <= a->places;
+    for (uint64_t i = 0; holds && i < a->listed.states; i++)
+        holds = a->states[i] == i % 2;
+    free(a->states);
+    return holds;
+}
+
+/* The stack that the header asks for lists a path: of all records that there may be, with the longest list for it; and with a longer list, of
+ * which the longest path listed takes all places. */
+static void test_stack_of_path(void) {
+    enum { MOST = 65536 };
+    uint64_t *table = malloc(LAWHEMURI_ANSWER_WORDS * MOST * sizeof *table);
+    EXPECT(table != NULL);
+    if (table == NULL)
+        return;
+    doubles(table, MOST);
+    struct asked a = {.table = table, .count = MOST, .record = 15, .places = LAWHEMURI_LONG_LIST - 1};
+    EXPECT(listed_with(LAWHEMURI_STACK_PATH, &a) && a.listed.refusal == LAWHEMURI_OK && a.listed.states == 65537);
+    a.record = MOST - 1;
+    EXPECT(listed_with(LAWHEMURI_STACK_PATH, &a) && a.listed.refusal == LAWHEMURI_STATES_SHORT && a.listed.states == 0);
+    a.record = 23;
+    a.places = LAWHEMURI_LONG_LIST;
+    EXPECT(listed_with(LAWHEMURI_STACK_LONG_PATH, &a) && a.listed.refusal == LAWHEMURI_STATES_SHORT && a.listed.states == 0);
+    a.places = LAWHEMURI_LONG_LIST + 1;
+    EXPECT(listed_with(LAWHEMURI_STACK_LONG_PATH, &a) && a.listed.refusal == LAWHEMURI_OK && a.listed.states == a.places);
+    free(table);
+}
+
 /* How many rounds drills D1, D3, D4, D7, D8 and D9 take, and a goal that is stuck at once. */
 static void test_rounds(void) {
     static const struct {
@@ -410,6 +480,57 @@ static void test_idle_update(void) {
     EXPECT(p.refusal == LAWHEMURI_STATES_SHORT && p.states == 0 && all(states, WORDS(states), MARK));
     p = IDLE(3);
     EXPECT(p.refusal == LAWHEMURI_OK && p.states == 2 && states[0] == 1 && states[1] == 1 && states[2] == MARK);
+}
+
+/* The buffers of one run, and what it gives. */
+typedef struct run_of {
+    uint64_t calls[LAWHEMURI_CALL_WORDS * 2048], answers[LAWHEMURI_ANSWER_WORDS * 6144], ends[2048], list[2048];
+    lawhemuri_run run;
+} run_of;
+
+static void *run_left_recursion(void *lent) {
+    run_of *r = lent;
+    r->run = lawhemuri_evaluate(2, 1, RULES, 36, GOAL, 1, 0, r->calls, WORDS(r->calls), r->answers, WORDS(r->answers), r->ends, WORDS(r->ends),
+                                r->list, WORDS(r->list));
+    return NULL;
+}
+
+/* The goal calls 11 actions in a row, and each inserts its fluent or does nothing. */
+static void *run_choices(void *lent) {
+    uint16_t rules[22 * LAWHEMURI_RULE_WORDS] = {0}, goal[11];
+    for (uint16_t i = 0; i < 11; i++) {
+        uint16_t *inserts = rules + 36 * i;
+        inserts[0] = inserts[18] = i;
+        inserts[1] = 1;
+        inserts[2] = 256 + i;
+        goal[i] = 768 + i;
+    }
+    run_of *r = lent;
+    r->run = lawhemuri_evaluate(11, 11, rules, WORDS(rules), goal, 11, 0, r->calls, WORDS(r->calls), r->answers, WORDS(r->answers), r->ends,
+                                WORDS(r->ends), r->list, WORDS(r->list));
+    return NULL;
+}
+
+/* Whether a run in a thread with 128 KiB of stack gives what it gives here, in every word. */
+static int same_in_small_thread(void *(*run)(void *), run_of *here) {
+    static run_of there;
+    pthread_attr_t small;
+    pthread_t thread;
+    memset(&there, 0x55, sizeof there);
+    memset(here, 0x55, sizeof *here);
+    run(here);
+    return pthread_attr_init(&small) == 0 && pthread_attr_setstacksize(&small, 131072) == 0 &&
+           pthread_create(&thread, &small, run, &there) == 0 && pthread_join(thread, NULL) == 0 && pthread_attr_destroy(&small) == 0 &&
+           memcmp(here, &there, sizeof there) == 0;
+}
+
+static void test_small_stack(void) {
+    static run_of here;
+    EXPECT(same_in_small_thread(run_left_recursion, &here));
+    EXPECT(here.run.refusal == LAWHEMURI_OK && here.run.ends == 2 && here.run.calls == 2 && here.run.answers == 4 && here.ends[1] == 3);
+    EXPECT(same_in_small_thread(run_choices, &here));
+    EXPECT(here.run.refusal == LAWHEMURI_OK && here.run.ends == 2048 && here.run.calls == 2048 && here.run.answers == 6142);
+    EXPECT(here.ends[2047] == 2047 && LAWHEMURI_STACK_EVALUATE <= 65536);
 }
 
 /* Drill D9's path, kept by fluent and taken back. */
@@ -636,9 +757,11 @@ int main(void) {
     test_refused_questions();
     test_denial();
     test_path();
+    test_stack_of_path();
     test_rounds();
     test_rounds_of_records();
     test_one_order();
+    test_small_stack();
     test_idle_update();
     test_store();
     test_blocks();

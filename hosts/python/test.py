@@ -5,6 +5,7 @@ import glob
 import io
 import os
 import re
+import threading
 import unittest
 from fractions import Fraction
 from random import Random
@@ -105,6 +106,35 @@ class Kinds(unittest.TestCase):
         words = dict(re.findall(r'Refusal::(\w+) => "(.*)"', rust))
         numbers = re.findall(r"(\w+) = (\d+),", rust)
         self.assertEqual(lawhemuri.MEANINGS, {int(number): words[name] for name, number in numbers})
+
+
+class SmallStack(unittest.TestCase):
+    """In a thread with 128 KiB of stack a run gives what it gives in any other, in every word."""
+
+    DRILL = b"fluent\ta\nfluent\tb\naction\tg\nrule\tg\t!g\t?a\t+b\nrule\tg\t+a\nstart\ngoal\t!g\n"
+    # 11 actions in a row, each of which inserts its fluent or does nothing.
+    CHOICES = "".join(
+        [f"fluent\tf{i}\n" for i in range(11)] + [f"action\ta{i}\n" for i in range(11)]
+        + [f"rule\ta{i}\t+f{i}\nrule\ta{i}\n" for i in range(11)] + ["start\ngoal"] + [f"\t!a{i}" for i in range(11)] + ["\n"]
+    )
+
+    def test_same_words(self):
+        before = threading.stack_size(131072)
+        self.addCleanup(threading.stack_size, before)
+        for text, told in (self.DRILL, (0, 2, 2, 4, 4)), (self.CHOICES, (0, 2048, 2048, 6142, 23)):
+            sheet, rules = LIBRARY.read(text)
+            runs = []
+
+            def run():
+                counts, ends, *words = LIBRARY.evaluate(sheet, rules, (2048, 6144, 2048))
+                runs.append((tuple(getattr(counts, name) for name, _ in counts._fields_), ends, *(list(part) for part in words)))
+
+            run()
+            thread = threading.Thread(target=run)
+            thread.start()
+            thread.join()
+            self.assertEqual((len(runs), runs[0][0]), (2, told))
+            self.assertTrue(runs[0] == runs[1])
 
 
 class Denial(unittest.TestCase):

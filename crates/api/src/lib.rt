@@ -18,9 +18,9 @@ ghost use Rattle.marking.specs.Marking.{question, RecordMarked};
 // The version, as a host compares it with its header's: 10,000 times the first number, 100 times the second and the third.
 #[no_mangle]
 pub extern "C" fn lawhemuri_version() -> u64
-    ensures { λ r. ⌜ r ≡ 100 ⌝ }
+    ensures { λ r. ⌜ r ≡ 200 ⌝ }
 {
-    100
+    200
 }
 
 // Reads a sheet: the rule words of an accepted one go to `rules`, which is unchanged past them and by a refusal.

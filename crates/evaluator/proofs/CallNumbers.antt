@@ -1,65 +1,26 @@
--- The numbers of the call records sorted by their keys, and that a list so made is the one that is promised. Assumes nothing.
+-- A list of the call records by their keys is the one that is promised. Assumes nothing.
 use Prim.Native.Nat.{ℕ, suc, _-_, _<_, _≤_}
 use native.Mathlib.Omega.{arith}
 use mathlib.Core.Path.{_≡_, refl, sym, ap, ap₂, subst, _∙_}
 use mathlib.Core.List.{List, [], _∷_, _++_, List·Memᴰ, Memᴰ·cast}
-use mathlib.Core.Logic.{_↔_}
-use lib.ListN.{length, getD, take, drop, replicate, length-append, length-drop, length-replicate, take-append-drop, List·getD-eq-default}
+use mathlib.Core.Logic.{_↔_, inr}
+use lib.ListN.{length, getD, take, drop, replicate, length-drop, length-replicate, take-append-drop}
 use lib.Seq.{ext-getD, length-take-le, getD-take, getD-drop}
-use Rattle.sorting.specs.Shuffled.{Shuffled, NumbersSorted, named-key, Before}
+use Rattle.sorting.specs.Shuffled.{Shuffled, NumbersSorted, Before}
 use Rattle.sorting.proofs.Orders.{no-later-apart}
 use Rattle.sorting.proofs.SortedLaws.{number-moved}
 use Rattle.steps.proofs.Lists.{at-member, member-at}
 use Rattle.records.specs.Records.{Calls, Bodies, call-table, call-width}
 use Rattle.records.proofs.Growth.{Tables, CallsOnce, row-once}
-use Rattle.notes.proofs.MarksLaws.{zeros-at}
 use Rattle.canonical.specs.Rows.{CallRow, Rows, call-key, filled}
 use Rattle.canonical.specs.CallList.{call-list}
-use Rattle.canonical.proofs.RowWords.{getD-pad}
 use Rattle.canonical.proofs.Ordered.{Ordered, none, more}
 use Rattle.canonical.proofs.Keys.{Rising}
 use Rattle.canonical.proofs.AfterRounds.{Once}
 use Rattle.canonical.proofs.TableRows.{call-row, rows-of, rows-calls, rows-call}
 use Rattle.canonical.proofs.CallList.{key-at, list-is}
-use Rattle.evaluator.specs.CallNumbers.{key-of, CallsListed}
-
--- ---- the numbers from 0 on, sorted and copied to a list
-
-module _ (calls : List ℕ) {n len : ℕ} {first sorted list : List ℕ} (size : length first ≡ n) (is : (i : ℕ) → i < n → getD first i 0 ≡ i)
-    (S : NumbersSorted call-width calls 0 n first sorted) (fits : n ≤ len) (copied : list ≡ filled len sorted) (once : CallsOnce (call-table calls n)) where
-  t : Shuffled 1 0 n first sorted
-  t = S .shuffled
-
-  place : (p : ℕ) → getD list p 0 ≡ getD sorted p 0
-  place p = ap (λ (l : List ℕ). getD l p 0) copied ∙ getD-pad sorted (len - length sorted) p
-
-  stands : (p : ℕ) → p < n → getD sorted p 0 ≡ t .from p
-  stands p l = number-moved t p (omega arith) l ∙ is (t .from p) (t .from-in p (omega arith) l .1)
-
-  -- no two calls have one key
-  differ : (p q : ℕ) → p < q → q < n → key-of (call-table calls n) (getD sorted p 0) ≡ key-of (call-table calls n) (getD sorted q 0) → ⊥
-  differ p q l m e =
-      let x = t .from-in p (omega arith) (omega arith) .1 in
-      let y = t .from-in q (omega arith) m .1 in
-      let f : key-of (call-table calls n) (t .from p) ≡ key-of (call-table calls n) (t .from q) =
-      ap (key-of (call-table calls n)) (sym (stands p (omega arith))) ∙ e ∙ ap (key-of (call-table calls n)) (stands q m) in
-      let z : t .from p ≡ t .from q = row-once (call-table calls n) once (t .from p) (t .from q) _ _ x y
-      (record { has-action = ap (λ (k : ℕ × ℕ). k .0) f; has-state = ap (λ (k : ℕ × ℕ). k .1) f }) (record { has-action = refl; has-state = refl }) in
-      let w : p ≡ q = sym (t .back-from p (omega arith) (omega arith)) ∙ ap (t .back) z ∙ t .back-from q (omega arith) m in
-      omega arith
-
-  rise : (p q : ℕ) → p < q → q < n → Before (named-key call-width calls sorted p) (named-key call-width calls sorted q)
-  rise p q l m = no-later-apart (record { never = S .rising p q (omega arith) l m }) (differ p q l m)
-
-  pub numbers-listed : CallsListed (call-table calls n) len list
-  numbers-listed = record {
-    long = ap length copied ∙ length-append sorted _ ∙ omega (arith, length-replicate {A = ℕ} (len - length sorted) 0, t .size);
-    numbers = λ p l. omega (arith, place p, stands p l, t .from-in p (omega arith) l .1);
-    every = λ i l. (let b = t .back-in i (omega arith) l .1 in (t .back i, b, place (t .back i) ∙ stands (t .back i) b ∙ t .from-back i (omega arith) l));
-    rising = λ p q l m. subst (λ (x : ℕ). Before (key-of (call-table calls n) x) (key-of (call-table calls n) (getD list q 0))) (sym (place p))
-        (subst (λ (y : ℕ). Before (key-of (call-table calls n) (getD sorted p 0)) (key-of (call-table calls n) y)) (sym (place q)) (rise p q l m));
-    past = λ p l. place p ∙ List·getD-eq-default sorted 0 (omega (arith, t .size));
-  }
+use Rattle.evaluator.proofs.Zeros.{zeros-at}
+use Rattle.listing.specs.Listing.{key-of, CallsListed}
 
 -- ---- the list that is promised
 

@@ -24,16 +24,16 @@ use Rattle.tabling.proofs.Adding.{calls-apart, answers-apart}
 use Rattle.records.proofs.Numbers.{proper-of}
 use Rattle.tabling.proofs.Closed.{Whole}
 use Rattle.tabling.proofs.Closed.{C, A, exact-of}
-use Rattle.loops.proofs.Going.{Kept, in-words}
+use Rattle.invariants.proofs.Tabulated.{KeptTables, in-tables}
 use Rattle.tabling.proofs.RunTables.{the-root, exact-run}
-use Rattle.evaluator.specs.Finals.{finals-below}
-use Rattle.evaluator.proofs.FinalsLaws.{finals-exactly}
+use Rattle.finals.specs.Finals.{finals-below}
+use Rattle.finals.proofs.FinalsLaws.{finals-exactly}
 
 module _ {fluents actions : ℕ} (rules goal : List ℕ) (start : State) (acc : AcceptedWords fluents actions rules goal) (calls : List ℕ) (n : ℕ) (answers : List ℕ) (m : ℕ)
-    (kept : Kept calls n answers m)
-    (R : Whole (bodies-of rules goal) (Among (the-root rules goal start acc)) 0 (in-words calls n answers m)) where
+    (kept : KeptTables calls n answers m)
+    (R : Whole (bodies-of rules goal) (Among (the-root rules goal start acc)) 0 (in-tables calls n answers m)) where
   abbrev t : Tables
-  t = in-words calls n answers m
+  t = in-tables calls n answers m
 
   abbrev run : Run
   run = run-of rules goal start

@@ -1,7 +1,7 @@
 -- Laws for this crate's proofs.
-pub mod FinalsLaws
-pub mod Listing
+pub mod Zeros
 pub mod Finishing
 pub mod CallNumbers
+pub mod Given
 pub mod Outcomes
 pub mod Determined

@@ -1,7 +1,6 @@
 -- How an evaluation comes out, from what filling the tables leaves. Assumes nothing.
 use Prim.Native.Nat.{ℕ, _+_, _<_, _≤_}
 use native.Mathlib.Omega.{arith}
-use native.Mathlib.Nat.{mul-zero}
 use native.Mathlib.Decide.{decLt}
 use mathlib.Core.Path.{_≡_, refl, sym, ap, _∙_}
 use mathlib.Core.Bool.{Bool, true, false}
@@ -16,14 +15,12 @@ use Rattle.steps.specs.State.{State}
 use Rattle.steps.proofs.EachBelow.{true-not-false}
 use Rattle.records.specs.Records.{Calls, Answers, bodies-of, room, call-table, answer-table, call-width, answer-width}
 use Rattle.records.specs.Full.{Full}
-use Rattle.records.specs.Storage.{Stored, CallAt, FindCall, CallPut, call-stood, call-added, call-no-room}
-use Rattle.records.proofs.Growth.{Tables, tables, AnswersOnce}
-use Rattle.notes.proofs.MarksLaws.{zeros-at}
+use Rattle.records.specs.Storage.{Stored, CallAt, CallPut, call-stood, call-added, call-no-room}
+use Rattle.records.proofs.Growth.{Tables, tables}
 use Rattle.tabling.proofs.Evidence.{Among}
 use Rattle.tabling.proofs.Closed.{Whole}
-use Rattle.loops.proofs.Going.{in-words}
 use Rattle.tabling.proofs.RunTables.{outgrown-run}
-use Rattle.loops.proofs.Filling.{Filled}
+use Rattle.invariants.proofs.Tabulated.{Tabulated, KeptTables, in-tables}
 use Rattle.canonical.specs.Rows.{call-words, answer-words, filled}
 use Rattle.canonical.proofs.Beginning.{Begins}
 use Rattle.canonical.proofs.Words.{Worded, over-words}
@@ -31,21 +28,11 @@ use Rattle.canonical.proofs.AfterRounds.{calls-once}
 use Rattle.canonical.proofs.CodeRounds.{over-rows}
 use Rattle.canonical.specs.CallList.{call-list}
 use Rattle.records.proofs.Numbers.{proper-of}
-use Rattle.evaluator.specs.Finals.{finals-below, FinalsListed}
-use Rattle.evaluator.specs.CallNumbers.{CallsListed}
+use Rattle.finals.specs.Finals.{finals-below, CallFinals}
+use Rattle.listing.specs.Listing.{CallsListed}
 use Rattle.evaluator.specs.Evaluated.{Asked, Lent, lent, told, refused-with, run-asked, CallListShort, rows-asked, buffers-after, Tabled, Evaluated, short-list, ends-listed}
 use Rattle.evaluator.proofs.CallNumbers.{listed-is}
 use Rattle.evaluator.proofs.Finishing.{finished, not-full, goal-ends, ends-exactly}
-
--- words that are all 0 store no record
-pub zeros-stored : (width : ℕ) (words : List ℕ) → words ≡ replicate (length words) 0 → Stored width words 0
-zeros-stored width words e = record { fits = rw mul-zero (omega arith); most = omega arith; past = λ i l. ap (λ (w : List ℕ). getD w i 0) e ∙ zeros-at (length words) i }
-
-pub all-zero : {words : List ℕ} (n : ℕ) → words ≡ replicate n 0 → words ≡ replicate (length words) 0
-all-zero n e = e ∙ ap (λ (k : ℕ). replicate k 0) (sym (ap length e ∙ length-replicate {A = ℕ} n 0))
-
-pub zero-long : {words : List ℕ} (n : ℕ) → words ≡ replicate n 0 → length words ≡ n
-zero-long n e = ap length e ∙ length-replicate {A = ℕ} n 0
 
 -- the goal's call, put into empty tables, stands alone
 pub first-begins : {start : State} (places : ℕ) (calls calls′ : Calls) (answers : Answers) (row : ℕ) (full : Bool) → CallPut places calls Goal start 0 calls′ row full → full ≡ false
@@ -62,7 +49,7 @@ listed-fits s k = omega (arith, s .fits, s .most)
 
 module _ (q : Asked) (before : Lent) (ok : refused-with q ≡ 0) (long : ¬ CallListShort before) {calls₀ answers₀ : List ℕ} (cl : length calls₀ ≡ length (before .calls)) (al : length answers₀ ≡ length (before .answers))
     {calls answers list : List ℕ} {full : Bool} {n m rounds : ℕ} {b₀ : Tables} (B : full ≡ false → Begins (q .start) b₀)
-    (F : Filled (q .rules) (q .goal) ((Goal, q .start) ∷ []) 0 b₀ calls₀ answers₀ calls answers full n m rounds)
+    (F : Tabulated (q .rules) (q .goal) ((Goal, q .start) ∷ []) 0 b₀ calls₀ answers₀ calls answers full n m rounds)
     (N : full ≡ false → CallsListed (call-table calls n) (length (before .list)) list) where
   acc : AcceptedWords (q .fluents) (q .actions) (q .rules) (q .goal)
   acc = start-accepted (q .fluents) (q .actions) (q .rules) (q .goal) (q .start) ok .0
@@ -72,20 +59,20 @@ module _ (q : Asked) (before : Lent) (ok : refused-with q ≡ 0) (long : ¬ Call
   is-full e = rw (cl, al) at (outgrown-run (q .rules) (q .goal) (q .start) acc (room call-width (length calls₀)) (room answer-width (length answers₀)) (F .outgrown e))
 
   module _ (e : full ≡ false) where
-    pub whole : Whole (bodies-of (q .rules) (q .goal)) (Among ((Goal, q .start) ∷ [])) 0 (in-words calls n answers m)
+    pub whole : Whole (bodies-of (q .rules) (q .goal)) (Among ((Goal, q .start) ∷ [])) 0 (in-tables calls n answers m)
     whole = F .closed e
 
     fits : ¬ Full (run-asked q) (length (before .calls)) (length (before .answers))
-    fits f = not-full (q .rules) (q .goal) (q .start) acc calls n answers m (F .kept) whole (rw (← cl, ← al, ← (F .calls-long), ← (F .answers-long)) at f)
+    fits f = not-full (q .rules) (q .goal) (q .start) acc calls n answers m (F .kept e) whole (rw (← cl, ← al, ← (F .calls-long), ← (F .answers-long)) at f)
 
     -- the words of the tables
     worded : Worded (q .rules) (q .goal) (q .start) calls answers n m rounds
-    worded = over-words (q .rules) (q .goal) calls n answers m (proper-of (q .rules) (q .goal) acc) (whole .valid) (q .start) (acc .few-rules) (F .kept .calls-stored) (F .kept .answers-stored) (B e) (F .rounded e refl)
+    worded = over-words (q .rules) (q .goal) calls n answers m (proper-of (q .rules) (q .goal) acc) (whole .valid) (q .start) (acc .few-rules) (F .kept e .calls-stored) (F .kept e .answers-stored) (B e) (F .rounded e refl)
 
     -- the list of calls
     listed : list ≡ filled (length (before .list)) (call-list (rows-asked q rounds .calls))
-    listed = listed-is (bodies-of (q .rules) (q .goal)) (in-words calls n answers m)
-        (listed-fits (F .kept .calls-stored) (λ h. long (rw (F .calls-long, cl) at h)))
+    listed = listed-is (bodies-of (q .rules) (q .goal)) (in-tables calls n answers m)
+        (listed-fits (F .kept e .calls-stored) (λ h. long (rw (F .calls-long, cl) at h)))
         (N e) (over-rows (q .rules) (q .goal) (acc .few-rules) (q .start) (B e) (F .rounded e refl) .1) (calls-once (q .rules) (q .goal) (acc .few-rules) (q .start) rounds)
 
     pub words-are : (ends : List ℕ) → lent calls answers ends list ≡ buffers-after q rounds before ends
@@ -108,39 +95,40 @@ module _ (q : Asked) (before : Lent) (ok : refused-with q ≡ 0) (long : ¬ Call
       calls-many = worded .calls-many;
       answers-many = worded .answers-many;
       few = worded .few;
-      finished = finished (q .rules) (q .goal) (q .start) acc calls n answers m (F .kept) whole;
+      finished = finished (q .rules) (q .goal) (q .start) acc calls n answers m (F .kept e) whole;
       ends = ends;
       exactly = x;
       counted = z;
     }
 
-    pub answers-once : AnswersOnce (answer-table answers m)
-    answers-once = whole .valid .answers-once
+    module _ {k : ℕ} {ends : List ℕ} (found : CallFinals (call-table calls n) (answer-table answers m) Goal (q .start) k (before .ends) ends) where
+      abbrev row : ℕ
+      row = found .row
 
-    module _ {row : ℕ} (found : FindCall (call-table calls n) Goal (q .start) row) where
       -- the record found is the goal's
       goal-row : (row < n) × CallAt (call-table calls n) row Goal (q .start)
       goal-row =
           let (i, l, c) = whole .valid .roots Goal (q .start) (List·Memᴰ·head refl) in
-          elim (decLt row n) [ yes h ↦ (h, found .found h) | no k ↦ absurd (found .absent (omega arith) i l c) ]
+          elim (decLt row n) [ yes h ↦ (h, found .sought .found h) | no j ↦ absurd (found .sought .absent (omega arith) i l c) ]
 
       abbrev finals : List ℕ
       finals = finals-below (answer-table answers m) row m
 
       exactly : Exactly (End (run-asked q)) finals
-      exactly = ends-exactly (q .rules) (q .goal) (q .start) acc calls n answers m (F .kept) whole row (goal-row .0) (goal-row .1)
+      exactly = ends-exactly (q .rules) (q .goal) (q .start) acc calls n answers m (F .kept e) whole row (goal-row .0) (goal-row .1)
 
       -- 31
-      pub is-short : {k : ℕ} → k ≡ length finals → length (before .ends) < k → Evaluated q before (lent calls answers (before .ends) list) (told (run-refusals .list-short) k n m rounds)
-      is-short {k} z l = short-list refl (ran (before .ends) finals (run-refusals .list-short) k exactly (sym z)) l (words-are (before .ends))
+      pub is-short : length (before .ends) < k → Evaluated q before (lent calls answers ends list) (told (run-refusals .list-short) k n m rounds)
+      is-short l = short-list refl (ran ends finals (run-refusals .list-short) k exactly (sym (found .counted))) l
+          (words-are ends ∙ ap (buffers-after q rounds before) (found .short l))
 
       -- no refusal
-      pub is-listed : {k : ℕ} {ends : List ℕ} → k ≡ length finals → k ≤ length (before .ends) → FinalsListed (answer-table answers m) row (before .ends) ends
-          → Evaluated q before (lent calls answers ends list) (told 0 k n m rounds)
+      pub is-listed : k ≤ length (before .ends) → Evaluated q before (lent calls answers ends list) (told 0 k n m rounds)
       unfolding ran
-      is-listed {k} {ends} z l L =
-          let held = goal-ends (q .rules) (q .goal) (q .start) acc calls n answers m (F .kept) whole row (goal-row .0) (goal-row .1) in
+      is-listed l =
+          let L = found .listed l in
+          let held = goal-ends (q .rules) (q .goal) (q .start) acc calls n answers m (F .kept e) whole row (goal-row .0) (goal-row .1) in
           let x : Exactly (End (run-asked q)) (L .finals) = exactly-map held (record { once = rising-distinct (L .rising); members = L .members }) in
-          let c : length (L .finals) ≡ k = exactly-long x exactly ∙ sym z in
+          let c : length (L .finals) ≡ k = exactly-long x exactly ∙ sym (found .counted) in
           ends-listed refl (ran ends (L .finals) 0 k x c) l (L .rising)
           (words-are ends ∙ ap (buffers-after q rounds before) (L .is ∙ ap (λ (j : ℕ). L .finals ++ drop j (before .ends)) c))

@@ -1,25 +1,23 @@
-// Tabled evaluation of a goal over rule words: the tables are cleared, the goal's call is put in, and rounds fill them (crate `rounds`); then
-// the calls are listed by action and then state, and the ends are counted and listed.
-mod calls;
-mod ends;
-
-use notes::index;
+// Tabled evaluation of a goal over rule words: the call table and the list are cleared, the goal's call is put in, and rounds fill the tables
+// (crate `filling`); then the ends are counted and listed (crate `finals`), the calls are listed by action and then state (crate `listing`), and
+// both tables are given as they are promised.
 use records::tables;
-use rounds::Counted;
 use steps::accept;
 use steps::state::Call;
 ghost use mathlib.Core.Path.{_≡_};
-ghost use mathlib.Core.Bool.{false};
+ghost use mathlib.Core.Bool.{true, false};
 ghost use mathlib.Core.List.{[], _∷_};
-ghost use Prim.Native.Nat.{ℕ, _≤_};
+ghost use Prim.Native.Nat.{ℕ, _*_, _≤_};
 ghost use lib.ListN.{length, replicate};
-ghost use Rattle.records.specs.Records.{room, call-table, call-width};
+ghost use Rattle.records.specs.Records.{room, call-table, call-width, answer-table, answer-width};
 ghost use Rattle.steps.specs.Run.{Goal};
 ghost use Rattle.steps.proofs.AcceptanceLaws.{AcceptedWords};
-ghost use Rattle.records.proofs.Growth.{Tables};
-ghost use Rattle.loops.proofs.Filling.{Filled};
+ghost use Rattle.records.proofs.Growth.{Tables, CallsOnce, AnswersOnce};
+ghost use Rattle.invariants.proofs.Tabulated.{Tabulated};
 ghost use Rattle.canonical.proofs.Beginning.{Begins};
-ghost use Rattle.evaluator.specs.CallNumbers.{CallsListed};
+ghost use Rattle.desk.specs.Desk.{open-calls, packed-answers, CallsClosed, AnswersClosed};
+ghost use Rattle.finals.specs.Finals.{CallFinals};
+ghost use Rattle.listing.specs.Listing.{CallsListed};
 ghost use Rattle.evaluator.specs.Evaluated.{Evaluated, asked, lent, told};
 
 // The refusal, 0 for none, the counts of ends, calls and answers, and the number of rounds that added something.
@@ -32,61 +30,96 @@ pub struct Run {
     pub rounds: u64,
 }
 
-// Fills tables that are wholly 0 with the calls and answers of the goal from the start, and lists the calls. Where a table is full the list may
-// hold anything.
+// Whether a table is full, the counts of ends, calls and answers, and the number of rounds that added something.
+struct Outcome {
+    full: bool,
+    ends: u64,
+    calls: usize,
+    answers: usize,
+    rounds: u64,
+}
+
+// Gives the tables where the rounds are over, with the calls listed. Before that the ends are counted, and listed if their list has places for
+// them, since the answer table has free words till then.
+fn give(
+    start: u64,
+    calls: &mut [u64],
+    n: usize,
+    answers: &mut [u64],
+    m: usize,
+    ends: &mut [u64],
+    list: &mut [u64],
+) -> u64
+    requires { ⌜ (call-width * n ≤ length (now calls)) × (n ≤ 65536) × (n ≤ length (now list)) × CallsOnce (open-calls (now calls) n) ⌝ }
+    requires { ⌜ (m ≤ room answer-width (length (now answers))) × AnswersOnce (packed-answers (now answers) m) ⌝ }
+    ensures { λ _. ⌜ CallsClosed (now (calls .entry)) n (now (calls .exit)) × AnswersClosed (now (answers .entry)) m (now (answers .exit)) ⌝ }
+    ensures { λ r. ⌜ CallsListed (call-table (now (calls .exit)) n) (length (now (list .entry))) (now (list .exit))
+        × CallFinals (call-table (now (calls .exit)) n) (answer-table (now (answers .exit)) m) Goal start r
+        (now (ends .entry)) (now (ends .exit)) ⌝ }
+{
+    desk::close_calls(calls, n);
+    let free = index::free_from(answers.len());
+    let found = finals::of_call(calls, n, Call::goal(start), answers, m, ends, free);
+    listing::list(calls, n, list, answers, free);
+    desk::close_answers(answers, m);
+    found
+}
+
+// Fills the tables with the calls and answers of the goal from the start, lists the calls, counts the ends, and lists them if their list has
+// places for them. The call table and the list are wholly 0 before; where a table is full all three may hold anything.
 fn tabulate<'a>(
     rules: &'a [u16],
     goal: &'a [u16],
     start: u64,
     calls: &mut [u64],
     answers: &mut [u64],
+    ends: &mut [u64],
     list: &mut [u64],
-) -> Counted
+) -> Outcome
     requires { ⌜ ((fluents : ℕ) × (actions : ℕ) × AcceptedWords fluents actions (now rules) (now goal)) ⌝ }
-    requires { ⌜ (now calls ≡ replicate (length (now calls)) 0) × (now answers ≡ replicate (length (now answers)) 0)
+    requires { ⌜ (now calls ≡ replicate (length (now calls)) 0) × (now list ≡ replicate (length (now list)) 0)
         × (room call-width (length (now calls)) ≤ length (now list)) ⌝ }
     ensures { λ r. ⌜ ((b : Tables) × (r .full ≡ false → Begins start b)
-        × Filled (now (rules .entry)) (now (goal .entry)) ((Goal, start) ∷ []) 0 b (now (calls .entry)) (now (answers .entry))
+        × Tabulated (now (rules .entry)) (now (goal .entry)) ((Goal, start) ∷ []) 0 b (now (calls .entry)) (now (answers .entry))
         (now (calls .exit)) (now (answers .exit)) (r .full) (r .calls) (r .answers) (r .rounds)) ⌝ }
     ensures { λ r. ⌜ (length (now (list .exit)) ≡ length (now (list .entry)))
         × (r .full ≡ false → CallsListed (call-table (now (calls .exit)) (r .calls)) (length (now (list .entry))) (now (list .exit))) ⌝ }
+    ensures { λ r. ⌜ (r .full ≡ true → now (ends .exit) ≡ now (ends .entry))
+        × (r .full ≡ false → CallFinals (call-table (now (calls .exit)) (r .calls)) (answer-table (now (answers .exit)) (r .answers)) Goal start
+        (r .ends) (now (ends .entry)) (now (ends .exit))) ⌝ }
 {
-    let mut call_index = [0u16; 122880];
-    let put = index::add_call(calls, 0, &mut call_index, Call::goal(start), 0);
+    let put = index::add_call(calls, 0, list, Call::goal(start), 0);
     let count = put.count;
     if put.full {
-        return Counted {
+        return Outcome {
             full: true,
+            ends: 0,
             calls: count,
             answers: 0,
             rounds: 0,
         };
     }
-    let mut answer_index = [0u16; 319488];
-    let mut marks = [0u32; 65536];
-    let mut uses = [0u16; 327680];
-    let run = rounds::fill(
-        rules,
-        goal,
-        calls,
-        count,
-        &mut call_index,
-        answers,
-        0,
-        &mut answer_index,
-        0,
-        &mut marks,
-        &mut uses,
-    );
+    let run = filling::fill(rules, goal, calls, count, list, answers, 0, 0);
+    let n = run.calls;
+    let m = run.answers;
+    let rounds = run.rounds;
     if run.full {
-        return run;
+        return Outcome {
+            full: run.full,
+            ends: 0,
+            calls: n,
+            answers: m,
+            rounds: rounds,
+        };
     }
-    calls::list(
-        calls,
-        &mut call_index[index::LINKS..index::LINKS + run.calls],
-        list,
-    );
-    run
+    let found = give(start, calls, n, answers, m, ends, list);
+    Outcome {
+        full: run.full,
+        ends: found,
+        calls: n,
+        answers: m,
+        rounds: rounds,
+    }
 }
 
 // Evaluates the goal from the start: fills the tables with its calls and answers, lists its ends in rising order in `ends`, and the
@@ -127,8 +160,8 @@ pub fn evaluate<'a>(
         };
     }
     tables::clear(calls);
-    tables::clear(answers);
-    let run = tabulate(rules, goal, start, calls, answers, list);
+    tables::clear(list);
+    let run = tabulate(rules, goal, start, calls, answers, ends, list);
     let n = run.calls;
     let m = run.answers;
     if run.full {
@@ -143,8 +176,7 @@ pub fn evaluate<'a>(
             rounds: 0,
         };
     }
-    let row = tables::find_call(calls, n, Call::goal(start)) as u64;
-    let found = ends::count(answers, m, row);
+    let found = run.ends;
     if (ends.len() as u64) < found {
         return Run {
             refusal: refusals::LIST_SHORT,
@@ -154,7 +186,6 @@ pub fn evaluate<'a>(
             rounds: run.rounds,
         };
     }
-    ends::list(answers, m, row, ends);
     Run {
         refusal: 0,
         ends: found,

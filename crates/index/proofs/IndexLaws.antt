@@ -1,31 +1,43 @@
 -- Laws of the two indexes in the words lent: what the quarters put make of heads, links and queues. Assumes nothing.
-use Prim.Native.Nat.{ℕ, _+_, _*_, _/_, _%_, _<_, _≤_}
+use Prim.Native.Nat.{ℕ, suc, _+_, _-_, _*_, _/_, _%_, _^_, _<_, _≤_}
 use native.Mathlib.Omega.{arith}
 use native.Mathlib.Decide.{ℕ-discrete, decLt}
-use native.Mathlib.Nat.{mul-add, mul-le-mul-left, mul-le-mul-right, mul-le-mul, div-one}
+use native.Mathlib.Nat.{mul-add, mul-le-mul-left, div-one, one-mul, mod-lt, mod-eq-of-lt, lt-of-lt-of-le}
 use mathlib.Core.Path.{_≡_, refl, sym, ap, _∙_}
 use mathlib.Core.List.{List}
 use mathlib.Core.Logic.{_≢_}
 use lib.ListN.{length, getD}
+use lib.Count.{leadingZeros, leading-top}
+use lib.Pow.{pow-pos, pow-mono, pow-lt}
 use Rattle.steps.specs.State.{State}
 use Rattle.quarters.specs.Quarters.{quarter, QuarterPut}
 use Rattle.records.specs.Records.{Calls, room, call-width}
 use Rattle.records.specs.Storage.{CallAt, FindCall, CallAdded, FindAnswer, NextAnswer}
 use Rattle.desk.specs.Desk.{open-calls, action-unit, packed-width, packed-answers}
-use Rattle.index.specs.Index.{bucket, Covers, Queued, Reaches, Sought, Keyed, CallIndex, AnswerIndex, AnswersKeyed, heads-in, links-in, lasts-in, nexts-in, firsts-in}
+use Rattle.index.specs.Index.{buckets, bucket, Covers, Queued, Reaches, Sought, Keyed, CallIndex, AnswerIndex, AnswersKeyed, heads-in, links-in, lasts-in, nexts-in, firsts-in}
 use Rattle.index.specs.Index.{answer-room, answer-notes, keys-in, answer-keys, Rechained, Noted, Forgotten, Chained, LastOf, Joined, AnswerNoted}
 use Rattle.index.proofs.Chains.{first-found, first-none, later-found, later-none, covers-none, covers-more, covers-less, covers-same, queued-none, queued-same, queued-behind, queued-alone}
 
-pub bucket-small : (most a s : ℕ) → 0 < most → bucket most a s < most
-unfolding bucket
-bucket-small most a s l = let e = mul-le-mul-right most (top (s % 65521 + a % 65536 * 1021)) in omega arith
-  where
-    top : (x : ℕ) → x % 65536 ≤ 65535
-    top x = omega arith
+-- There are no more buckets than records.
+buckets-few : (most : ℕ) → 0 < most → buckets most ≤ most
+unfolding buckets
+buckets-few most some = elim (decLt most (2 ^ 64)) [
+  | yes h ↦ (let (j, e, low, high) = leading-top 64 most some h in let z : 63 - leadingZeros 64 most ≡ j = omega (arith, e) in rw z low)
+  | no k ↦ (let l = pow-mono {i = 63 - leadingZeros 64 most} {j = 63} (omega arith) in omega (arith, l, k))
+]
 
--- The product by which a bucket is found is a word, and where there are records there are buckets.
-pub bucket-fits : (x most : ℕ) → most ≤ 65536 → x % 65536 * most < 18446744073709551616
-bucket-fits x most l = let top : x % 65536 ≤ 65535 = omega arith in let e = mul-le-mul top l in omega arith
+pub bucket-small : (most a s : ℕ) → 0 < most → bucket most a s < most
+unfolding bucket buckets
+bucket-small most a s some = lt-of-lt-of-le (mod-lt (s % 65521 + a % 65536 * 1021) (pow-pos (63 - leadingZeros 64 most))) (buckets-few most some)
+
+-- A shift by less than 64 places is the power of two.
+pub buckets-shl : (most : ℕ) → 1 * 2 ^ (63 - leadingZeros 64 most) % 2 ^ 64 ≡ buckets most
+unfolding buckets
+buckets-shl most = ap (λ (x : ℕ). x % 2 ^ 64) (one-mul _) ∙ mod-eq-of-lt (pow-lt {i = 63 - leadingZeros 64 most} {j = 64} (omega arith))
+
+pub buckets-some : (most : ℕ) → 0 < buckets most
+unfolding buckets
+buckets-some most = pow-pos (63 - leadingZeros 64 most)
 
 pub some-bucket : {n most : ℕ} → n ≢ 0 → n ≤ most → 0 < most
 some-bucket d l = omega arith

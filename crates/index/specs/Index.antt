@@ -1,20 +1,25 @@
 -- What an index of a table holds: chains by bucket, and the answers of each call record in rising order. It stands in quarters of the words lent.
 -- Read by the proofs alone. Assumes nothing.
-use Prim.Native.Nat.{ℕ, _+_, _*_, _/_, _%_, _<_, _≤_}
+use Prim.Native.Nat.{ℕ, _+_, _-_, _*_, _/_, _%_, _^_, _<_, _≤_}
 use mathlib.Core.Path.{_≡_}
 use mathlib.Core.Bool.{Bool, true, false}
 use mathlib.Core.List.{List}
 use mathlib.Core.Logic.{_≢_}
 use lib.ListN.{length, getD}
+use lib.Count.{leadingZeros}
 use Rattle.steps.specs.State.{State}
 use Rattle.quarters.specs.Quarters.{quarter}
 use Rattle.records.specs.Records.{Calls, Answers, room, call-width, answer-width}
 use Rattle.records.specs.Storage.{CallAt}
 use Rattle.desk.specs.Desk.{open-calls, mark-words, packed-width, packed-answers}
 
--- The bucket of a record, by its two keys, among so many.
+-- How many buckets serve so many records: the greatest power of two among them.
+unfoldable pub buckets : ℕ → ℕ
+buckets most = 2 ^ (63 - leadingZeros 64 most)
+
+-- The bucket of a record, by its two keys.
 unfoldable pub bucket : ℕ → ℕ → ℕ → ℕ
-bucket most a s = (s % 65521 + a % 65536 * 1021) % 65536 * most / 65536
+bucket most a s = (s % 65521 + a % 65536 * 1021) % buckets most
 
 -- ---- records by their keys
 -- Of each key below `most` that some record has, the latest record.
@@ -56,6 +61,10 @@ answer-room answers = room answer-width (length answers)
 
 abbrev pub answer-notes : List ℕ → ℕ
 answer-notes answers = packed-width * answer-room answers
+
+-- Behind them, in a table of this length, nothing is kept.
+abbrev pub free-from : ℕ → ℕ
+free-from len = 9 * room answer-width len
 
 -- ---- finding by an index
 -- Records of `width` words by their keys: the first word divided by a unit, and the second word.

@@ -15,7 +15,7 @@ ghost use lib.ListN.{length, getD};
 ghost use Rattle.records.specs.Records.{room, call-width, answer-width};
 ghost use Rattle.records.specs.Storage.{FindCall, FindAnswer, NextAnswer, CallPut, AnswerPut};
 ghost use Rattle.desk.specs.Desk.{CallsOpen, AnswersOpen, open-calls, packed-answers, packed-width, round-top};
-ghost use Rattle.index.specs.Index.{bucket, Keyed, keys-in, OfRow, CallIndex, AnswerIndex, answer-room, answer-notes};
+ghost use Rattle.index.specs.Index.{buckets, bucket, Keyed, keys-in, OfRow, CallIndex, AnswerIndex, answer-room, answer-notes, free-from};
 ghost use Rattle.index.specs.Index.{Noted, Forgotten, LastOf, Joined, CallsKept, AnswersKept, AnswerNoted, Rechained, AnswersKeyed};
 
 // The quarters of a word of notes.
@@ -38,12 +38,20 @@ const ACTION_UNIT: u64 = 72057594037927936;
 // An answer record has so many words while a run lasts.
 const PACKED_WORDS: usize = 8;
 
-// The bucket among `most` of a record with these two keys.
+// How many buckets serve so many records: the greatest power of two among them. States next to each other come to buckets next to each other.
+fn buckets(most: usize) -> u64
+    requires { ⌜ (0 < most) × (most ≤ 65536) ⌝ }
+    ensures { λ r. ⌜ (r ≡ buckets most) × (0 < r) ⌝ }
+{
+    1 << (63 - u64::leading_zeros(most as u64))
+}
+
+// The bucket, of those for `most` records, of a record with these two keys.
 fn bucket(most: usize, a: u64, s: u64) -> usize
-    requires { ⌜ most ≤ 65536 ⌝ }
+    requires { ⌜ (0 < most) × (most ≤ 65536) ⌝ }
     ensures { λ r. ⌜ r ≡ bucket most a s ⌝ }
 {
-    ((s % 65521 + a % 65536 * 1021) % 65536 * most as u64 / 65536) as usize
+    ((s % 65521 + a % 65536 * 1021) % buckets(most)) as usize
 }
 
 // The record of `width` words among the first n that has these two keys, or n. Its bucket is one of `most`, whose heads stand from `base` on.
@@ -104,7 +112,7 @@ fn forget(notes: &mut [u64], base: usize, k: usize, n: usize)
 
 // The bucket among `most` of record i, of `width` words.
 fn bucket_of(words: &[u64], unit: u64, width: usize, i: usize, most: usize) -> usize
-    requires { ⌜ (0 < unit) × (width * i + 2 ≤ length (now words)) × (most ≤ 65536) ⌝ }
+    requires { ⌜ (0 < unit) × (width * i + 2 ≤ length (now words)) × (0 < most) × (most ≤ 65536) ⌝ }
     ensures { λ r. ⌜ r ≡ bucket most (getD (now (words .entry)) (width * i) 0 / unit) (getD (now (words .entry)) (width * i + 1) 0) ⌝ }
 {
     bucket(most, words[width * i] / unit, words[width * i + 1])
@@ -195,6 +203,13 @@ fn notes_of(len: usize) -> usize
     ensures { λ r. ⌜ r ≡ packed-width * room answer-width len ⌝ }
 {
     PACKED_WORDS * tables::room_of(len, tables::ANSWER_WORDS)
+}
+
+// Where the words behind the notes of the answers begin, in a table of this length: nothing is kept in them.
+pub fn free_from(len: usize) -> usize
+    ensures { λ r. ⌜ r ≡ free-from len ⌝ }
+{
+    9 * tables::room_of(len, tables::ANSWER_WORDS)
 }
 
 // The record among the first m of this call record and final state, or m.

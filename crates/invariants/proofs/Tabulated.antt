@@ -47,18 +47,31 @@ given c a = record {
   answers = λ x l. (let z = a .closed x l in record { call = z .call; final = z .final; rule = z .rule; evidence = z .evidence; round = z .round });
 }
 
-pub tabulated : {rules goal : List ℕ} {roots : List (ℕ × State)} {first : ℕ} {b₀ : Tables} {calls list answers calls₁ list₁ answers₁ calls′ answers′ : List ℕ} {n m rounds : ℕ}
-    → Proper (bodies-of rules goal) → Filled rules goal roots first b₀ calls list answers calls₁ list₁ answers₁ false n m rounds
-    → CallsClosed calls₁ n calls′ → AnswersClosed answers₁ m answers′ → Tabulated rules goal roots first b₀ calls answers calls′ answers′ false n m rounds
-tabulated {calls₁ = calls₁} {answers₁ = answers₁} {n = n} {m} proper F c a =
+-- Where the rounds are over and the tables are given.
+pub tabulated : {rules goal : List ℕ} {roots : List (ℕ × State)} {first : ℕ} {b₀ : Tables} {calls list answers calls₁ list₁ answers₁ calls′ answers′ : List ℕ} {full : Bool} {n m rounds : ℕ}
+    → Proper (bodies-of rules goal) → full ≡ false → Filled rules goal roots first b₀ calls list answers calls₁ list₁ answers₁ full n m rounds
+    → CallsClosed calls₁ n calls′ → AnswersClosed answers₁ m answers′ → Tabulated rules goal roots first b₀ calls answers calls′ answers′ full n m rounds
+tabulated {calls₁ = calls₁} {answers₁ = answers₁} {n = n} {m} proper over F c a =
     let R = given {calls = calls₁} {answers = answers₁} {n = n} {m = m} c a in
-    let W = F .closed refl in
+    let W = F .closed over in
     let S = F .kept .calls-open .stored in
     record {
       calls-long = c .long ∙ F .calls-long;
       answers-long = a .long ∙ F .answers-long;
       kept = λ e. record { calls-stored = record { fits = rw (c .long) (S .fits); most = S .most; past = λ p l. c .past p l ∙ S .past p l }; answers-stored = a .stored };
       closed = λ e. whole-same R proper W;
-      rounded = λ e z. rounds-over-same R proper (W .valid) (F .rounded refl z);
-      outgrown = λ e. absurd (true-not-false (sym e));
+      rounded = λ e z. rounds-over-same R proper (W .valid) (F .rounded over z);
+      outgrown = λ e. absurd (true-not-false (sym e ∙ over));
     }
+
+-- Where a table is full.
+pub tabulated-full : {rules goal : List ℕ} {roots : List (ℕ × State)} {first : ℕ} {b₀ : Tables} {calls list answers calls₁ list₁ answers₁ : List ℕ} {full : Bool} {n m rounds : ℕ}
+    → full ≡ true → Filled rules goal roots first b₀ calls list answers calls₁ list₁ answers₁ full n m rounds → Tabulated rules goal roots first b₀ calls answers calls₁ answers₁ full n m rounds
+tabulated-full t F = record {
+  calls-long = F .calls-long;
+  answers-long = F .answers-long;
+  kept = λ e. absurd (true-not-false (sym t ∙ e));
+  closed = λ e. absurd (true-not-false (sym t ∙ e));
+  rounded = λ e. absurd (true-not-false (sym t ∙ e));
+  outgrown = F .outgrown;
+}

@@ -1,4 +1,4 @@
--- What a walk has marked: with the marks of `notes`, each move of the code is one of the search (`tabling`'s Moves). Assumes nothing.
+-- What a walk has marked: with the marks of `marks`, each move of the code is one of the search (`tabling`'s Moves). Assumes nothing.
 use Prim.Native.Nat.{ℕ, zero, suc, _+_, _%_, _<_, _≤_}
 use native.Mathlib.Omega.{arith}
 use native.Mathlib.Decide.{decLt, ℕ-discrete}

@@ -111,7 +111,7 @@ module _ (l : Handed) (x : ℕ) where
     same : states-of l x ≡ path
     same = path-added (l .rules) (l .goal) (l .calls) (l .call-count) (l .answers) (l .answer-count) x
 
-    module _ (none : fault l x ≡ 0) (count : ℕ) (list′ : List ℕ) (listed : PathListed path list count list′) where
+    module _ (none : fault l x ≡ 0) (count : ℕ) (list′ : List ℕ) (listed : PathListed path (length list) list count list′) where
       abbrev short : Bool
       short = ltb (length list) (length path)
 

@@ -90,7 +90,8 @@ pub fn path<'a>(
             states: 0,
         };
     }
-    let listed = list::list_states(rules, goal, calls, answers, record as usize, states);
+    let most = states.len();
+    let listed = list::list_states(rules, goal, calls, answers, record as usize, most, states);
     if listed == 0 {
         return Path {
             refusal: refusals::STATES_SHORT,

@@ -7,19 +7,21 @@ use steps::word::is_call;
 ghost use mathlib.Core.Path.{_≡_};
 ghost use mathlib.Core.Bool.{true, cond};
 ghost use mathlib.Core.List.{_∷_};
-ghost use Prim.Native.Nat.{_<_};
-ghost use lib.ListN.{length, set};
+ghost use Prim.Native.Nat.{_+_, _<_};
+ghost use lib.ListN.{length, getD, set};
+ghost use Rattle.cells.specs.Numbers.{limit, numbers};
 ghost use Rattle.steps.specs.Inner.{is-call};
 ghost use Rattle.unfolding.proofs.Walk.{added-by, start-at, words-at};
 ghost use Rattle.unfolding.proofs.Places.{Placing, Laying, Placeable, Laid};
 
 // Gives the record that a call uses its place.
-fn note(step: u16, used: u64, at: usize, offsets: &mut [usize])
-    requires { ⌜ (is-call step ≡ true → used < length (now offsets)) ⌝ }
-    ensures { λ _. ⌜ now (offsets .exit) ≡ cond (is-call step) (set (now (offsets .entry)) used at) (now (offsets .entry)) ⌝ }
+fn note(step: u16, used: u64, at: usize, wide: bool, offsets: &mut [u8])
+    requires { ⌜ (is-call step ≡ true → used < length (numbers wide (now offsets))) × (at < limit wide) ⌝ }
+    ensures { λ _. ⌜ numbers wide (now (offsets .exit))
+        ≡ cond (is-call step) (set (numbers wide (now (offsets .entry))) used at) (numbers wide (now (offsets .entry))) ⌝ }
 {
     if is_call(step) {
-        offsets[used as usize] = at;
+        cells::put(offsets, wide, used as usize, at);
     }
 }
 
@@ -30,22 +32,25 @@ fn place<'a>(
     calls: &[u64],
     answers: &[u64],
     n: usize,
-    sizes: &[usize],
-    offsets: &mut [usize],
+    wide: bool,
+    sizes: &[u8],
+    offsets: &mut [u8],
 )
-    requires { ⌜ Placing (now rules) (now goal) (now calls) (now answers) (now sizes) (now offsets) n ⌝ }
+    requires { ⌜ Placing (now rules) (now goal) (now calls) (now answers) (numbers wide (now sizes)) (numbers wide (now offsets)) n
+        × (getD (numbers wide (now offsets)) n 0 + length (added-by (now rules) (now goal) (now calls) (now answers) n) < limit wide) ⌝ }
     ensures { λ _. ⌜ Laying (now (rules .entry)) (now (goal .entry)) (now (calls .entry)) (now (answers .entry)) n
-        (length (words-at (now (rules .entry)) (now (goal .entry)) (now (answers .entry)) n)) (now (offsets .entry)) (now (offsets .exit)) ⌝ }
+        (length (words-at (now (rules .entry)) (now (goal .entry)) (now (answers .entry)) n))
+        (numbers wide (now (offsets .entry))) (numbers wide (now (offsets .exit))) ⌝ }
 {
     let steps = steps_of(rules, goal, answers, n);
     let mut state = start(calls, answers, n);
-    let mut at = offsets[n];
+    let mut at = cells::get(offsets, wide, n);
     let mut q = 0;
     while q < steps.len() {
         let step = steps[q];
         let used = tables::evidence_of(answers, tables::ANSWER_WORDS, n, q);
-        let t = take_step(step, state, used, n, calls, answers, sizes);
-        note(step, used, at, offsets);
+        let t = take_step(step, state, used, n, calls, answers, wide, sizes);
+        note(step, used, at, wide, offsets);
         at += t.size;
         state = t.state;
         q += 1;
@@ -59,21 +64,23 @@ pub fn place_all<'a>(
     calls: &[u64],
     answers: &[u64],
     asked: usize,
-    sizes: &[usize],
-    offsets: &mut [usize],
+    wide: bool,
+    sizes: &[u8],
+    offsets: &mut [u8],
 )
-    requires { ⌜ Placeable (now rules) (now goal) (now calls) (now answers) (now sizes) (now offsets) asked ⌝ }
-    ensures { λ _. ⌜ (length (now (offsets .exit)) ≡ length (now (offsets .entry)))
+    requires { ⌜ Placeable (now rules) (now goal) (now calls) (now answers) (numbers wide (now sizes)) (numbers wide (now offsets)) asked
+        × (length (added-by (now rules) (now goal) (now calls) (now answers) asked) + 1 < limit wide) ⌝ }
+    ensures { λ _. ⌜ (length (numbers wide (now (offsets .exit))) ≡ length (numbers wide (now (offsets .entry))))
         × Laid (now (rules .entry)) (now (goal .entry)) (now (calls .entry)) (now (answers .entry)) asked 0
         (start-at (now (calls .entry)) (now (answers .entry)) asked ∷ added-by (now (rules .entry)) (now (goal .entry)) (now (calls .entry))
-        (now (answers .entry)) asked) (now (offsets .exit)) ⌝ }
+        (now (answers .entry)) asked) (numbers wide (now (offsets .exit))) ⌝ }
 {
-    offsets[asked] = 1;
+    cells::put(offsets, wide, asked, 1);
     let mut n = asked + 1;
     while 0 < n {
         n -= 1;
-        if offsets[n] != 0 {
-            place(rules, goal, calls, answers, n, sizes, offsets);
+        if cells::get(offsets, wide, n) != 0 {
+            place(rules, goal, calls, answers, n, wide, sizes, offsets);
         }
     }
 }

@@ -6,6 +6,7 @@ use records::tables;
 ghost use mathlib.Core.Path.{_≡_};
 ghost use Prim.Native.Nat.{_+_, _≤_, _<_, _^_, min};
 ghost use lib.ListN.{length};
+ghost use Rattle.cells.specs.Numbers.{limit, numbers};
 ghost use Rattle.unfolding.proofs.Walk.{Checked, added-by};
 ghost use Rattle.unfolding.proofs.Sizes.{Sized};
 
@@ -25,11 +26,12 @@ fn size<'a>(
     calls: &[u64],
     answers: &[u64],
     n: usize,
-    sizes: &[usize],
+    wide: bool,
+    sizes: &[u8],
     cap: usize,
 ) -> usize
-    requires { ⌜ Checked (now rules) (now goal) (now calls) (now answers) (n + 1) × (n ≤ length (now sizes)) × (cap < 2 ^ 61)
-        × Sized (added-by (now rules) (now goal) (now calls) (now answers)) (now sizes) n cap ⌝ }
+    requires { ⌜ Checked (now rules) (now goal) (now calls) (now answers) (n + 1) × (n ≤ length (numbers wide (now sizes))) × (cap < 2 ^ 61)
+        × Sized (added-by (now rules) (now goal) (now calls) (now answers)) (numbers wide (now sizes)) n cap ⌝ }
     ensures { λ r. ⌜ r ≡ min cap (length (added-by (now (rules .entry)) (now (goal .entry)) (now (calls .entry)) (now (answers .entry)) n)) ⌝ }
 {
     let steps = steps_of(rules, goal, answers, n);
@@ -44,6 +46,7 @@ fn size<'a>(
             n,
             calls,
             answers,
+            wide,
             sizes,
         );
         sum = capped(sum, t.size, cap);
@@ -61,16 +64,19 @@ pub fn size_all<'a>(
     answers: &[u64],
     count: usize,
     cap: usize,
-    sizes: &mut [usize],
+    wide: bool,
+    sizes: &mut [u8],
 )
-    requires { ⌜ Checked (now rules) (now goal) (now calls) (now answers) count × (count ≤ length (now sizes)) × (cap < 2 ^ 61) ⌝ }
-    ensures { λ _. ⌜ (length (now (sizes .exit)) ≡ length (now (sizes .entry)))
-        × Sized (added-by (now (rules .entry)) (now (goal .entry)) (now (calls .entry)) (now (answers .entry))) (now (sizes .exit)) count cap ⌝ }
+    requires { ⌜ Checked (now rules) (now goal) (now calls) (now answers) count × (count ≤ length (numbers wide (now sizes))) × (cap < 2 ^ 61)
+        × (cap < limit wide) ⌝ }
+    ensures { λ _. ⌜ (length (numbers wide (now (sizes .exit))) ≡ length (numbers wide (now (sizes .entry))))
+        × Sized (added-by (now (rules .entry)) (now (goal .entry)) (now (calls .entry)) (now (answers .entry)))
+        (numbers wide (now (sizes .exit))) count cap ⌝ }
 {
     let mut n = 0;
     while n < count {
-        let added = size(rules, goal, calls, answers, n, &sizes[..n], cap);
-        sizes[n] = added;
+        let added = size(rules, goal, calls, answers, n, wide, sizes, cap);
+        cells::put(sizes, wide, n, added);
         n += 1;
     }
 }

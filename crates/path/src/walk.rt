@@ -9,6 +9,7 @@ ghost use mathlib.Core.Path.{_≡_};
 ghost use mathlib.Core.List.{List};
 ghost use Prim.Native.Nat.{ℕ, _+_, _≤_};
 ghost use lib.ListN.{length};
+ghost use Rattle.cells.specs.Numbers.{numbers};
 ghost use Rattle.steps.specs.Words.{step-of};
 ghost use Rattle.checks.specs.Readable.{Readable};
 ghost use Rattle.unfolding.specs.Path.{shown};
@@ -73,17 +74,19 @@ pub fn take_step(
     n: usize,
     calls: &[u64],
     answers: &[u64],
-    sizes: &[usize],
+    wide: bool,
+    sizes: &[u8],
 ) -> Turn
-    requires { ⌜ Readable (now calls) (now answers) (n + 1) × (n ≤ length (now sizes))
+    requires { ⌜ Readable (now calls) (now answers) (n + 1) × (n ≤ length (numbers wide (now sizes)))
         × ((t : ℕ) × LeadsTo (now calls) (now answers) n step state evidence t) ⌝ }
-    ensures { λ r. ⌜ Turned (now (calls .entry)) (now (answers .entry)) (now (sizes .entry)) n step state evidence (r .state) (r .size) ⌝ }
+    ensures { λ r. ⌜ Turned (now (calls .entry)) (now (answers .entry)) (numbers wide (now (sizes .entry))) n step state evidence
+        (r .state) (r .size) ⌝ }
 {
     let next = after(step, state, evidence, n, calls, answers);
     if is_call(step) {
         return Turn {
             state: next,
-            size: sizes[evidence as usize],
+            size: cells::get(sizes, wide, evidence as usize),
         };
     }
     Turn {

@@ -1,4 +1,4 @@
--- How a turn of the walk comes out, by the search's invariants. Read by the proofs of `walk` and `rounds` alone. Assumes nothing.
+-- How a turn of the walk comes out, by the search's invariants. Read by the proofs of `search` and `filling` alone. Assumes nothing.
 use Prim.Native.Nat.{ℕ, _+_, _<_}
 use mathlib.Core.Path.{_≡_}
 use mathlib.Core.List.{List}

@@ -1,4 +1,4 @@
--- Laws of the definitions. Shuffles, Orders, SortedLaws and Places are for the crates above; the others are for this crate's proofs.
+-- Laws of the definitions. Shuffles, Orders and SortedLaws are for the crates above; the others are for this crate's proofs.
 pub mod Shuffles
 pub mod Orders
 pub mod Ascents
@@ -9,4 +9,3 @@ pub mod Sinking
 pub mod Selection
 pub mod SortedLaws
 pub mod Names
-pub mod Places

@@ -8,7 +8,7 @@ use mathlib.Core.List.{List, _∷_, _++_}
 use lib.ListN.{length, getD, drop, set, length-set, length-append, length-drop}
 use lib.Seq.{getD-set-same, getD-set-other, getD-append-add, getD-drop, ext-getD}
 use lib.Dec.{eqb, ltb}
-use borrow.Author.Tests.{eqb-true, eqb-false, ltb-true, ltb-false}
+use borrow.Author.Tests.{eqb-true, eqb-false, ltb-true, ltb-false, le-ltb}
 use Rattle.steps.specs.State.{State}
 use Rattle.steps.specs.Words.{step-of}
 use Rattle.steps.specs.Inner.{is-call}
@@ -212,7 +212,26 @@ module _ (rules goal calls answers : List ℕ) where
           let ne : (i ≡ 0 → ⊥) = eqb-false i 0 z in
           written .keeps all placed i (getD-set-other l 0 i s 0 ne ∙ sym (tail i (ltb-false i (length path) q)))
 
--- A path is listed in l if it has the places: the count of its states, 0 if not, and the list afterwards.
-pub record PathListed (path l : List ℕ) (count : ℕ) (l′ : List ℕ) : Type 0 where
-  pub the-count : count ≡ cond (ltb (length l) (length path)) 0 (length path)
-  pub the-list : l′ ≡ cond (ltb (length l) (length path)) l (path ++ drop (length path) l)
+-- A path is listed in l if it has at most so many states: the count of its states, 0 if not, and the list afterwards.
+pub record PathListed (path : List ℕ) (most : ℕ) (l : List ℕ) (count : ℕ) (l′ : List ℕ) : Type 0 where
+  pub the-count : count ≡ cond (ltb most (length path)) 0 (length path)
+  pub the-list : l′ ≡ cond (ltb most (length path)) l (path ++ drop (length path) l)
+
+-- at most so many, and so at most more
+pub listed-fewer : {path : List ℕ} {fewer most : ℕ} {l : List ℕ} {count : ℕ} {l′ : List ℕ} → fewer ≤ most → PathListed path fewer l count l′ → (count ≡ 0 → ⊥)
+    → PathListed path most l count l′
+listed-fewer {path} {fewer} {most} {l} {count} {l′} h y some = by (ltb fewer (length path)) refl
+  where
+    by : (b : Bool) → ltb fewer (length path) ≡ b → PathListed path most l count l′
+    by true z = absurd (some (rw z at (y .the-count)))
+    by false z =
+        let fits : ltb most (length path) ≡ false = le-ltb most (length path) (omega (arith, ltb-false fewer (length path) z)) in
+        record { the-count = rw fits (rw z at (y .the-count)); the-list = rw fits (rw z at (y .the-list)) }
+
+-- none listed, and so the list unchanged
+pub listed-none : {x : State} {added : List State} {most : ℕ} {l : List ℕ} {count : ℕ} {l′ : List ℕ} → PathListed (x ∷ added) most l count l′ → count ≡ 0 → l′ ≡ l
+listed-none {x} {added} {most} {l} {count} {l′} y none = by (ltb most (length (x ∷ added))) refl
+  where
+    by : (b : Bool) → ltb most (length (x ∷ added)) ≡ b → l′ ≡ l
+    by true z = rw z at (y .the-list)
+    by false z = let n : count ≡ length (x ∷ added) = rw z at (y .the-count) in absurd (omega arith)

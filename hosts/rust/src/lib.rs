@@ -14,9 +14,9 @@
 //! ```
 //!
 //! In the functions below the caller lends all memory as slices. What each slice holds afterwards, for every
-//! refusal, is said at each function. As the header's constants say, [`evaluate`] and [`class`] need 1.75 MiB of stack, [`path`]
-//! 1.125 MiB, [`read`], [`fluent_name`], [`write`], [`merge`], [`merged_fluent`] and [`mark`] 64 KiB, [`store`] and [`restore`] 1 KiB,
-//! [`report`] 8 KiB: a thread of the standard library has 2 MiB.
+//! refusal, is said at each function. As the header's constants say, [`path`] needs 512 KiB of stack, and 1.125 MiB with a list of 2^24
+//! places or more, [`evaluate`], [`class`], [`read`], [`fluent_name`], [`write`], [`merge`], [`merged_fluent`] and [`mark`] 64 KiB,
+//! [`report`] 8 KiB, [`store`] and [`restore`] 1 KiB: a thread of the standard library has 2 MiB.
 //!
 //! ```
 //! let text = b"fluent\ta\nfluent\tb\naction\tg\nrule\tg\t!g\t?a\t+b\nrule\tg\t+a\nstart\ngoal\t!g\n";
@@ -46,7 +46,8 @@ pub use calls::Calls;
 pub use class::{class, outcomes, Counts, Outcome, Uncounted, MOST_STARTS, START_WORDS};
 use refusal::accepted;
 pub use refusal::Refusal;
-pub use rehearsal::{class_of, OfStart, Rehearsal, Trouble, Way, MOST_EVENTS, MOST_RECORDS, STACK_EVALUATE, STACK_PATH};
+pub use rehearsal::{class_of, OfStart, Rehearsal, Trouble, Way, LONG_LIST, MOST_EVENTS, MOST_RECORDS};
+pub use rehearsal::{STACK_EVALUATE, STACK_LONG_PATH, STACK_PATH};
 pub use report::{report, report_of, report_words, Figures, Fraction, Report};
 
 /// Words of one rule: head, step count, 16 step words.

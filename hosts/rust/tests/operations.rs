@@ -1,6 +1,7 @@
 //! The operations as a host meets them: results, refusals, and what each buffer holds afterwards.
 
 use std::error::Error;
+use std::thread;
 
 use lawhemuri::{
     class, evaluate, fluent_name, mark, merge, merged_fluent, outcomes, path, read, report, report_of, report_words, restore,
@@ -52,6 +53,36 @@ fn example_sheet() {
     let (run, _, _, ends) = with_rooms(&sheet.question(&rules), 512, 256, 256);
     assert_eq!(run, Ok(Run { ends: 1, calls: 3, answers: 3, rounds: 5 }));
     assert_eq!(ends[..2], [2, MARK]);
+}
+
+/// A goal of 11 calls in a row, each of an action that inserts its fluent or does nothing.
+fn choices() -> (Vec<u16>, Vec<u16>) {
+    let mut rules = vec![0; 22 * 18];
+    for i in 0..11u16 {
+        let at = 36 * usize::from(i);
+        rules[at..at + 3].copy_from_slice(&[i, 1, 256 + i]);
+        rules[at + 18] = i;
+    }
+    (rules, (0..11).map(|i| 768 + i).collect())
+}
+
+/// In a thread with 128 KiB of stack a run gives what it gives in any other, in every word.
+#[test]
+fn small_stack() {
+    let drill = (left_recursion(), vec![768]);
+    for ((rules, goal), fluents, actions, told) in [
+        (drill, 2, 1, Run { ends: 2, calls: 2, answers: 4, rounds: 4 }),
+        (choices(), 11, 11, Run { ends: 2048, calls: 2048, answers: 6142, rounds: 23 }),
+    ] {
+        let run = || with_list(&Question { fluents, actions, rules: &rules, goal: &goal, start: 0 }, [2048, 6144, 2048, 2048]);
+        let here = run();
+        let there = thread::scope(|scope| {
+            let small = thread::Builder::new().stack_size(128 * 1024).spawn_scoped(scope, run).unwrap();
+            small.join().unwrap()
+        });
+        assert_eq!(here.0, Ok(told));
+        assert!(here == there);
+    }
 }
 
 #[test]

@@ -31,7 +31,7 @@ bucket-of-requires : tie.Need-bucket-of-requires Inv-loop μ-loop
 bucket-of-requires c κs =
     let l = c .before .before .loop .inv in
     let e = c .before .before .before .room-of .ensures in
-    (omega arith, omega (arith, c .before .loop-test .taken, l .1, l .2 .rechained .long, e, c .before .before .before .before .before .pre .0 .fits), omega (arith, e))
+    (omega arith, omega (arith, c .before .loop-test .taken, l .1, l .2 .rechained .long, e, c .before .before .before .before .before .pre .0 .fits), omega (arith, c .before .loop-test .taken, l .1, e, c .before .before .before .before .before .pre .0 .fits), omega (arith, e))
 
 forget-requires : tie.Need-forget-requires Inv-loop μ-loop
 forget-requires c κs =

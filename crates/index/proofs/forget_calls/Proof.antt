@@ -25,7 +25,7 @@ sub-i c = omega (arith, c .loop-test .taken)
 bucket-of-requires : tie.Need-bucket-of-requires Inv-loop μ-loop
 bucket-of-requires c κs =
     let l = c .before .loop .inv in
-    (omega arith, omega (arith, c .loop-test .taken, l .1, c .before .before .before .before .before .pre .0 .stored .fits), omega (arith, c .before .before .room-of .ensures))
+    (omega arith, omega (arith, c .loop-test .taken, l .1, c .before .before .before .before .before .pre .0 .stored .fits), omega (arith, c .loop-test .taken, l .1, c .before .before .room-of .ensures, c .before .before .before .before .before .pre .0 .stored .fits, c .before .before .before .before .before .pre .0 .stored .most), omega (arith, c .before .before .room-of .ensures))
 
 forget-requires : tie.Need-forget-requires Inv-loop μ-loop
 forget-requires c κs =

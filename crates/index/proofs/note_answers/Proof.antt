@@ -26,7 +26,7 @@ loop-holds c =
 bucket-of-requires : tie.Need-bucket-of-requires Inv-loop μ-loop
 bucket-of-requires c κs =
     let e = c .before .before .before .room-of .ensures in
-    (omega arith, omega (arith, c .before .loop-test .taken, c .before .before .loop .inv .1 .rechained .long, e, c .before .before .before .before .before .pre .0 .fits), omega (arith, e))
+    (omega arith, omega (arith, c .before .loop-test .taken, c .before .before .loop .inv .1 .rechained .long, e, c .before .before .before .before .before .pre .0 .fits), omega (arith, c .before .loop-test .taken, e, c .before .before .before .before .before .pre .0 .fits), omega (arith, e))
 
 -- the bucket is one of those there are
 below : (d : tie.After-bucket-of Inv-loop μ-loop) → d .bucket-of .result < d .before .before .before .before .room-of .result

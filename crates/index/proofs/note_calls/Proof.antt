@@ -20,7 +20,7 @@ loop-holds : tie.Need-loop-holds Inv-loop μ-loop
 loop-holds c = (c .before .before .before .pre .1, chained-start (call-index-keyed (c .room-of .result) (c .before .before .before .pre .2) (c .room-of .ensures)))
 
 bucket-of-requires : tie.Need-bucket-of-requires Inv-loop μ-loop
-bucket-of-requires c κs = (omega arith, omega (arith, c .loop-test .taken, c .before .before .before .before .before .pre .0 .stored .fits), omega (arith, c .before .before .room-of .ensures))
+bucket-of-requires c κs = let s = c .before .before .before .before .before .pre .0 .stored in (omega arith, omega (arith, c .loop-test .taken, s .fits), omega (arith, c .before .before .room-of .ensures, c .loop-test .taken, s .fits, s .most), omega (arith, c .before .before .room-of .ensures))
 
 -- the bucket is one of those there are
 below : (d : tie.After-bucket-of Inv-loop μ-loop) → d .bucket-of .result < d .before .before .before .room-of .result

@@ -1,4 +1,5 @@
 -- `path` meets its contract: refused, too few places, or listed. Assumes nothing.
+use native.Mathlib.Omega.{arith}
 use mathlib.Core.Path.{sym, _∙_}
 use borrow.Author.Needs.{needs}
 use Rattle.path.specs.Answered.{handed}
@@ -16,7 +17,7 @@ list-states-requires : tie.Need-list-states-requires
 list-states-requires c κs =
     let a = c .before .before .before .before .before .before .before .before .args in
     let l = handed (a .fluents) (a .actions) (a .rules .now) (a .goal .now) (a .calls .now) (a .call-count) (a .answers .now) (a .answer-count) in
-    walkable l (a .«record») (sym (c .before .before .fault .ensures) ∙ c .before .if1 .left)
+    (walkable l (a .«record») (sym (c .before .before .fault .ensures) ∙ c .before .if1 .left), omega arith)
 
 returns-2 : tie.Need-returns-2
 returns-2 c =

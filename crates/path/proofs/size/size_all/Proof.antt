@@ -1,37 +1,28 @@
 -- `size_all` meets its contract. The loop's invariant: the records passed have their sizes; the measure: the records left. Assumes nothing.
 use Prim.Native.Nat.{_-_, _≤_}
 use native.Mathlib.Omega.{arith}
-use mathlib.Core.Path.{_≡_, refl, sym}
-use lib.ListN.{length, length-set, length-take}
-use lib.Seq.{length-take-le}
+use mathlib.Core.Path.{_≡_, refl, _∙_}
+use lib.ListN.{length, length-set}
+use Rattle.cells.specs.Numbers.{numbers}
 use Rattle.unfolding.proofs.Walk.{checked-less, added-by}
-use Rattle.unfolding.proofs.Sizes.{Sized, sized-none, sized-take, sized-more}
+use Rattle.unfolding.proofs.Sizes.{Sized, sized-none, sized-more}
 use Rattle.path.proofs.size.size_all.Statement.{statement}
 use Rattle.path.proofs.size.size_all.Tie as tie
 
 abbrev Inv-loop : tie.InvT-loop
-Inv-loop rules goal calls answers count cap sizes₀ n₀ sizes n = (n ≤ count) × (length sizes ≡ length sizes₀) × Sized (added-by rules goal calls answers) sizes n cap
+Inv-loop rules goal calls answers count cap wide sizes₀ n₀ sizes n = (n ≤ count) × (length sizes ≡ length sizes₀) × (length (numbers wide sizes) ≡ length (numbers wide sizes₀)) × Sized (added-by rules goal calls answers) (numbers wide sizes) n cap
 
 abbrev μ-loop : tie.MeasureT-loop
-μ-loop rules goal calls answers count cap sizes₀ n₀ sizes n = count - n
+μ-loop rules goal calls answers count cap wide sizes₀ n₀ sizes n = count - n
 
 loop-holds : tie.Need-loop-holds Inv-loop μ-loop
-loop-holds c = (omega arith, refl, sized-none _ _ _)
-
-slice-reshare-prefix-size : tie.Need-slice-reshare-prefix-size Inv-loop μ-loop
-slice-reshare-prefix-size c = omega arith
-
-slice-aggregate-size : tie.Need-slice-aggregate-size Inv-loop μ-loop
-slice-aggregate-size c = sym (length-take-le _ _ (omega arith))
+loop-holds c = (omega arith, refl, refl, sized-none _ _ _)
 
 size-requires : tie.Need-size-requires Inv-loop μ-loop
-size-requires c κs = (checked-less (omega arith) (c .before .before .before .before .before .before .before .before .pre .0), omega (arith, length-take (c .before .before .loop .n) (c .before .before .loop .sizes)), c .before .before .before .before .before .before .before .before .pre .2, sized-take (c .before .before .loop .inv .2))
+size-requires c κs = (checked-less (omega arith) (c .before .before .before .before .before .before .before .before .pre .0), omega (arith, c .before .before .before .before .before .before .before .before .pre .1), c .before .before .before .before .before .before .before .before .pre .2, c .before .before .loop .inv .3)
 
-mul-sizes : tie.Need-mul-sizes Inv-loop μ-loop
-mul-sizes c = omega arith
-
-slice-write-sizes : tie.Need-slice-write-sizes Inv-loop μ-loop
-slice-write-sizes c = omega arith
+put-requires : tie.Need-put-requires Inv-loop μ-loop
+put-requires c κs = (omega (arith, c .before .before .before .before .before .before .before .before .before .before .pre .1), omega (arith, c .before .size .ensures, c .before .before .before .before .before .before .before .before .before .before .pre .3))
 
 add-n : tie.Need-add-n Inv-loop μ-loop
 add-n c = omega arith
@@ -40,30 +31,20 @@ loop-less : tie.Need-loop-less Inv-loop μ-loop
 loop-less c = omega arith
 
 loop-again : tie.Need-loop-again Inv-loop μ-loop
-loop-again c = (omega arith, simp length-set (omega arith), sized-more (c .before .before .before .loop .inv .2) (omega arith) (c .size .ensures))
+loop-again c =
+    let i = c .before .before .before .before .before .before .before .loop .inv in
+    (omega arith, c .before .sizes .given ∙ i .1, rw (c .before .before .put .ensures) (simp length-set (i .2)), rw (c .before .before .put .ensures) (sized-more (i .3) (omega (arith, c .before .before .before .before .before .before .before .before .before .before .before .before .before .pre .1)) (c .before .before .before .before .size .ensures)))
 
 same-length : tie.Need-same-length Inv-loop μ-loop
-same-length c = omega arith
+same-length c = c .before .loop .inv .1
 
 returns : tie.Need-returns Inv-loop μ-loop
 returns c =
     let e : c .before .loop .n ≡ c .before .before .before .before .before .before .before .args .count = omega arith in
-    (c .before .loop .inv .1, rw e at (c .before .loop .inv .2))
+    (c .before .loop .inv .2, rw e at (c .before .loop .inv .3))
 
 pub size-all-spec : {M : Type 1} → statement M
 size-all-spec =
     tie.close
     (tie.spec
-    Inv-loop
-    μ-loop
-    loop-holds
-    slice-reshare-prefix-size
-    slice-aggregate-size
-    size-requires
-    mul-sizes
-    slice-write-sizes
-    add-n
-    loop-less
-    loop-again
-    same-length
-    returns)
+    Inv-loop μ-loop loop-holds size-requires put-requires add-n loop-less loop-again same-length returns)

@@ -1,31 +1,29 @@
 -- `write_all` meets its contract. The loop's invariant: the records below n that have places are written; the measure: the records left. Assumes nothing.
 use Prim.Native.Nat.{_+_, _-_, _≤_}
 use native.Mathlib.Omega.{arith}
-use mathlib.Core.Path.{_≡_}
+use mathlib.Core.Path.{_≡_, sym, _∙_}
 use mathlib.Core.Logic.{⊎-elim}
+use Rattle.cells.specs.Numbers.{numbers}
 use Rattle.unfolding.proofs.Writing.{Written, written-none, written-skip, written-more, ready}
 use Rattle.path.proofs.write.write_all.Statement.{statement}
 use Rattle.path.proofs.write.write_all.Tie as tie
 
 abbrev Inv-loop : tie.InvT-loop
-Inv-loop rules goal calls answers asked sizes offsets list₀ n₀ list n = (n ≤ asked + 1) × Written rules goal calls answers offsets n list₀ list
+Inv-loop rules goal calls answers asked wide sizes offsets list₀ n₀ list n = (n ≤ asked + 1) × Written rules goal calls answers (numbers wide offsets) n list₀ list
 
 abbrev μ-loop : tie.MeasureT-loop
-μ-loop rules goal calls answers asked sizes offsets list₀ n₀ list n = asked + 1 - n
+μ-loop rules goal calls answers asked wide sizes offsets list₀ n₀ list n = asked + 1 - n
 
 loop-holds : tie.Need-loop-holds Inv-loop μ-loop
 loop-holds c = (omega arith, written-none _ _ _ _ _ _)
 
-mul-if1 : tie.Need-mul-if1 Inv-loop μ-loop
-mul-if1 c = omega (arith, c .before .before .before .before .before .before .before .before .before .pre .offsets-long)
-
-shared-slice-read-if1 : tie.Need-shared-slice-read-if1 Inv-loop μ-loop
-shared-slice-read-if1 c = omega (arith, c .before .before .before .before .before .before .before .before .before .before .pre .offsets-long)
+get-requires : tie.Need-get-requires Inv-loop μ-loop
+get-requires c κs = omega (arith, c .before .before .before .before .before .before .before .before .before .pre .offsets-long)
 
 write-requires : tie.Need-write-requires Inv-loop μ-loop
 write-requires c κs =
     let a = c .before .before .before .before .before .before .before .before .before .before .before .before .args in
-    ready (a .rules .now) (a .goal .now) (a .calls .now) (a .answers .now) (c .before .before .before .before .before .before .before .before .before .before .before .before .pre) (omega arith) (omega (arith, c .before .if1 .taken)) (c .before .before .before .before .loop .inv .1 .long)
+    ready (a .rules .now) (a .goal .now) (a .calls .now) (a .answers .now) (c .before .before .before .before .before .before .before .before .before .before .before .before .pre) (omega arith) (omega (arith, c .before .if1 .taken, c .before .before .get .ensures)) (c .before .before .before .before .loop .inv .1 .long)
 
 add-n : tie.Need-add-n Inv-loop μ-loop
 add-n c = omega (arith, c .before .before .before .before .before .before .before .before .before .before .before .pre .checked .readable .most)
@@ -38,7 +36,7 @@ loop-again c =
     let a = c .before .before .before .before .before .before .before .before .before .before .before .args in
     let i = c .before .before .before .loop .inv .1 in (
       omega arith,
-      ⊎-elim (λ (taken, arg, w, l, known, e). rw e (written-more (a .rules .now) (a .goal .now) (a .calls .now) (a .answers .now) i (w .ensures))) (λ (skipped, e). rw e (written-skip (a .rules .now) (a .goal .now) (a .calls .now) (a .answers .now) i (skipped .left))) (c .if1 .came),
+      ⊎-elim (λ (taken, arg, w, l, known, e). rw e (written-more (a .rules .now) (a .goal .now) (a .calls .now) (a .answers .now) i (w .ensures))) (λ (skipped, e). rw e (written-skip (a .rules .now) (a .goal .now) (a .calls .now) (a .answers .now) i (sym (c .before .get .ensures) ∙ skipped .left))) (c .if1 .came),
     )
 
 same-length : tie.Need-same-length Inv-loop μ-loop
@@ -52,15 +50,4 @@ returns c =
 pub write-all-spec : {M : Type 1} → statement M
 write-all-spec =
     tie.close
-    (tie.spec
-    Inv-loop
-    μ-loop
-    loop-holds
-    mul-if1
-    shared-slice-read-if1
-    write-requires
-    add-n
-    loop-less
-    loop-again
-    same-length
-    returns)
+    (tie.spec Inv-loop μ-loop loop-holds get-requires write-requires add-n loop-less loop-again same-length returns)

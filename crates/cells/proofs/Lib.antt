@@ -1,0 +1,2 @@
+-- Laws of numbers kept in bytes.
+pub mod NumberLaws

@@ -1,0 +1,2 @@
+-- Numbers kept in bytes.
+pub mod Numbers

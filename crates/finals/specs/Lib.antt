@@ -1,0 +1,2 @@
+-- The final states of a call record, for the proofs.
+pub mod Finals

@@ -1,1 +1,0 @@
-// What the loops of a walk and of the rounds keep: laws, no code.

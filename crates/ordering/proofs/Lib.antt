@@ -1,2 +1,0 @@
--- Laws of that order.
-pub mod OrderLaws
