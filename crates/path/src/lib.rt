@@ -1,6 +1,7 @@
 // The path of an answer record: the states of the execution that its evidence unfolds to. A record uses only records of smaller number, so it is
 // listed without recursion: how many states each record adds (size), a place in the list for each record used, from the asked one down (place),
-// and the states, from the first record up, each part that stands already copied (write). Linear in records and states.
+// and the states, from the first record up, each part that stands already copied (write). Linear in records and states;
+// with a list of 2^24 places or more the records are sized once more for each halving of it.
 mod list;
 pub mod outcome;
 mod place;

@@ -1,5 +1,5 @@
-// Lists the path of a checked record, with room of its own for a size and an offset of each record: 384 KiB of stack for a list of fewer than
-// 2^24 places, in numbers of three bytes; 1 MiB for a path that needs more places, in numbers of eight.
+// Lists the path of a checked record, with room of its own for a size and an offset of each record: 384 KiB of stack, in numbers of
+// three bytes, for a list of fewer than 2^24 places and for a path of at most 2^23 states; else 1 MiB, in numbers of eight.
 use crate::place::place_all;
 use crate::size::size_all;
 use crate::walk::start;

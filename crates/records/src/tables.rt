@@ -1,5 +1,5 @@
-// The words of the two tables: reading and writing records. All code has their widths and offsets from here; an index knows only that
-// the first two words of a record are its key.
+// The words of the two tables as they are given: reading and writing records. While a run lasts records stand otherwise, and crate `desk` knows
+// how; an index knows only that the first two words of a record are its key.
 use steps::state::Call;
 use steps::state::State;
 ghost use mathlib.Core.Path.{_≡_};
