@@ -12,12 +12,11 @@
  * written may not overlap another one of the same call.
  *
  * Stack: lawhemuri_evaluate and lawhemuri_class need LAWHEMURI_STACK_EVALUATE bytes of it,
- * lawhemuri_path LAWHEMURI_STACK_PATH, or with a list of LAWHEMURI_LONG_LIST places or more
- * LAWHEMURI_STACK_LONG_PATH, lawhemuri_store and lawhemuri_restore LAWHEMURI_STACK_ARCHIVE,
- * lawhemuri_report LAWHEMURI_STACK_REPORT, lawhemuri_mark LAWHEMURI_STACK_MARK,
- * lawhemuri_lookup hardly any, the others LAWHEMURI_STACK_READ. A main thread has 8 MiB on
- * most systems, a thread of Rust's 2 MiB, one of musl's only 128 KiB, which is enough for
- * all but lawhemuri_path.
+ * lawhemuri_path LAWHEMURI_STACK_PATH, lawhemuri_store and lawhemuri_restore
+ * LAWHEMURI_STACK_ARCHIVE, lawhemuri_report LAWHEMURI_STACK_REPORT, lawhemuri_mark
+ * LAWHEMURI_STACK_MARK, lawhemuri_lookup hardly any, the others LAWHEMURI_STACK_READ. A
+ * main thread has 8 MiB on most systems, a thread of Rust's 2 MiB, one of musl's only
+ * 128 KiB, which is enough for all but lawhemuri_path.
  *
  * While lawhemuri_evaluate or lawhemuri_class runs, the tables and the list of calls hold
  * notes of the run: they are to be read when it has returned.
@@ -199,12 +198,10 @@ extern "C" {
 #define LAWHEMURI_GOAL_ACTION 64u
 #define LAWHEMURI_GOAL_RULE 256u
 #define LAWHEMURI_REPORT_WORDS(fluents) (2u * (fluents) + 4u)
-#define LAWHEMURI_LONG_LIST 16777216u
 
 /* Bytes of stack that a call needs, with some to spare. */
 #define LAWHEMURI_STACK_EVALUATE 65536u
 #define LAWHEMURI_STACK_PATH 524288u
-#define LAWHEMURI_STACK_LONG_PATH 1179648u
 #define LAWHEMURI_STACK_READ 65536u
 #define LAWHEMURI_STACK_ARCHIVE 1024u
 #define LAWHEMURI_STACK_REPORT 8192u
@@ -391,8 +388,7 @@ uint64_t lawhemuri_class(uint64_t fluents, uint64_t actions,
  * counts of its result, are never refused with 42.
  *
  * states: no refusal, the first result.states words are the states and the list past
- *   them is unchanged; refused, it is unchanged. The tables are only read. With
- *   LAWHEMURI_LONG_LIST places (128 MiB) or more the call may need more stack (above).
+ *   them is unchanged; refused, it is unchanged. The tables are only read.
  */
 lawhemuri_states lawhemuri_path(uint64_t fluents, uint64_t actions,
                                 const uint16_t *rules, size_t rules_len,

@@ -381,24 +381,28 @@ static int listed_with(size_t stack, struct asked *a) {
     return holds;
 }
 
-/* The stack that the header asks for lists a path: of all records that there may be, with the longest list for it; and with a longer list, of
- * which the longest path listed takes all places. */
+/* The stack that the header asks for lists every path: a short one, with all records that there may be; one of 2^24 states and one more, in a
+ * list of as many places and in a longer one; and it is enough for the refusal of one place too few, and of a path of more states than 64 bits
+ * count. */
 static void test_stack_of_path(void) {
-    enum { MOST = 65536 };
+    enum { MOST = 65536, LONG = 1 << 24 };
     uint64_t *table = malloc(LAWHEMURI_ANSWER_WORDS * MOST * sizeof *table);
     EXPECT(table != NULL);
     if (table == NULL)
         return;
     doubles(table, MOST);
-    struct asked a = {.table = table, .count = MOST, .record = 15, .places = LAWHEMURI_LONG_LIST - 1};
+    struct asked a = {.table = table, .count = MOST, .record = 15, .places = LONG - 1};
     EXPECT(listed_with(LAWHEMURI_STACK_PATH, &a) && a.listed.refusal == LAWHEMURI_OK && a.listed.states == 65537);
     a.record = MOST - 1;
     EXPECT(listed_with(LAWHEMURI_STACK_PATH, &a) && a.listed.refusal == LAWHEMURI_STATES_SHORT && a.listed.states == 0);
+    a.places = LONG + 1;
+    EXPECT(listed_with(LAWHEMURI_STACK_PATH, &a) && a.listed.refusal == LAWHEMURI_STATES_SHORT && a.listed.states == 0);
     a.record = 23;
-    a.places = LAWHEMURI_LONG_LIST;
-    EXPECT(listed_with(LAWHEMURI_STACK_LONG_PATH, &a) && a.listed.refusal == LAWHEMURI_STATES_SHORT && a.listed.states == 0);
-    a.places = LAWHEMURI_LONG_LIST + 1;
-    EXPECT(listed_with(LAWHEMURI_STACK_LONG_PATH, &a) && a.listed.refusal == LAWHEMURI_OK && a.listed.states == a.places);
+    EXPECT(listed_with(LAWHEMURI_STACK_PATH, &a) && a.listed.refusal == LAWHEMURI_OK && a.listed.states == LONG + 1);
+    a.places = LONG;
+    EXPECT(listed_with(LAWHEMURI_STACK_PATH, &a) && a.listed.refusal == LAWHEMURI_STATES_SHORT && a.listed.states == 0);
+    a.places = 2 * (size_t)LONG;
+    EXPECT(listed_with(LAWHEMURI_STACK_PATH, &a) && a.listed.refusal == LAWHEMURI_OK && a.listed.states == LONG + 1);
     free(table);
 }
 

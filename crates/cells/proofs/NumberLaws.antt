@@ -10,7 +10,7 @@ use lib.ListN.{length, getD, set, length-set, replicate, length-replicate, List�
 use lib.Seq.{getD-set-same, getD-set-other, ext-getD}
 use lib.Dec.{eqb, ltb}
 use borrow.Author.Tests.{eqb-true, eqb-false, ltb-true, ltb-false}
-use Rattle.cells.specs.Numbers.{behind, limit, number, Kept, tabulate, joined, numbers, Zeros}
+use Rattle.cells.specs.Numbers.{limit, number, Kept, tabulate, joined, numbers, Zeros}
 
 -- ---- the list of numbers
 
@@ -25,30 +25,26 @@ tabulate-at zero f i l = absurd (omega arith)
 tabulate-at (suc n) f zero l = refl
 tabulate-at (suc n) f (suc i) l = tabulate-at n (λ j. f (suc j)) i (omega arith)
 
-numbers-long : (wide : Bool) (bytes : List ℕ) → length (numbers wide bytes) ≡ min 65536 ((length bytes - 131072) / behind wide)
+numbers-long : (bytes : List ℕ) → length (numbers bytes) ≡ min 65536 (length bytes - 131072)
 unfolding numbers
-numbers-long wide bytes = tabulate-long (min 65536 ((length bytes - 131072) / behind wide)) _
+numbers-long bytes = tabulate-long (min 65536 (length bytes - 131072)) _
 
-pub number-at : (wide : Bool) (bytes : List ℕ) (n : ℕ) → n < length (numbers wide bytes) → getD (numbers wide bytes) n 0 ≡ joined wide bytes n
+pub number-at : (bytes : List ℕ) (n : ℕ) → n < length (numbers bytes) → getD (numbers bytes) n 0 ≡ joined bytes n
 unfolding numbers
-number-at wide bytes n l = tabulate-at (min 65536 ((length bytes - 131072) / behind wide)) _ n (rw (tabulate-long (min 65536 ((length bytes - 131072) / behind wide)) _) at l)
+number-at bytes n l = tabulate-at (min 65536 (length bytes - 131072)) _ n (rw (tabulate-long (min 65536 (length bytes - 131072)) _) at l)
 
 -- A number's bytes are all there.
-pub record There (wide : Bool) (bytes : List ℕ) (n : ℕ) : Type 0 where
+pub record There (bytes : List ℕ) (n : ℕ) : Type 0 where
   pub few : n < 65536
-  pub fits : 131072 + behind wide * n + behind wide ≤ length bytes
+  pub fits : 131072 + n + 1 ≤ length bytes
 
-pub there : (wide b : Bool) (bytes : List ℕ) (n : ℕ) → wide ≡ b → n < length (numbers wide bytes) → There b bytes n
-there wide b bytes n e l = by b (rw e at l)
-  where
-    by : (b : Bool) → n < length (numbers b bytes) → There b bytes n
-    by true h = record { few = omega (arith, numbers-long true bytes); fits = omega (arith, numbers-long true bytes) }
-    by false h = record { few = omega (arith, numbers-long false bytes); fits = omega (arith, numbers-long false bytes) }
+pub there : (bytes : List ℕ) (n : ℕ) → n < length (numbers bytes) → There bytes n
+there bytes n l = record { few = omega (arith, numbers-long bytes); fits = omega (arith, numbers-long bytes) }
 
--- a number that is not wide, byte by byte
-pub joined-narrow : (bytes : List ℕ) (n : ℕ) → joined false bytes n ≡ number 2 bytes (2 * n) + 65536 * getD bytes (131072 + n) 0
+-- a number, byte by byte
+pub joined-bytes : (bytes : List ℕ) (n : ℕ) → joined bytes n ≡ number 2 bytes (2 * n) + 65536 * getD bytes (131072 + n) 0
 unfolding number
-joined-narrow bytes n = let e : 131072 + 1 * n + 0 ≡ 131072 + n = omega arith in rw e (omega arith)
+joined-bytes bytes n = let e : 131072 + n + 0 ≡ 131072 + n = omega arith in rw e (omega arith)
 
 -- ---- bytes put anew
 
@@ -103,51 +99,45 @@ kept-apart w {bytes} {bytes′} {p} k v q far = number-same v bytes bytes′ q (
     each (inr z) i h = inr (omega arith)
 
 -- the list with one number put anew: its two parts are put one after the other
-module _ (wide : Bool) (bytes middle bytes′ : List ℕ) (n value : ℕ) (l : n < length (numbers wide bytes)) (small : value < limit wide)
-    (low : Kept 2 bytes (2 * n) value middle) (high : Kept (behind wide) middle (131072 + behind wide * n) (value / 65536) bytes′) where
-  same-long : length (numbers wide bytes′) ≡ length (numbers wide bytes)
-  same-long = numbers-long wide bytes′ ∙ rw (high .long, low .long) (sym (numbers-long wide bytes))
+module _ (bytes middle bytes′ : List ℕ) (n value : ℕ) (l : n < length (numbers bytes)) (small : value < limit)
+    (low : Kept 2 bytes (2 * n) value middle) (high : Kept 1 middle (131072 + n) (value / 65536) bytes′) where
+  same-long : length (numbers bytes′) ≡ length (numbers bytes)
+  same-long = numbers-long bytes′ ∙ rw (high .long, low .long) (sym (numbers-long bytes))
 
   few : n < 65536
-  few = there wide wide bytes n refl l .few
+  few = there bytes n l .few
 
-  here : joined wide bytes′ n ≡ value
-  here = rw (kept-apart (behind wide) high 2 (2 * n) (inl (omega (arith, few))), low .here, high .here) (whole wide small)
-    where
-      whole : (b : Bool) → value < limit b → value % 256 ^ 2 + 65536 * (value / 65536 % 256 ^ behind b) ≡ value
-      whole true h = omega arith
-      whole false h = omega arith
+  here : joined bytes′ n ≡ value
+  here = rw (kept-apart 1 high 2 (2 * n) (inl (omega (arith, few))), low .here, high .here) (omega arith)
 
-  beside : (i : ℕ) → i < 65536 → i ≢ n → joined wide bytes′ i ≡ joined wide bytes i
+  beside : (i : ℕ) → i < 65536 → i ≢ n → joined bytes′ i ≡ joined bytes i
   beside i f e =
       rw (
-        kept-apart (behind wide) high 2 (2 * i) (inl (omega arith)),
+        kept-apart 1 high 2 (2 * i) (inl (omega arith)),
         kept-apart 2 low 2 (2 * i) (pair (ltb i n) refl),
-        kept-apart (behind wide) high (behind wide) (131072 + behind wide * i) (rest wide (ltb i n) refl),
-        kept-apart 2 low (behind wide) (131072 + behind wide * i) (inr (omega (arith, few))),
+        kept-apart 1 high 1 (131072 + i) (rest (ltb i n) refl),
+        kept-apart 2 low 1 (131072 + i) (inr (omega (arith, few))),
       ) refl
     where
       pair : (b : Bool) → ltb i n ≡ b → (2 * i + 2 ≤ 2 * n) ⊎ (2 * n + 2 ≤ 2 * i)
       pair true z = inl (omega (arith, ltb-true i n z))
       pair false z = inr (omega (arith, ltb-false i n z, e))
 
-      rest : (w b : Bool) → ltb i n ≡ b → (131072 + behind w * i + behind w ≤ 131072 + behind w * n) ⊎ (131072 + behind w * n + behind w ≤ 131072 + behind w * i)
-      rest true true z = inl (omega (arith, ltb-true i n z))
-      rest true false z = inr (omega (arith, ltb-false i n z, e))
-      rest false true z = inl (omega (arith, ltb-true i n z))
-      rest false false z = inr (omega (arith, ltb-false i n z, e))
+      rest : (b : Bool) → ltb i n ≡ b → (131072 + i + 1 ≤ 131072 + n) ⊎ (131072 + n + 1 ≤ 131072 + i)
+      rest true z = inl (omega (arith, ltb-true i n z))
+      rest false z = inr (omega (arith, ltb-false i n z, e))
 
-  at : (i : ℕ) → i < length (numbers wide bytes′) → getD (numbers wide bytes′) i 0 ≡ getD (set (numbers wide bytes) n value) i 0
-  at i h = number-at wide bytes′ i h ∙ by (eqb i n) refl
+  at : (i : ℕ) → i < length (numbers bytes′) → getD (numbers bytes′) i 0 ≡ getD (set (numbers bytes) n value) i 0
+  at i h = number-at bytes′ i h ∙ by (eqb i n) refl
     where
-      by : (b : Bool) → eqb i n ≡ b → joined wide bytes′ i ≡ getD (set (numbers wide bytes) n value) i 0
-      by true z = rw (eqb-true i n z) (here ∙ sym (getD-set-same (numbers wide bytes) n value 0 l))
+      by : (b : Bool) → eqb i n ≡ b → joined bytes′ i ≡ getD (set (numbers bytes) n value) i 0
+      by true z = rw (eqb-true i n z) (here ∙ sym (getD-set-same (numbers bytes) n value 0 l))
       by false z =
           let e : (i ≡ n → ⊥) = eqb-false i n z in
-          beside i (there wide wide bytes′ i refl h .few) e ∙ sym (number-at wide bytes i (omega (arith, same-long))) ∙ sym (getD-set-other (numbers wide bytes) n i value 0 e)
+          beside i (there bytes′ i h .few) e ∙ sym (number-at bytes i (omega (arith, same-long))) ∙ sym (getD-set-other (numbers bytes) n i value 0 e)
 
-  pub numbers-put : numbers wide bytes′ ≡ set (numbers wide bytes) n value
-  numbers-put = ext-getD 0 _ _ (same-long ∙ sym (length-set (numbers wide bytes) n value)) at
+  pub numbers-put : numbers bytes′ ≡ set (numbers bytes) n value
+  numbers-put = ext-getD 0 _ _ (same-long ∙ sym (length-set (numbers bytes) n value)) at
 
 -- ---- all bytes 0
 
@@ -161,16 +151,12 @@ unfolding number
 zero-number zero n p = refl
 zero-number (suc w) n p = rw (zero-number w n p, zero-byte n (p + w)) (omega arith)
 
-counted : (wide : Bool) (n : ℕ) → n ≡ 131072 + behind wide * 65536 → min 65536 ((n - 131072) / behind wide) ≡ 65536
-counted true n e = omega arith
-counted false n e = omega arith
-
-pub zeros : (wide : Bool) (n : ℕ) → n ≡ 131072 + behind wide * 65536 → Zeros wide (replicate n 0)
-zeros wide n e = record {
-  long = numbers-long wide (replicate n 0) ∙ rw (length-replicate {A = ℕ} n 0) (counted wide n e);
-  zero-at = λ i. by i (ltb i (length (numbers wide (replicate n 0)))) refl;
+pub zeros : (n : ℕ) → n ≡ 196608 → Zeros (replicate n 0)
+zeros n e = record {
+  long = numbers-long (replicate n 0) ∙ rw (length-replicate {A = ℕ} n 0) (omega arith);
+  zero-at = λ i. by i (ltb i (length (numbers (replicate n 0)))) refl;
 }
   where
-    by : (i : ℕ) (b : Bool) → ltb i (length (numbers wide (replicate n 0))) ≡ b → _≡_ {A = ℕ} (getD (numbers wide (replicate n 0)) i 0) 0
-    by i true z = number-at wide (replicate n 0) i (ltb-true _ _ z) ∙ rw (zero-number 2 n (2 * i), zero-number (behind wide) n (131072 + behind wide * i)) (omega arith)
-    by i false z = List·getD-eq-default (numbers wide (replicate n 0)) 0 (ltb-false _ _ z)
+    by : (i : ℕ) (b : Bool) → ltb i (length (numbers (replicate n 0))) ≡ b → _≡_ {A = ℕ} (getD (numbers (replicate n 0)) i 0) 0
+    by i true z = number-at (replicate n 0) i (ltb-true _ _ z) ∙ rw (zero-number 2 n (2 * i), zero-number 1 n (131072 + i)) (omega arith)
+    by i false z = List·getD-eq-default (numbers (replicate n 0)) 0 (ltb-false _ _ z)

@@ -1,19 +1,14 @@
--- Numbers kept in bytes, 65,536 of them: the two lowest bytes of each stand first, number after number, and behind them all the others of each:
--- one byte, or six where the numbers are wide. Of the bytes of a number the lowest comes first. Assumes nothing.
-use Prim.Native.Nat.{ℕ, zero, suc, _+_, _-_, _*_, _/_, _%_, _^_, _<_, _≤_, min}
+-- Numbers of three bytes, 65,536 of them: the two lowest bytes of each stand first, number after number, and behind them all the third byte of
+-- each. Of two bytes the lower comes first. Assumes nothing.
+use Prim.Native.Nat.{ℕ, zero, suc, _+_, _-_, _*_, _%_, _^_, _<_, _≤_, min}
 use mathlib.Core.Path.{_≡_}
-use mathlib.Core.Bool.{Bool, cond}
 use mathlib.Core.List.{List, [], _∷_}
 use mathlib.Core.Logic.{_⊎_}
 use lib.ListN.{length, getD}
 
--- How many bytes of a number stand behind.
-abbrev pub behind : Bool → ℕ
-behind wide = cond wide 6 1
-
--- What each number is below: 2 to the power of 24, or of 64.
-abbrev pub limit : Bool → ℕ
-limit wide = cond wide 18446744073709551616 16777216
+-- What each number is below: 2 to the power of 24.
+abbrev pub limit : ℕ
+limit = 16777216
 
 -- The number that w bytes from place p on make up.
 unfoldable pub number : ℕ → List ℕ → ℕ → ℕ
@@ -32,14 +27,14 @@ tabulate zero f = []
 tabulate (suc n) f = f 0 ∷ tabulate n (λ i. f (suc i))
 
 -- Number n, by its two parts.
-abbrev pub joined : Bool → List ℕ → ℕ → ℕ
-joined wide bytes n = number 2 bytes (2 * n) + 65536 * number (behind wide) bytes (131072 + behind wide * n)
+abbrev pub joined : List ℕ → ℕ → ℕ
+joined bytes n = number 2 bytes (2 * n) + 65536 * number 1 bytes (131072 + n)
 
 -- The numbers that bytes hold, as many as have all their bytes.
-unfoldable pub numbers : Bool → List ℕ → List ℕ
-numbers wide bytes = tabulate (min 65536 ((length bytes - 131072) / behind wide)) (joined wide bytes)
+unfoldable pub numbers : List ℕ → List ℕ
+numbers bytes = tabulate (min 65536 (length bytes - 131072)) (joined bytes)
 
 -- Bytes that hold 65,536 numbers, each of them 0.
-pub record Zeros (wide : Bool) (bytes : List ℕ) : Type 0 where
-  pub long : length (numbers wide bytes) ≡ 65536
-  pub zero-at : (n : ℕ) → _≡_ {A = ℕ} (getD (numbers wide bytes) n 0) 0
+pub record Zeros (bytes : List ℕ) : Type 0 where
+  pub long : length (numbers bytes) ≡ 65536
+  pub zero-at : (n : ℕ) → _≡_ {A = ℕ} (getD (numbers bytes) n 0) 0

@@ -1,11 +1,16 @@
 // The path of an answer record: the states of the execution that its evidence unfolds to. A record uses only records of smaller number, so it is
 // listed without recursion: how many states each record adds (size), a place in the list for each record used, from the asked one down (place),
-// and the states, from the first record up, each part that stands already copied (write). Linear in records and states;
-// with a list of 2^24 places or more the records are sized once more for each halving of it.
+// and the states, from the first record up, each part that stands already copied (write). A path of 2^24 states or more is counted (count) and
+// its states are written one after another (unroll), both by a walk down the evidence with a stack of its own (frames), the second by what each
+// record stands for (link). Linear in records and states.
+mod count;
+mod frames;
+mod link;
 mod list;
 pub mod outcome;
 mod place;
 mod size;
+mod unroll;
 mod walk;
 mod write;
 

@@ -15,13 +15,13 @@ ghost use Rattle.unfolding.proofs.Walk.{added-by, start-at, words-at};
 ghost use Rattle.unfolding.proofs.Places.{Placing, Laying, Placeable, Laid};
 
 // Gives the record that a call uses its place.
-fn note(step: u16, used: u64, at: usize, wide: bool, offsets: &mut [u8])
-    requires { ⌜ (is-call step ≡ true → used < length (numbers wide (now offsets))) × (at < limit wide) ⌝ }
-    ensures { λ _. ⌜ numbers wide (now (offsets .exit))
-        ≡ cond (is-call step) (set (numbers wide (now (offsets .entry))) used at) (numbers wide (now (offsets .entry))) ⌝ }
+fn note(step: u16, used: u64, at: usize, offsets: &mut [u8])
+    requires { ⌜ (is-call step ≡ true → used < length (numbers (now offsets))) × (at < limit) ⌝ }
+    ensures { λ _. ⌜ numbers (now (offsets .exit))
+        ≡ cond (is-call step) (set (numbers (now (offsets .entry))) used at) (numbers (now (offsets .entry))) ⌝ }
 {
     if is_call(step) {
-        cells::put(offsets, wide, used as usize, at);
+        cells::put(offsets, used as usize, at);
     }
 }
 
@@ -32,25 +32,24 @@ fn place<'a>(
     calls: &[u64],
     answers: &[u64],
     n: usize,
-    wide: bool,
     sizes: &[u8],
     offsets: &mut [u8],
 )
-    requires { ⌜ Placing (now rules) (now goal) (now calls) (now answers) (numbers wide (now sizes)) (numbers wide (now offsets)) n
-        × (getD (numbers wide (now offsets)) n 0 + length (added-by (now rules) (now goal) (now calls) (now answers) n) < limit wide) ⌝ }
+    requires { ⌜ Placing (now rules) (now goal) (now calls) (now answers) (numbers (now sizes)) (numbers (now offsets)) n
+        × (getD (numbers (now offsets)) n 0 + length (added-by (now rules) (now goal) (now calls) (now answers) n) < limit) ⌝ }
     ensures { λ _. ⌜ Laying (now (rules .entry)) (now (goal .entry)) (now (calls .entry)) (now (answers .entry)) n
         (length (words-at (now (rules .entry)) (now (goal .entry)) (now (answers .entry)) n))
-        (numbers wide (now (offsets .entry))) (numbers wide (now (offsets .exit))) ⌝ }
+        (numbers (now (offsets .entry))) (numbers (now (offsets .exit))) ⌝ }
 {
     let steps = steps_of(rules, goal, answers, n);
     let mut state = start(calls, answers, n);
-    let mut at = cells::get(offsets, wide, n);
+    let mut at = cells::get(offsets, n);
     let mut q = 0;
     while q < steps.len() {
         let step = steps[q];
         let used = tables::evidence_of(answers, tables::ANSWER_WORDS, n, q);
-        let t = take_step(step, state, used, n, calls, answers, wide, sizes);
-        note(step, used, at, wide, offsets);
+        let t = take_step(step, state, used, n, calls, answers, sizes);
+        note(step, used, at, offsets);
         at += t.size;
         state = t.state;
         q += 1;
@@ -64,23 +63,22 @@ pub fn place_all<'a>(
     calls: &[u64],
     answers: &[u64],
     asked: usize,
-    wide: bool,
     sizes: &[u8],
     offsets: &mut [u8],
 )
-    requires { ⌜ Placeable (now rules) (now goal) (now calls) (now answers) (numbers wide (now sizes)) (numbers wide (now offsets)) asked
-        × (length (added-by (now rules) (now goal) (now calls) (now answers) asked) + 1 < limit wide) ⌝ }
-    ensures { λ _. ⌜ (length (numbers wide (now (offsets .exit))) ≡ length (numbers wide (now (offsets .entry))))
+    requires { ⌜ Placeable (now rules) (now goal) (now calls) (now answers) (numbers (now sizes)) (numbers (now offsets)) asked
+        × (length (added-by (now rules) (now goal) (now calls) (now answers) asked) + 1 < limit) ⌝ }
+    ensures { λ _. ⌜ (length (numbers (now (offsets .exit))) ≡ length (numbers (now (offsets .entry))))
         × Laid (now (rules .entry)) (now (goal .entry)) (now (calls .entry)) (now (answers .entry)) asked 0
         (start-at (now (calls .entry)) (now (answers .entry)) asked ∷ added-by (now (rules .entry)) (now (goal .entry)) (now (calls .entry))
-        (now (answers .entry)) asked) (numbers wide (now (offsets .exit))) ⌝ }
+        (now (answers .entry)) asked) (numbers (now (offsets .exit))) ⌝ }
 {
-    cells::put(offsets, wide, asked, 1);
+    cells::put(offsets, asked, 1);
     let mut n = asked + 1;
     while 0 < n {
         n -= 1;
-        if cells::get(offsets, wide, n) != 0 {
-            place(rules, goal, calls, answers, n, wide, sizes, offsets);
+        if cells::get(offsets, n) != 0 {
+            place(rules, goal, calls, answers, n, sizes, offsets);
         }
     }
 }

@@ -26,12 +26,11 @@ fn size<'a>(
     calls: &[u64],
     answers: &[u64],
     n: usize,
-    wide: bool,
     sizes: &[u8],
     cap: usize,
 ) -> usize
-    requires { ⌜ Checked (now rules) (now goal) (now calls) (now answers) (n + 1) × (n ≤ length (numbers wide (now sizes))) × (cap < 2 ^ 61)
-        × Sized (added-by (now rules) (now goal) (now calls) (now answers)) (numbers wide (now sizes)) n cap ⌝ }
+    requires { ⌜ Checked (now rules) (now goal) (now calls) (now answers) (n + 1) × (n ≤ length (numbers (now sizes))) × (cap < 2 ^ 61)
+        × Sized (added-by (now rules) (now goal) (now calls) (now answers)) (numbers (now sizes)) n cap ⌝ }
     ensures { λ r. ⌜ r ≡ min cap (length (added-by (now (rules .entry)) (now (goal .entry)) (now (calls .entry)) (now (answers .entry)) n)) ⌝ }
 {
     let steps = steps_of(rules, goal, answers, n);
@@ -46,7 +45,6 @@ fn size<'a>(
             n,
             calls,
             answers,
-            wide,
             sizes,
         );
         sum = capped(sum, t.size, cap);
@@ -64,19 +62,18 @@ pub fn size_all<'a>(
     answers: &[u64],
     count: usize,
     cap: usize,
-    wide: bool,
     sizes: &mut [u8],
 )
-    requires { ⌜ Checked (now rules) (now goal) (now calls) (now answers) count × (count ≤ length (numbers wide (now sizes))) × (cap < 2 ^ 61)
-        × (cap < limit wide) ⌝ }
-    ensures { λ _. ⌜ (length (numbers wide (now (sizes .exit))) ≡ length (numbers wide (now (sizes .entry))))
+    requires { ⌜ Checked (now rules) (now goal) (now calls) (now answers) count × (count ≤ length (numbers (now sizes))) × (cap < 2 ^ 61)
+        × (cap < limit) ⌝ }
+    ensures { λ _. ⌜ (length (numbers (now (sizes .exit))) ≡ length (numbers (now (sizes .entry))))
         × Sized (added-by (now (rules .entry)) (now (goal .entry)) (now (calls .entry)) (now (answers .entry)))
-        (numbers wide (now (sizes .exit))) count cap ⌝ }
+        (numbers (now (sizes .exit))) count cap ⌝ }
 {
     let mut n = 0;
     while n < count {
-        let added = size(rules, goal, calls, answers, n, wide, sizes, cap);
-        cells::put(sizes, wide, n, added);
+        let added = size(rules, goal, calls, answers, n, sizes, cap);
+        cells::put(sizes, n, added);
         n += 1;
     }
 }

@@ -47,7 +47,7 @@ pub fn steps_of<'a>(rules: &'a [u16], goal: &'a [u16], answers: &[u64], n: usize
 }
 
 // How many states an elementary step adds: an insert and a delete one each, any other none.
-fn shown(step: u16) -> usize
+pub fn shown(step: u16) -> usize
     ensures { λ r. ⌜ ((t : ℕ) → r ≡ length (shown (step-of step) t)) ⌝ }
 {
     let kind = step / 256;
@@ -55,7 +55,7 @@ fn shown(step: u16) -> usize
 }
 
 // The state after a step of record n that goes on.
-fn after(step: u16, state: u64, evidence: u64, n: usize, calls: &[u64], answers: &[u64]) -> u64
+pub fn after(step: u16, state: u64, evidence: u64, n: usize, calls: &[u64], answers: &[u64]) -> u64
     requires { ⌜ Readable (now calls) (now answers) (n + 1) × ((t : ℕ) × LeadsTo (now calls) (now answers) n step state evidence t) ⌝ }
     ensures { λ t. ⌜ LeadsTo (now (calls .entry)) (now (answers .entry)) n step state evidence t ⌝ }
 {
@@ -74,19 +74,18 @@ pub fn take_step(
     n: usize,
     calls: &[u64],
     answers: &[u64],
-    wide: bool,
     sizes: &[u8],
 ) -> Turn
-    requires { ⌜ Readable (now calls) (now answers) (n + 1) × (n ≤ length (numbers wide (now sizes)))
+    requires { ⌜ Readable (now calls) (now answers) (n + 1) × (n ≤ length (numbers (now sizes)))
         × ((t : ℕ) × LeadsTo (now calls) (now answers) n step state evidence t) ⌝ }
-    ensures { λ r. ⌜ Turned (now (calls .entry)) (now (answers .entry)) (numbers wide (now (sizes .entry))) n step state evidence
+    ensures { λ r. ⌜ Turned (now (calls .entry)) (now (answers .entry)) (numbers (now (sizes .entry))) n step state evidence
         (r .state) (r .size) ⌝ }
 {
     let next = after(step, state, evidence, n, calls, answers);
     if is_call(step) {
         return Turn {
             state: next,
-            size: cells::get(sizes, wide, evidence as usize),
+            size: cells::get(sizes, evidence as usize),
         };
     }
     Turn {

@@ -49,26 +49,25 @@ fn write<'a>(
     calls: &[u64],
     answers: &[u64],
     n: usize,
-    wide: bool,
     sizes: &[u8],
     offsets: &[u8],
     list: &mut [u64],
 )
-    requires { ⌜ Ready (now rules) (now goal) (now calls) (now answers) (numbers wide (now sizes)) (numbers wide (now offsets)) n (now list) ⌝ }
+    requires { ⌜ Ready (now rules) (now goal) (now calls) (now answers) (numbers (now sizes)) (numbers (now offsets)) n (now list) ⌝ }
     ensures { λ _. ⌜ Wrote (now (rules .entry)) (now (goal .entry)) (now (calls .entry)) (now (answers .entry))
-        (numbers wide (now (offsets .entry))) n (getD (numbers wide (now (offsets .entry))) n 0
+        (numbers (now (offsets .entry))) n (getD (numbers (now (offsets .entry))) n 0
         + length (added-by (now (rules .entry)) (now (goal .entry)) (now (calls .entry)) (now (answers .entry)) n))
         (now (list .entry)) (now (list .exit)) ⌝ }
 {
     let steps = steps_of(rules, goal, answers, n);
     let mut state = start(calls, answers, n);
-    let mut at = cells::get(offsets, wide, n);
+    let mut at = cells::get(offsets, n);
     let mut q = 0;
     while q < steps.len() {
         let step = steps[q];
         let used = tables::evidence_of(answers, tables::ANSWER_WORDS, n, q);
-        let t = take_step(step, state, used, n, calls, answers, wide, sizes);
-        let from = cells::get(offsets, wide, used as usize);
+        let t = take_step(step, state, used, n, calls, answers, sizes);
+        let from = cells::get(offsets, used as usize);
         write_step(step, from, at, t.size, t.state, list);
         at += t.size;
         state = t.state;
@@ -83,20 +82,19 @@ pub fn write_all<'a>(
     calls: &[u64],
     answers: &[u64],
     asked: usize,
-    wide: bool,
     sizes: &[u8],
     offsets: &[u8],
     list: &mut [u64],
 )
-    requires { ⌜ Writable (now rules) (now goal) (now calls) (now answers) (numbers wide (now sizes)) (numbers wide (now offsets)) asked
+    requires { ⌜ Writable (now rules) (now goal) (now calls) (now answers) (numbers (now sizes)) (numbers (now offsets)) asked
         (now list) ⌝ }
     ensures { λ _. ⌜ Written (now (rules .entry)) (now (goal .entry)) (now (calls .entry)) (now (answers .entry))
-        (numbers wide (now (offsets .entry))) (asked + 1) (now (list .entry)) (now (list .exit)) ⌝ }
+        (numbers (now (offsets .entry))) (asked + 1) (now (list .entry)) (now (list .exit)) ⌝ }
 {
     let mut n = 0;
     while n <= asked {
-        if cells::get(offsets, wide, n) != 0 {
-            write(rules, goal, calls, answers, n, wide, sizes, offsets, list);
+        if cells::get(offsets, n) != 0 {
+            write(rules, goal, calls, answers, n, sizes, offsets, list);
         }
         n += 1;
     }

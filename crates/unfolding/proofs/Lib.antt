@@ -5,6 +5,10 @@ pub mod Sizes
 pub mod Lies
 pub mod Places
 pub mod Writing
+pub mod Rests
+pub mod Frames
+pub mod Leads
+pub mod Unrolling
 pub mod Checking
 pub mod StatesLaws
 pub mod Soundness

@@ -217,21 +217,10 @@ pub record PathListed (path : List ℕ) (most : ℕ) (l : List ℕ) (count : ℕ
   pub the-count : count ≡ cond (ltb most (length path)) 0 (length path)
   pub the-list : l′ ≡ cond (ltb most (length path)) l (path ++ drop (length path) l)
 
--- at most so many, and so at most more
-pub listed-fewer : {path : List ℕ} {fewer most : ℕ} {l : List ℕ} {count : ℕ} {l′ : List ℕ} → fewer ≤ most → PathListed path fewer l count l′ → (count ≡ 0 → ⊥)
+-- listed with so many places, and so with more
+pub listed-fewer : {path : List ℕ} {fewer most : ℕ} {l : List ℕ} {count : ℕ} {l′ : List ℕ} → length path ≤ fewer → fewer ≤ most → PathListed path fewer l count l′
     → PathListed path most l count l′
-listed-fewer {path} {fewer} {most} {l} {count} {l′} h y some = by (ltb fewer (length path)) refl
-  where
-    by : (b : Bool) → ltb fewer (length path) ≡ b → PathListed path most l count l′
-    by true z = absurd (some (rw z at (y .the-count)))
-    by false z =
-        let fits : ltb most (length path) ≡ false = le-ltb most (length path) (omega (arith, ltb-false fewer (length path) z)) in
-        record { the-count = rw fits (rw z at (y .the-count)); the-list = rw fits (rw z at (y .the-list)) }
-
--- none listed, and so the list unchanged
-pub listed-none : {x : State} {added : List State} {most : ℕ} {l : List ℕ} {count : ℕ} {l′ : List ℕ} → PathListed (x ∷ added) most l count l′ → count ≡ 0 → l′ ≡ l
-listed-none {x} {added} {most} {l} {count} {l′} y none = by (ltb most (length (x ∷ added))) refl
-  where
-    by : (b : Bool) → ltb most (length (x ∷ added)) ≡ b → l′ ≡ l
-    by true z = rw z at (y .the-list)
-    by false z = let n : count ≡ length (x ∷ added) = rw z at (y .the-count) in absurd (omega arith)
+listed-fewer {path} {fewer} {most} short h y =
+    let fits = le-ltb fewer (length path) short in
+    let more : ltb most (length path) ≡ false = le-ltb most (length path) (omega arith) in
+    record { the-count = rw more (rw fits at (y .the-count)); the-list = rw more (rw fits at (y .the-list)) }

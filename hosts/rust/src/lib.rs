@@ -46,8 +46,7 @@ pub use calls::Calls;
 pub use class::{class, outcomes, Counts, Outcome, Uncounted, MOST_STARTS, START_WORDS};
 use refusal::accepted;
 pub use refusal::Refusal;
-pub use rehearsal::{class_of, OfStart, Rehearsal, Trouble, Way, LONG_LIST, MOST_EVENTS, MOST_RECORDS};
-pub use rehearsal::{STACK_EVALUATE, STACK_LONG_PATH, STACK_PATH};
+pub use rehearsal::{class_of, OfStart, Rehearsal, Trouble, Way, MOST_EVENTS, MOST_RECORDS, STACK_EVALUATE, STACK_PATH};
 pub use report::{report, report_of, report_words, Figures, Fraction, Report};
 
 /// Words of one rule: head, step count, 16 step words.

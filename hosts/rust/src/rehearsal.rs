@@ -13,12 +13,8 @@ pub const MOST_RECORDS: usize = 65_536;
 pub const MOST_EVENTS: u64 = 1 << 20;
 /// Bytes of stack that [`evaluate`] needs, with some to spare.
 pub const STACK_EVALUATE: usize = 65_536;
-/// Bytes of stack that [`path`] needs with a list of fewer places than [`LONG_LIST`], with some to spare.
+/// Bytes of stack that [`path`] needs, with some to spare.
 pub const STACK_PATH: usize = 524_288;
-/// Bytes of stack that [`path`] needs with a longer list, with some to spare.
-pub const STACK_LONG_PATH: usize = 1_179_648;
-/// Places of a list for which [`path`] may need more stack.
-pub const LONG_LIST: usize = 1 << 24;
 
 /// Records of each table lent first.
 const FIRST_ROOM: usize = 512;
@@ -188,8 +184,7 @@ impl Rehearsal {
         let records =
             Records { calls: &self.calls, call_count: self.run.calls, answers: &self.answers, answer_count: self.run.answers };
         let question = self.sheet.question(&self.rules);
-        let stack = if most < LONG_LIST { STACK_PATH } else { STACK_LONG_PATH };
-        match with_stack(stack, || path(&question, &records, record, &mut states))? {
+        match with_stack(STACK_PATH, || path(&question, &records, record, &mut states))? {
             Ok(count) => {
                 states.truncate(count);
                 Ok(Some(states))

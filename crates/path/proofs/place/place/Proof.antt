@@ -11,10 +11,10 @@ use Rattle.path.proofs.place.place.Statement.{statement}
 use Rattle.path.proofs.place.place.Tie as tie
 
 abbrev Inv-loop : tie.InvT-loop
-Inv-loop rules goal calls answers n wide sizes offsets₀ steps state₀ at₀ q₀ offsets state at q = (steps ≡ words-at rules goal answers n) × Along rules goal calls answers n (getD (numbers wide offsets₀) n 0) q state at × Laying rules goal calls answers n q (numbers wide offsets₀) (numbers wide offsets) × (length offsets ≡ length offsets₀)
+Inv-loop rules goal calls answers n sizes offsets₀ steps state₀ at₀ q₀ offsets state at q = (steps ≡ words-at rules goal answers n) × Along rules goal calls answers n (getD (numbers offsets₀) n 0) q state at × Laying rules goal calls answers n q (numbers offsets₀) (numbers offsets) × (length offsets ≡ length offsets₀)
 
 abbrev μ-loop : tie.MeasureT-loop
-μ-loop rules goal calls answers n wide sizes offsets₀ steps state₀ at₀ q₀ offsets state at q = length steps - q
+μ-loop rules goal calls answers n sizes offsets₀ steps state₀ at₀ q₀ offsets state at q = length steps - q
 
 steps-of-requires : tie.Need-steps-of-requires Inv-loop μ-loop
 steps-of-requires c κs = (c .before .before .before .before .before .before .args .calls .now, c .before .before .before .before .before .before .pre .0 .checked)

@@ -12,10 +12,10 @@ use Rattle.path.proofs.place.place_all.Statement.{statement}
 use Rattle.path.proofs.place.place_all.Tie as tie
 
 abbrev Inv-loop : tie.InvT-loop
-Inv-loop rules goal calls answers asked wide sizes offsets₀ n₀ offsets n = (n ≤ asked + 1) × (length offsets ≡ length offsets₀) × (length (numbers wide offsets) ≡ length (numbers wide offsets₀)) × Laid rules goal calls answers asked n (start-at calls answers asked ∷ added-by rules goal calls answers asked) (numbers wide offsets)
+Inv-loop rules goal calls answers asked sizes offsets₀ n₀ offsets n = (n ≤ asked + 1) × (length offsets ≡ length offsets₀) × (length (numbers offsets) ≡ length (numbers offsets₀)) × Laid rules goal calls answers asked n (start-at calls answers asked ∷ added-by rules goal calls answers asked) (numbers offsets)
 
 abbrev μ-loop : tie.MeasureT-loop
-μ-loop rules goal calls answers asked wide sizes offsets₀ n₀ offsets n = n
+μ-loop rules goal calls answers asked sizes offsets₀ n₀ offsets n = n
 
 put-requires : tie.Need-put-requires Inv-loop μ-loop
 put-requires c κs = (c .before .before .before .before .before .before .before .pre .0 .offsets-long, omega (arith, c .before .before .before .before .before .before .before .pre .1))
@@ -27,7 +27,7 @@ loop-holds : tie.Need-loop-holds Inv-loop μ-loop
 loop-holds c =
     let entry = c .before .before .before .before .before .before .before .before .before .before in
     let a = entry .args in
-    (omega arith, refl, refl, rw (c .before .before .put .ensures) (laid-first (a .rules .now) (a .goal .now) (a .calls .now) (a .answers .now) (a .asked) (numbers (a .wide) (a .offsets .now)) (entry .pre .0 .offsets-long) (entry .pre .0 .empty)))
+    (omega arith, refl, refl, rw (c .before .before .put .ensures) (laid-first (a .rules .now) (a .goal .now) (a .calls .now) (a .answers .now) (a .asked) (numbers (a .offsets .now)) (entry .pre .0 .offsets-long) (entry .pre .0 .empty)))
 
 sub-n : tie.Need-sub-n Inv-loop μ-loop
 sub-n c = omega arith
@@ -35,7 +35,7 @@ sub-n c = omega arith
 get-requires : tie.Need-get-requires Inv-loop μ-loop
 get-requires c κs =
     let a = c .before .before .before .before .before .before .before .before .before .before .before .before .before .args in
-    omega (arith, c .before .before .before .before .before .before .before .before .before .before .before .before .before .pre .0 .offsets-long, c .before .before .loop .inv .2, ap length (c .before .before .before .before .before .put .ensures), length-set (numbers (a .wide) (a .offsets .now)) (a .asked) 1)
+    omega (arith, c .before .before .before .before .before .before .before .before .before .before .before .before .before .pre .0 .offsets-long, c .before .before .loop .inv .2, ap length (c .before .before .before .before .before .put .ensures), length-set (numbers (a .offsets .now)) (a .asked) 1)
 
 place-requires : tie.Need-place-requires Inv-loop μ-loop
 place-requires c κs =
@@ -43,12 +43,12 @@ place-requires c κs =
     let entry = c .before .before .before .before .before .before .before .before .before .before .before .before .before .before .before .before in
     let a = entry .args in
     let i = at-loop .loop .inv in
-    let pos : 0 < getD (numbers (a .wide) (at-loop .loop .offsets)) (at-loop .loop .n - 1) 0 = omega (arith, c .before .if1 .taken, c .before .before .get .ensures) in
+    let pos : 0 < getD (numbers (at-loop .loop .offsets)) (at-loop .loop .n - 1) 0 = omega (arith, c .before .if1 .taken, c .before .before .get .ensures) in
     let p = entry .pre .0 in (
       record {
         checked = checked-less (omega arith) (p .checked);
         sizes-long = omega (arith, p .sizes-long);
-        offsets-long = omega (arith, p .offsets-long, i .2, ap length (c .before .before .before .before .before .before .before .before .put .ensures), length-set (numbers (a .wide) (a .offsets .now)) (a .asked) 1);
+        offsets-long = omega (arith, p .offsets-long, i .2, ap length (c .before .before .before .before .before .before .before .before .put .ensures), length-set (numbers (a .offsets .now)) (a .asked) 1);
         roomy = record { cap = p .cap; small = p .small; sized = sized-less (omega arith) (p .sized); room = omega (arith, i .3 .placed _ pos .bound, p .room); after-first = pos };
       },
       omega (arith, i .3 .placed _ pos .bound, entry .pre .1),

@@ -9,10 +9,10 @@ use Rattle.path.proofs.size.size.Statement.{statement}
 use Rattle.path.proofs.size.size.Tie as tie
 
 abbrev Inv-loop : tie.InvT-loop
-Inv-loop rules goal calls answers n wide sizes cap steps state₀ sum₀ q₀ state sum q = (steps ≡ words-at rules goal answers n) × Counted rules goal calls answers n q state sum cap
+Inv-loop rules goal calls answers n sizes cap steps state₀ sum₀ q₀ state sum q = (steps ≡ words-at rules goal answers n) × Counted rules goal calls answers n q state sum cap
 
 abbrev μ-loop : tie.MeasureT-loop
-μ-loop rules goal calls answers n wide sizes cap steps state₀ sum₀ q₀ state sum q = length steps - q
+μ-loop rules goal calls answers n sizes cap steps state₀ sum₀ q₀ state sum q = length steps - q
 
 steps-of-requires : tie.Need-steps-of-requires Inv-loop μ-loop
 steps-of-requires c κs =

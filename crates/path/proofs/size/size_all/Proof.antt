@@ -10,10 +10,10 @@ use Rattle.path.proofs.size.size_all.Statement.{statement}
 use Rattle.path.proofs.size.size_all.Tie as tie
 
 abbrev Inv-loop : tie.InvT-loop
-Inv-loop rules goal calls answers count cap wide sizes₀ n₀ sizes n = (n ≤ count) × (length sizes ≡ length sizes₀) × (length (numbers wide sizes) ≡ length (numbers wide sizes₀)) × Sized (added-by rules goal calls answers) (numbers wide sizes) n cap
+Inv-loop rules goal calls answers count cap sizes₀ n₀ sizes n = (n ≤ count) × (length sizes ≡ length sizes₀) × (length (numbers sizes) ≡ length (numbers sizes₀)) × Sized (added-by rules goal calls answers) (numbers sizes) n cap
 
 abbrev μ-loop : tie.MeasureT-loop
-μ-loop rules goal calls answers count cap wide sizes₀ n₀ sizes n = count - n
+μ-loop rules goal calls answers count cap sizes₀ n₀ sizes n = count - n
 
 loop-holds : tie.Need-loop-holds Inv-loop μ-loop
 loop-holds c = (omega arith, refl, refl, sized-none _ _ _)

@@ -12,10 +12,10 @@ use Rattle.path.proofs.write.write.Statement.{statement}
 use Rattle.path.proofs.write.write.Tie as tie
 
 abbrev Inv-loop : tie.InvT-loop
-Inv-loop rules goal calls answers n wide sizes offsets list₀ steps state₀ at₀ q₀ list state at q = (steps ≡ words-at rules goal answers n) × Along rules goal calls answers n (getD (numbers wide offsets) n 0) q state at × Wrote rules goal calls answers (numbers wide offsets) n at list₀ list
+Inv-loop rules goal calls answers n sizes offsets list₀ steps state₀ at₀ q₀ list state at q = (steps ≡ words-at rules goal answers n) × Along rules goal calls answers n (getD (numbers offsets) n 0) q state at × Wrote rules goal calls answers (numbers offsets) n at list₀ list
 
 abbrev μ-loop : tie.MeasureT-loop
-μ-loop rules goal calls answers n wide sizes offsets list₀ steps state₀ at₀ q₀ list state at q = length steps - q
+μ-loop rules goal calls answers n sizes offsets list₀ steps state₀ at₀ q₀ list state at q = length steps - q
 
 steps-of-requires : tie.Need-steps-of-requires Inv-loop μ-loop
 steps-of-requires c κs = (c .before .before .before .before .before .before .before .args .calls .now, c .before .before .before .before .before .before .before .pre .checked)

@@ -9,10 +9,10 @@ use Rattle.path.proofs.write.write_all.Statement.{statement}
 use Rattle.path.proofs.write.write_all.Tie as tie
 
 abbrev Inv-loop : tie.InvT-loop
-Inv-loop rules goal calls answers asked wide sizes offsets list₀ n₀ list n = (n ≤ asked + 1) × Written rules goal calls answers (numbers wide offsets) n list₀ list
+Inv-loop rules goal calls answers asked sizes offsets list₀ n₀ list n = (n ≤ asked + 1) × Written rules goal calls answers (numbers offsets) n list₀ list
 
 abbrev μ-loop : tie.MeasureT-loop
-μ-loop rules goal calls answers asked wide sizes offsets list₀ n₀ list n = asked + 1 - n
+μ-loop rules goal calls answers asked sizes offsets list₀ n₀ list n = asked + 1 - n
 
 loop-holds : tie.Need-loop-holds Inv-loop μ-loop
 loop-holds c = (omega arith, written-none _ _ _ _ _ _)

@@ -1,0 +1,147 @@
+// The states of a long path, one after another: down the evidence, by what each record stands for.
+use crate::frames::Stop;
+use crate::frames::turn;
+use crate::walk::after;
+use crate::walk::shown;
+use crate::walk::start;
+use crate::walk::steps_of;
+use records::tables;
+use steps::word::is_call;
+ghost use mathlib.Core.Path.{_≡_};
+ghost use mathlib.Core.Bool.{true};
+ghost use Prim.Native.Nat.{_+_, _≤_, _<_};
+ghost use lib.ListN.{length};
+ghost use Rattle.cells.specs.Numbers.{numbers};
+ghost use Rattle.steps.specs.Inner.{is-call};
+ghost use Rattle.steps.specs.Words.{step-of};
+ghost use Rattle.unfolding.specs.Path.{shown};
+ghost use Rattle.unfolding.proofs.Walk.{Checked, added-by, words-at};
+ghost use Rattle.unfolding.proofs.Rests.{Fresh, rest, state-at};
+ghost use Rattle.unfolding.proofs.Frames.{Stopped};
+ghost use Rattle.unfolding.proofs.Leads.{Led, CallLead};
+ghost use Rattle.unfolding.proofs.Unrolling.{Put, Ran};
+
+// The state of record n before step q: its call's, or what the call before that step ended in.
+fn state_before(
+    rules: &[u16],
+    goal: &[u16],
+    calls: &[u64],
+    answers: &[u64],
+    n: usize,
+    q: usize,
+) -> u64
+    requires { ⌜ Checked (now rules) (now goal) (now calls) (now answers) (n + 1) × Fresh (now rules) (now goal) (now answers) n q
+        × (q ≤ 16) ⌝ }
+    ensures { λ s. ⌜ s ≡ state-at (now (rules .entry)) (now (goal .entry)) (now (calls .entry)) (now (answers .entry)) n q ⌝ }
+{
+    if q == 0 {
+        return start(calls, answers, n);
+    }
+    let used = tables::evidence_of(answers, tables::ANSWER_WORDS, n, q - 1);
+    tables::final_of(answers, tables::ANSWER_WORDS, used as usize).0
+}
+
+// What a call stands for; 0 for any other step.
+fn call_lead(step: u16, used: u64, leads: &[u8]) -> usize
+    requires { ⌜ (is-call step ≡ true → used < length (numbers (now leads))) ⌝ }
+    ensures { λ r. ⌜ CallLead (numbers (now (leads .entry))) step used r ⌝ }
+{
+    if is_call(step) {
+        return cells::get(leads, used as usize);
+    }
+    0
+}
+
+// Writes the state that a step leads to, if it is an update, and gives the place of the next one.
+fn show(step: u16, state: u64, at: usize, list: &mut [u64]) -> usize
+    requires { ⌜ at + length (shown (step-of step) state) ≤ length (now list) ⌝ }
+    ensures { λ r. ⌜ (r ≡ at + length (shown (step-of step) state))
+        × Put (shown (step-of step) state) at (now (list .entry)) (now (list .exit)) ⌝ }
+{
+    if shown(step) == 0 {
+        return at;
+    }
+    list[at] = state;
+    at + 1
+}
+
+// Writes from a step of record n on, to the next call that adds states or to its end.
+fn run<'a>(
+    rules: &'a [u16],
+    goal: &'a [u16],
+    calls: &[u64],
+    answers: &[u64],
+    n: usize,
+    step: usize,
+    found: usize,
+    leads: &[u8],
+    list: &mut [u64],
+) -> Stop
+    requires { ⌜ Checked (now rules) (now goal) (now calls) (now answers) (n + 1) × (n ≤ length (numbers (now leads)))
+        × Led (added-by (now rules) (now goal) (now calls) (now answers)) (numbers (now leads)) n
+        × Fresh (now rules) (now goal) (now answers) n step × (step ≤ length (words-at (now rules) (now goal) (now answers) n))
+        × (found + length (rest (now rules) (now goal) (now calls) (now answers) n step) ≤ length (now list)) ⌝ }
+    ensures { λ r. ⌜ Stopped (now (rules .entry)) (now (goal .entry)) (now (calls .entry)) (now (answers .entry)) n step (r .step) (r .to)
+        × Ran (now (rules .entry)) (now (goal .entry)) (now (calls .entry)) (now (answers .entry)) n step found (r .step) (r .found)
+        (now (list .entry)) (now (list .exit)) ⌝ }
+{
+    let steps = steps_of(rules, goal, answers, n);
+    let mut state = state_before(rules, goal, calls, answers, n, step);
+    let mut q = step;
+    let mut at = found;
+    while q < steps.len() {
+        let word = steps[q];
+        let used = tables::evidence_of(answers, tables::ANSWER_WORDS, n, q);
+        let to = call_lead(word, used, leads);
+        if to != 0 {
+            return Stop {
+                step: q,
+                found: at,
+                to: to,
+            };
+        }
+        state = after(word, state, used, n, calls, answers);
+        at = show(word, state, at, list);
+        q += 1;
+    }
+    Stop {
+        step: q,
+        found: at,
+        to: 0,
+    }
+}
+
+// Writes what the asked record adds behind the first state.
+pub fn unroll<'a>(
+    rules: &'a [u16],
+    goal: &'a [u16],
+    calls: &[u64],
+    answers: &[u64],
+    asked: usize,
+    leads: &[u8],
+    frames: &mut [u8],
+    list: &mut [u64],
+)
+    requires { ⌜ Checked (now rules) (now goal) (now calls) (now answers) (asked + 1) × (asked < length (numbers (now leads)))
+        × (asked < length (numbers (now frames)))
+        × Led (added-by (now rules) (now goal) (now calls) (now answers)) (numbers (now leads)) (asked + 1)
+        × (length (added-by (now rules) (now goal) (now calls) (now answers) asked) < length (now list)) ⌝ }
+    ensures { λ _. ⌜ Put (added-by (now (rules .entry)) (now (goal .entry)) (now (calls .entry)) (now (answers .entry)) asked) 1
+        (now (list .entry)) (now (list .exit)) ⌝ }
+{
+    let mut n = asked;
+    let mut step = 0;
+    let mut depth = 0;
+    let mut found = 1;
+    loop {
+        let stop = run(rules, goal, calls, answers, n, step, found, leads, list);
+        found = stop.found;
+        if stop.to + depth == 0 {
+            return;
+        }
+        let at = turn(n, stop.step, depth, stop.to, frames);
+        n = at.n;
+        step = at.step;
+        depth = at.depth;
+    }
+}
