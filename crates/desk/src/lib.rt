@@ -31,14 +31,6 @@ pub fn state_of(calls: &[u64], i: usize) -> State
     State::of(calls[3 * i + 1])
 }
 
-// The round of call record i.
-pub fn round_of(calls: &[u64], i: usize) -> u64
-    requires { ⌜ call-width * i + 3 ≤ length (now calls) ⌝ }
-    ensures { λ r. ⌜ r ≡ getD (now (calls .entry)) (call-width * i) 0 / round-unit % round-top ⌝ }
-{
-    calls[3 * i] / ROUND_UNIT % ROUND_TOP
-}
-
 // Writes call record n; the marks and the notes in its words stay.
 pub fn put_call(calls: &mut [u64], n: usize, call: Call, round: u64)
     requires { ⌜ (call-width * n + 3 ≤ length (now calls)) × (call .action < 256) × (round < round-top) ⌝ }

@@ -7,7 +7,7 @@ use Rattle.quarters.specs.Quarters.{quarter}
 use Rattle.records.specs.Records.{call-table}
 use Rattle.records.proofs.Growth.{CallsOnce}
 use Rattle.desk.specs.Desk.{open-calls, packed-width, CallsClosed, AnswersClosed}
-use Rattle.listing.specs.Listing.{Below}
+use Rattle.radix.specs.Lines.{Below}
 
 -- Calls that are given stand once where they did.
 pub calls-once-given : {words words′ : List ℕ} {n : ℕ} → CallsClosed words n words′ → CallsOnce (open-calls words n) → CallsOnce (call-table words′ n)

@@ -1,27 +1,34 @@
 // The rounds of an evaluation (serial-Horn Transaction Logic, figure 4 of source document 000).
 //
 // A round walks every body of every call record that stood when it began, with only the answers that stood then, and adds what it finds; a
-// round that adds nothing is the last. A record whose callees have gained no answer since it was walked has nothing to add, and is passed; a
-// walk that was done before passes over the answers that lead to nothing new (crate `uses`). A walk is a depth-first search over answers in
-// rising order (crate `search`), so that a new answer comes by the least evidence of the lowest rule; at its end a round's records are put in order
-// (crate `arranging`). Tables that a round adds nothing to are closed, and every record in them is reached or justified: so they hold exactly the
-// run's calls and answers.
+// round that adds nothing is the last. A record whose callees have gained no answer since it was walked has nothing to add, and is passed; so is
+// a body that stops at its first step. A walk that was done before passes over the answers that lead to nothing new (crate `uses`). A walk is a
+// depth-first search over answers in rising order (crate `search`), so that a new answer comes by the least evidence of the lowest rule; at its
+// end a round's records are put in order (crate `arranging`). Tables that a round adds nothing to are closed, and every record in them is reached
+// or justified: so they hold exactly the run's calls and answers.
 use records::bodies;
 use search::Job;
 use search::Leave;
 use search::Spot;
+use steps::state::Call;
+use steps::state::State;
+use steps::word;
 ghost use mathlib.Core.Path.{_≡_};
+ghost use mathlib.Core.Bool.{false};
 ghost use mathlib.Core.List.{List};
-ghost use Prim.Native.Nat.{ℕ, _<_, _≤_};
+ghost use Prim.Native.Nat.{ℕ, _+_, _*_, _/_, _<_, _≤_};
 ghost use lib.ListN.{length};
 ghost use Rattle.steps.proofs.AcceptanceLaws.{AcceptedWords};
-ghost use Rattle.records.specs.Records.{bodies-of};
+ghost use Rattle.steps.specs.Widths.{rule-width};
+ghost use Rattle.records.specs.Records.{bodies-of, call-width};
+ghost use Rattle.records.specs.Bodies.{Short};
 ghost use Rattle.tabling.proofs.Evidence.{Among, Valid};
-ghost use Rattle.desk.specs.Desk.{packed-answers, mark-words};
+ghost use Rattle.desk.specs.Desk.{open-calls, packed-answers, mark-words};
 ghost use Rattle.marks.specs.Marks.{Stamped};
 ghost use Rattle.uses.specs.Uses.{heat, uses-in};
 ghost use Rattle.invariants.proofs.Going.{Kept, Indexed, in-words};
 ghost use Rattle.invariants.proofs.Filling.{Standing, Went, Filled};
+ghost use Rattle.invariants.proofs.Rounds.{Stopped, Beginning};
 
 // How many records the tables hold and how many rounds added some, or that a table is full.
 pub struct Counted {
@@ -50,6 +57,47 @@ pub struct Ended {
     pub walk: u64,
 }
 
+// The call of call record i.
+fn call_at(calls: &[u64], i: usize) -> Call
+    requires { ⌜ call-width * i + 3 ≤ length (now calls) ⌝ }
+    ensures { λ r. ⌜ (r .action ≡ open-calls (now (calls .entry)) i .action i) × (r .state .0 ≡ open-calls (now (calls .entry)) i .state i) ⌝ }
+{
+    Call {
+        action: desk::action_of(calls, i),
+        state: desk::state_of(calls, i),
+    }
+}
+
+// Whether a walk of the body goes past its first step, or comes to a call there or to the end.
+fn goes_on(body: &[u16], state: State) -> bool
+    ensures { λ r. ⌜ (r ≡ false → Stopped (now (body .entry)) (state .0)) ⌝ }
+{
+    if body.len() == 0 {
+        return true;
+    }
+    let step = body[0];
+    if word::is_call(step) {
+        return true;
+    }
+    let next = word::elementary(step, state);
+    match next {
+        word::Next::On(_) => true,
+        word::Next::Stuck => false,
+    }
+}
+
+// Whether the body at this place, of the rules and the goal behind them, is one of the call's action, and a walk of it goes past its first step.
+fn begins<'a>(rules: &'a [u16], goal: &'a [u16], rule: usize, call: Call) -> bool
+    requires { ⌜ Short (now rules) (now goal) × (length (now rules) / rule-width ≤ 256) ⌝ }
+    ensures { λ r. ⌜ Beginning (now (rules .entry)) (now (goal .entry)) rule (call .action) (call .state .0) r ⌝ }
+{
+    if !bodies::is_at(rules, rule, call.action) {
+        return false;
+    }
+    let number = bodies::number_of(rule, rules.len() / word::RULE_WORDS);
+    goes_on(bodies::steps_of(rules, goal, number), call.state)
+}
+
 // One round: walks every body of the call records from `first` on, but for those that have nothing to add, with the answers that stood at its
 // start, and adds what it finds.
 fn round<'a>(
@@ -67,7 +115,7 @@ fn round<'a>(
         (now (list .entry)) (stage .calls) (now (answers .entry)) (stage .answers) (r .full) (now (calls .exit)) (now (list .exit)) (r .calls)
         (now (answers .exit)) (r .answers) (r .walk) ⌝ }
 {
-    let count = rules.len() / steps::word::RULE_WORDS;
+    let count = rules.len() / word::RULE_WORDS;
     let rows = stage.calls;
     let known = stage.answers;
     let walked = stage.walked;
@@ -89,7 +137,7 @@ fn round<'a>(
                 }
             }
             for rule in 0..count + 1 {
-                if !bodies::is_at(rules, rule, desk::action_of(calls, row)) {
+                if !begins(rules, goal, rule, call_at(calls, row)) {
                     continue;
                 }
                 let number = bodies::number_of(rule, count);
@@ -220,8 +268,7 @@ pub fn fill<'a>(
                 rounds: rounds,
             };
         }
-        arranging::order_calls(calls, n, rows, list);
-        arranging::order_answers(answers, m, known);
+        arranging::order(calls, n, rows, list, answers, m, known);
         walked = n;
         seen = m;
         n = rows;

@@ -9,8 +9,7 @@ use lib.ListN.{length, getD, set, length-set}
 use lib.Seq.{getD-set-same, getD-set-other}
 use Rattle.sorting.specs.Shuffled.{Before, key-at, Sorted}
 use Rattle.sorting.proofs.Keys.{key-single}
-use Rattle.radix.specs.Lines.{line-width, LinesSorted}
-use Rattle.listing.specs.Listing.{Below}
+use Rattle.radix.specs.Lines.{line-width, Below, LinesSorted}
 use Rattle.finals.specs.Finals.{Lined, Taken}
 
 -- ---- the lines written

@@ -10,8 +10,7 @@ use Rattle.steps.specs.State.{State}
 use Rattle.steps.specs.Counting.{Rising}
 use Rattle.records.specs.Records.{Calls, Answers}
 use Rattle.records.specs.Storage.{HeldAnswer, FindCall}
-use Rattle.radix.specs.Lines.{line-width, word-of}
-use Rattle.listing.specs.Listing.{Below}
+use Rattle.radix.specs.Lines.{line-width, word-of, Below}
 
 -- Of the first n records those of this call record, in their order.
 unfoldable pub finals-below : Answers → ℕ → ℕ → List State

@@ -9,15 +9,11 @@ ghost use mathlib.Core.List.{_++_};
 ghost use Prim.Native.Nat.{_+_, _*_, _≤_};
 ghost use lib.ListN.{length, drop};
 ghost use Rattle.sorting.specs.Shuffled.{Sorted};
-ghost use Rattle.radix.specs.Lines.{line-width};
+ghost use Rattle.radix.specs.Lines.{line-width, Below};
 ghost use Rattle.records.specs.Records.{call-table, call-width};
 ghost use Rattle.records.proofs.Growth.{AnswersOnce};
 ghost use Rattle.desk.specs.Desk.{packed-answers, packed-width};
-ghost use Rattle.listing.specs.Listing.{Below};
 ghost use Rattle.finals.specs.Finals.{finals-below, FinalsListed, CallFinals, Lined, Taken};
-
-// A line has so many words.
-const LINE_WORDS: usize = 3;
 
 // How many of the first m answer records are of this call record.
 pub fn count(answers: &[u64], m: usize, row: u64) -> u64
@@ -61,8 +57,8 @@ fn put_lines(list: &[u64], n: usize, words: &mut [u64], at: usize)
 {
     let mut i = 0;
     while i < n {
-        words[at + LINE_WORDS * i] = 0;
-        words[at + LINE_WORDS * i + 1] = list[i];
+        words[at + radix::LINE_WORDS * i] = 0;
+        words[at + radix::LINE_WORDS * i + 1] = list[i];
         i += 1;
     }
 }
@@ -74,7 +70,7 @@ fn take_words(words: &[u64], at: usize, n: usize, list: &mut [u64])
 {
     let mut i = 0;
     while i < n {
-        list[i] = words[at + LINE_WORDS * i + 1];
+        list[i] = words[at + radix::LINE_WORDS * i + 1];
         i += 1;
     }
 }
@@ -86,7 +82,7 @@ fn by_lines(list: &mut [u64], n: usize, words: &mut [u64], at: usize)
     ensures { λ _. ⌜ Below at (now (words .entry)) (now (words .exit)) ⌝ }
 {
     put_lines(list, n, words, at);
-    radix::sort(words, at, at + LINE_WORDS * n, n);
+    radix::sort(words, at, at + radix::LINE_WORDS * n, n);
     take_words(words, at, n, list);
 }
 

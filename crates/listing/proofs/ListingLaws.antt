@@ -11,10 +11,10 @@ use Rattle.sorting.specs.Permuted.{Permuted}
 use Rattle.sorting.specs.Shuffled.{Shuffled, NumbersSorted, Before}
 use Rattle.sorting.proofs.Orders.{no-later-apart}
 use Rattle.sorting.proofs.SortedLaws.{number-moved}
-use Rattle.radix.specs.Lines.{line-width, word-of, LinesSorted}
+use Rattle.radix.specs.Lines.{line-width, word-of, Below, LinesSorted}
 use Rattle.records.specs.Records.{Calls, call-table, call-width}
 use Rattle.records.proofs.Growth.{CallsOnce, row-once}
-use Rattle.listing.specs.Listing.{key-of, Numbered, CallsListed, Below, LinePut, Lined, Taken}
+use Rattle.listing.specs.Listing.{key-of, Numbered, CallsListed, LinePut, Lined, Taken}
 
 -- The numbers in another order stand at the head of a list that is 0 past them, and their keys do not fall: the calls are listed.
 module _ (calls : Calls) (len : ℕ) (list : List ℕ) (O : Permuted 0 (calls .count)) (long : length list ≡ len) (stands : (p : ℕ) → p < calls .count → getD list p 0 ≡ O .from p)

@@ -6,7 +6,7 @@ use mathlib.Core.Logic.{_⊎_}
 use lib.ListN.{length, getD}
 use Rattle.sorting.specs.Shuffled.{Before}
 use Rattle.records.specs.Records.{Calls, call-width}
-use Rattle.radix.specs.Lines.{line-width, word-of}
+use Rattle.radix.specs.Lines.{line-width, word-of, Below}
 
 -- "By action and then state": the key of call record i.
 abbrev pub key-of : Calls → ℕ → ℕ × ℕ
@@ -28,11 +28,6 @@ pub record CallsListed (calls : Calls) (len : ℕ) (list : List ℕ) : Type 0 wh
   pub past : (p : ℕ) → calls .count ≤ p → getD list p 0 ≡ 0
 
 -- ---- by way of lines
-
--- The words before a place stay.
-pub record Below (at : ℕ) (words words′ : List ℕ) : Type 0 where
-  pub long : length words′ ≡ length words
-  pub stays : (p : ℕ) → p < at → getD words′ p 0 ≡ getD words p 0
 
 -- The line of call record i stands at a place: action, state and number; all else stays.
 pub record LinePut (calls : List ℕ) (i at : ℕ) (words words′ : List ℕ) : Type 0 where

@@ -6,13 +6,10 @@ use records::tables;
 ghost use mathlib.Core.Path.{_≡_};
 ghost use Prim.Native.Nat.{_+_, _*_, _<_, _≤_};
 ghost use lib.ListN.{length, getD};
-ghost use Rattle.radix.specs.Lines.{line-width};
+ghost use Rattle.radix.specs.Lines.{line-width, Below};
 ghost use Rattle.records.specs.Records.{call-table, call-width};
 ghost use Rattle.records.proofs.Growth.{CallsOnce};
-ghost use Rattle.listing.specs.Listing.{Numbered, LinePut, Lined, Taken, CallsListed, Below};
-
-// A line has so many words.
-const LINE_WORDS: usize = 3;
+ghost use Rattle.listing.specs.Listing.{Numbered, LinePut, Lined, Taken, CallsListed};
 
 // The number i where it is below n, else 0.
 fn below(i: usize, n: usize) -> u64
@@ -59,7 +56,7 @@ fn put_lines(calls: &[u64], n: usize, words: &mut [u64], at: usize)
 {
     let mut i = 0;
     while i < n {
-        put_line(calls, i, words, at + LINE_WORDS * i);
+        put_line(calls, i, words, at + radix::LINE_WORDS * i);
         i += 1;
     }
 }
@@ -70,7 +67,7 @@ fn number_of(words: &[u64], at: usize, n: usize, i: usize) -> u64
     ensures { λ r. ⌜ (i < n → r ≡ getD (now (words .entry)) (at + line-width * i + 2) 0) × (n ≤ i → r ≡ 0) ⌝ }
 {
     if i < n {
-        return words[at + LINE_WORDS * i + 2];
+        return words[at + radix::LINE_WORDS * i + 2];
     }
     0
 }
@@ -95,7 +92,7 @@ fn by_lines(calls: &[u64], n: usize, list: &mut [u64], words: &mut [u64], at: us
     ensures { λ _. ⌜ Below at (now (words .entry)) (now (words .exit)) ⌝ }
 {
     put_lines(calls, n, words, at);
-    radix::sort(words, at, at + LINE_WORDS * n, n);
+    radix::sort(words, at, at + radix::LINE_WORDS * n, n);
     take_numbers(words, at, n, list);
 }
 
@@ -107,7 +104,7 @@ pub fn list(calls: &[u64], n: usize, list: &mut [u64], words: &mut [u64], at: us
     ensures { λ _. ⌜ CallsListed (call-table (now (calls .entry)) n) (length (now (list .entry))) (now (list .exit)) ⌝ }
     ensures { λ _. ⌜ Below at (now (words .entry)) (now (words .exit)) ⌝ }
 {
-    if n <= (words.len() - at) / (LINE_WORDS + LINE_WORDS) {
+    if n <= (words.len() - at) / (radix::LINE_WORDS + radix::LINE_WORDS) {
         by_lines(calls, n, list, words, at);
         return;
     }

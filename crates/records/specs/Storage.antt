@@ -3,11 +3,10 @@ use Prim.Native.Nat.{ℕ, _+_, _*_, _<_, _≤_}
 use mathlib.Core.Path.{_≡_}
 use mathlib.Core.Bool.{Bool, true, false, cond}
 use mathlib.Core.List.{List}
-use mathlib.Core.Logic.{_⊎_}
 use lib.ListN.{length, getD}
 use lib.Dec.{ltb}
 use Rattle.steps.specs.State.{State}
-use Rattle.records.specs.Records.{Calls, Answers, room}
+use Rattle.records.specs.Records.{Calls, Answers}
 
 -- ---- the words
 
@@ -68,12 +67,6 @@ pub data CallPut (places : ℕ) (calls : Calls) (a : ℕ) (D : State) (r : ℕ) 
       → CallPut places calls a D r calls′ row full
   call-no-room : full ≡ true → calls .count ≡ places → NoCall calls a D → calls′ ≡ calls → CallPut places calls a D r calls′ row full
 
--- What the code leaves in the words.
-pub record CallStored (width : ℕ) (words : List ℕ) (n a : ℕ) (D : State) (r : ℕ) (words′ : List ℕ) (row n′ : ℕ) (full : Bool) : Type 0 where
-  pub long : length words′ ≡ length words
-  pub stored : Stored width words′ n′
-  pub put : CallPut (room width (length words)) (calls-in width words n) a D r (calls-in width words′ n′) row full
-
 -- ---- answers
 
 -- Record x is of this call record and ends in this state.
@@ -119,29 +112,3 @@ pub data AnswerPut (places : ℕ) (answers : Answers) (row : ℕ) (f : State) (r
       → AnswerPut places answers row f rule evidence r answers′ full
   answer-no-room : full ≡ true → answers .count ≡ places → NoAnswer answers row f → answers′ ≡ answers
       → AnswerPut places answers row f rule evidence r answers′ full
-
-pub record AnswerStored (width : ℕ) (words : List ℕ) (n row : ℕ) (f : State) (rule : ℕ) (evidence : List ℕ) (r : ℕ) (words′ : List ℕ) (n′ : ℕ)
-    (full : Bool) : Type 0 where
-  pub long : length words′ ≡ length words
-  pub stored : Stored width words′ n′
-  pub put : AnswerPut (room width (length words)) (answers-in width words n) row f rule evidence r (answers-in width words′ n′) full
-
--- ---- the words of one record written
-
--- Word i is none of record n.
-abbrev pub Beside : ℕ → ℕ → ℕ → Type 0
-Beside width n i = (i < width * n) ⊎ (width * n + width ≤ i)
-
-pub record PutCall (width : ℕ) (words : List ℕ) (n a : ℕ) (D : State) (r : ℕ) (words′ : List ℕ) : Type 0 where
-  pub long : length words′ ≡ length words
-  pub other : (i : ℕ) → Beside width n i → getD words′ i 0 ≡ getD words i 0
-  pub new : CallAt (calls-in width words′ n) n a D
-  pub new-round : 2 < width → calls-in width words′ n .round n ≡ r
-
-pub record PutAnswer (width : ℕ) (words : List ℕ) (m row : ℕ) (f : State) (rule : ℕ) (evidence : List ℕ) (r : ℕ) (words′ : List ℕ) : Type 0 where
-  pub long : length words′ ≡ length words
-  pub other : (i : ℕ) → Beside width m i → getD words′ i 0 ≡ getD words i 0
-  pub new : AnswerAt (answers-in width words′ m) m row f
-  pub new-rule : answers-in width words′ m .rule m ≡ rule
-  pub new-evidence : (q : ℕ) → q < 16 → answers-in width words′ m .evidence m q ≡ getD evidence q 0
-  pub new-round : 19 < width → answers-in width words′ m .round m ≡ r

@@ -140,39 +140,35 @@ returns-2 c =
       outgrown = λ e. absurd (true-not-false (sym e));
     })
 
-order-calls-requires : tie.Need-order-calls-requires Inv-loop μ-loop
-order-calls-requires c κs =
-    let w = c .before .before .before .before .before .before .before .before .before .before .round .ensures in
-    let no = c .before .before .before .if1 .left in
-    ((w .kept .calls-open, w .indexed .of-calls, w .rows-in no), (c .before .before .before .before .before .before .before .before .before .before .before .before .before .before .loop .rounds + 1, λ k h i. w .made no .call-found k h i .1))
-
-order-answers-requires : tie.Need-order-answers-requires Inv-loop μ-loop
-order-answers-requires c κs =
-    let w = c .before .before .before .before .before .before .before .before .before .before .before .before .before .before .before .before .round .ensures in
-    let no = c .before .before .before .before .before .before .before .before .before .if1 .left in
-    (w .kept .answers-open, w .indexed .of-answers .covers, w .known-in no, w .made no .by-row)
+order-requires : tie.Need-order-requires Inv-loop μ-loop
+order-requires c κs =
+    let w = c .before .before .before .before .before .before .before .before .before .before .before .round .ensures in
+    let no = c .before .before .before .before .if1 .left in
+    let l = c .before .before .before .before .before .before .before .before .before .before .before .before .before .before .before in
+    ((w .kept .calls-open, w .indexed .of-calls, w .rows-in no), ((l .loop .rounds + 1, λ k h i. w .made no .call-found k h i .1), (w .kept .answers-open, w .indexed .of-answers .covers, w .known-in no, w .made no .by-row)))
 
 add-rounds : tie.Need-add-rounds Inv-loop μ-loop
-add-rounds c = let l = c .before .before .before .before .before .before .before .before .before .before .before .before .before .before .before .before .before .before .before .before .before .before .before .loop .inv in omega (arith, l .few, l .kept .calls-open .stored .most, l .kept .answers-open .fits)
+add-rounds c = let l = c .before .before .before .before .before .before .before .before .before .before .before .before .before .before .before .before .before .before .before .before .before .before .loop .inv in omega (arith, l .few, l .kept .calls-open .stored .most, l .kept .answers-open .fits)
 
 loop-less : tie.Need-loop-less Inv-loop μ-loop
 loop-less c =
-    let w = c .before .before .before .before .before .before .before .before .before .before .before .before .before .before .before .before .before .before .before .round .ensures in
-    let no = c .before .before .before .before .before .before .before .before .before .before .before .before .if1 .left in
-    omega (arith, w .kept .calls-open .stored .most, w .kept .answers-open .fits, w .rows-in no, w .known-in no, c .before .before .before .before .before .before .before .before .before .before .before .if2 .left)
+    let w = c .before .before .before .before .before .before .before .before .before .before .before .before .before .before .before .before .before .before .round .ensures in
+    let no = c .before .before .before .before .before .before .before .before .before .before .before .if1 .left in
+    omega (arith, w .kept .calls-open .stored .most, w .kept .answers-open .fits, w .rows-in no, w .known-in no, c .before .before .before .before .before .before .before .before .before .before .if2 .left)
 
 loop-again : tie.Need-loop-again Inv-loop μ-loop
 loop-again c =
-    let w = c .before .before .before .before .before .before .before .before .before .before .before .before .before .before .before .before .before .before .before .round .ensures in
-    let at-loop = c .before .before .before .before .before .before .before .before .before .before .before .before .before .before .before .before .before .before .before .before .before .before .before in
+    let w = c .before .before .before .before .before .before .before .before .before .before .before .before .before .before .before .before .before .before .round .ensures in
+    let at-loop = c .before .before .before .before .before .before .before .before .before .before .before .before .before .before .before .before .before .before .before .before .before .before in
     let l = at-loop .loop .inv in
-    let entry = c .before .before .before .before .before .before .before .before .before .before .before .before .before .before .before .before .before .before .before .before .before .before .before .before .before .before .before .before .before in
-    let no = c .before .before .before .before .before .before .before .before .before .before .before .before .if1 .left in
+    let entry = c .before .before .before .before .before .before .before .before .before .before .before .before .before .before .before .before .before .before .before .before .before .before .before .before .before .before .before .before in
+    let no = c .before .before .before .before .before .before .before .before .before .before .before .if1 .left in
     let (fluents, actions, words) = entry .pre .1 .0 in
     let (rs, valid) = entry .pre .1 .1 in
     let S₀ = l .round rs valid in
-    let oc = c .before .before .before .before .before .before .before .before .order-calls .ensures in
-    let oa = c .before .before .order-answers .ensures _ (index-ordered oc (made-inside (S₀ .valid) (w .made no)) (w .indexed .of-answers)) in
+    let ordered = c .before .before .before .before .before .before .order .ensures in
+    let oc = ordered .0 in
+    let oa = ordered .1 _ (index-ordered oc (made-inside (S₀ .valid) (w .made no)) (w .indexed .of-answers)) in
     let proper = proper-of (entry .args .rules .now) (entry .args .goal .now) words in
     let most = w .kept .calls-open .stored .most in
     record {
@@ -183,11 +179,11 @@ loop-again c =
       indexed = record { of-calls = oc .index; of-answers = oa .index };
       stale = λ k. omega (arith, oc .heats k, w .stale k);
       stamped = stamped-ordered oc (w .stamped no);
-      few = omega (arith, l .few, w .rows-in no, w .known-in no, c .before .before .before .before .before .before .before .before .before .before .before .if2 .left);
+      few = omega (arith, l .few, w .rows-in no, w .known-in no, c .before .before .before .before .before .before .before .before .before .before .if2 .left);
       sooner = sooner-ordered (at-loop .loop .calls) (at-loop .loop .n) (at-loop .loop .answers) (at-loop .loop .m) _ _ _ _ _ _ _ _ oc oa (w .rows-in no) (w .known-in no) most _ (w .sooner no);
       rounded = λ z.
           (let R = gathered-rounded (at-loop .loop .calls) (at-loop .loop .n) (at-loop .loop .answers) (at-loop .loop .m) _ _ _ _ _ _ _ _ oc oa (w .rows-in no) (w .known-in no) most proper (S₀ .valid) (w .next no rs S₀ .0 .valid) (w .gathered no z) in
-          rw (plus-one (at-loop .loop .rounds)) (went (l .rounded z) (rw (plus-one (at-loop .loop .rounds)) at R) (omega (arith, w .rows-in no, w .known-in no, c .before .before .before .before .before .before .before .before .before .before .before .if2 .left))));
+          rw (plus-one (at-loop .loop .rounds)) (went (l .rounded z) (rw (plus-one (at-loop .loop .rounds)) at R) (omega (arith, w .rows-in no, w .known-in no, c .before .before .before .before .before .before .before .before .before .before .if2 .left))));
       round = λ roots v.
           (let S = l .round roots v in
           round-ordered (at-loop .loop .calls) (at-loop .loop .n) (at-loop .loop .answers) (at-loop .loop .m) _ _ _ _ _ _ _ _ oc oa (w .rows-in no) (w .known-in no) most proper (S .valid) (w .made no) (w .next no roots S .0));
@@ -212,8 +208,7 @@ fill-spec =
     same-length-5
     same-length-6
     returns-2
-    order-calls-requires
-    order-answers-requires
+    order-requires
     add-rounds
     loop-less
     loop-again)

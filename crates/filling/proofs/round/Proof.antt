@@ -27,7 +27,7 @@ use Rattle.records.proofs.Growth.{Tables, tables}
 use Rattle.invariants.proofs.Cold.{Past}
 use Rattle.invariants.proofs.Frames.{uses-same, looked-kept, looked-indexed, marked-uses, marked-kept, marked-indexed}
 use Rattle.invariants.proofs.Going.{in-words, Going, going-start, going-on, going-back, going-fits, on-less, back-less}
-use Rattle.invariants.proofs.Rounds.{Round, Rows, Rules, round-kept, rows-past, rows-start, rows-round, rows-passed, rules-start, rules-skip, rules-next, rows-next, rows-finished, rows-gathered, rows-sooner, rules-lower}
+use Rattle.invariants.proofs.Rounds.{Round, Rows, Rules, round-kept, rows-past, rows-start, rows-round, rows-passed, rules-start, rules-stopped, rules-next, rows-next, rows-finished, rows-gathered, rows-sooner, rules-lower}
 use Rattle.invariants.proofs.Filling.{Begins, RowsDone, RulesDone, Walked}
 use borrow.Author.Needs.{needs}
 use Rattle.filling.proofs.round.Statement.{statement}
@@ -112,8 +112,8 @@ marked-at : (f : Found) (rs : List (ℕ × ℕ)) (begun : Begin)
 marked-at f rs begun R = rules-marked (ap (λ (c : Calls). tables c (packed-answers (f .before .before .before .before .before .before .before .before .before .before .before .before .before .loop2 .answers) (f .before .before .before .before .before .before .before .before .before .before .before .before .before .loop2 .m))) (alone-calls (f .before .before .before .before .before .next-walk .ensures .1) (f .before .before .before .before .before .before .before .before .before .before .before .before .before .loop2 .n))) (marked-uses (f .before .before .before .before .before .next-walk .ensures .1) (f .before .before .before .before .before .before .before .before .before .before .before .before .before .loop2 .list)) R
 
 -- the action of the call record is that which was read
-action-at : (f : Found) → open-calls (f .before .before .before .before .before .next-walk .last .0) (f .before .before .before .before .before .before .before .before .before .before .before .before .before .loop2 .n) .action (f .before .before .before .before .before .before .before .before .before .before .before .before .before .before .before .before .loop .row) ≡ f .before .before .before .before .before .before .before .before .before .before .action-of .result
-action-at f = ap (λ (c : Calls). c .action (f .before .before .before .before .before .before .before .before .before .before .before .before .before .before .before .before .loop .row)) (alone-calls (f .before .before .before .before .before .next-walk .ensures .1) (f .before .before .before .before .before .before .before .before .before .before .before .before .before .loop2 .n)) ∙ sym (f .before .before .before .before .before .before .before .before .before .before .action-of .ensures)
+action-at : (f : Found) → open-calls (f .before .before .before .before .before .next-walk .last .0) (f .before .before .before .before .before .before .before .before .before .before .before .before .before .loop2 .n) .action (f .before .before .before .before .before .before .before .before .before .before .before .before .before .before .before .before .loop .row) ≡ f .before .before .before .before .before .before .before .before .before .before .call-at .result .action
+action-at f = ap (λ (c : Calls). c .action (f .before .before .before .before .before .before .before .before .before .before .before .before .before .before .before .before .loop .row)) (alone-calls (f .before .before .before .before .before .next-walk .ensures .1) (f .before .before .before .before .before .before .before .before .before .before .before .before .before .loop2 .n)) ∙ sym (f .before .before .before .before .before .before .before .before .before .before .call-at .ensures .0)
 
 -- the walk's body is that of a rule of the call record's action
 given-at : (f : Found) (rs : List (ℕ × ℕ)) (begun : Begin)
@@ -128,9 +128,9 @@ given-at f rs begun R =
       valid = R .rows-closed .before .valid;
       enough = R .rows-closed .known-in;
       row-in = omega (arith, R .rows-closed .rows-in, f .before .before .before .before .before .before .before .before .before .before .before .before .before .before .before .loop-test .taken, f .before .before .before .before .before .before .before .before .before .before .before .before .before .before .before .before .before .before .before .before .span-of .ensures .0 .top-in);
-      fits = rw (f .before .before .before .before .before .before .before .number-of .ensures, action-at f) (sym (f .before .before .before .before .before .before .before .before .before .is-at .ensures) ∙ not-false _ (f .before .before .before .before .before .before .before .before .if3 .left));
+      fits = rw (f .before .before .before .before .before .before .before .number-of .ensures, action-at f) (f .before .before .before .before .before .before .before .before .before .begins .ensures .fits (not-false _ (f .before .before .before .before .before .before .before .before .if3 .left)));
       words = f .before .before .steps-of .ensures .0;
-      past = λ (h, k). past-words (f .before .before .steps-of .ensures .0) (rows-past _ _ (R .rows-closed) (f .before .before .before .before .before .before .before .number-of .result) (rw (f .before .before .before .before .before .before .before .number-of .ensures, action-at f) (sym (f .before .before .before .before .before .before .before .before .before .is-at .ensures) ∙ not-false _ (f .before .before .before .before .before .before .before .before .if3 .left))) h k);
+      past = λ (h, k). past-words (f .before .before .steps-of .ensures .0) (rows-past _ _ (R .rows-closed) (f .before .before .before .before .before .before .before .number-of .result) (rw (f .before .before .before .before .before .before .before .number-of .ensures, action-at f) (f .before .before .before .before .before .before .before .before .before .begins .ensures .fits (not-false _ (f .before .before .before .before .before .before .before .before .if3 .left)))) h k);
       lower = λ j k e g w. rules-lower _ _ _ R j (lower-number (i .args .rules .now) (i .args .goal .now) (i .pre .accepted .few-rules) j (open-calls (f .before .before .before .before .before .next-walk .last .0) (f .before .before .before .before .before .before .before .before .before .before .before .before .before .loop2 .n) .action (f .before .before .before .before .before .before .before .before .before .before .before .before .before .before .before .before .loop .row)) (f .before .before .before .before .before .before .before .before .before .before .before .before .before .loop2 .rule) e (omega (arith, f .before .before .before .before .before .before .before .before .before .before .before .before .loop2-test .taken)) (rw (f .before .before .before .before .before .before .before .number-of .ensures) at k)) e g w;
       row-last = λ x h l. R .rows-closed .latest x (omega (arith, R .rows-closed .since .all-known)) l;
       row-old = omega (arith, R .rows-closed .base-rows, f .before .before .before .before .before .before .before .before .before .before .before .before .before .before .before .loop-test .taken, f .before .before .before .before .before .before .before .before .before .before .before .before .before .before .before .before .before .before .before .before .span-of .ensures .0 .top-in);
@@ -254,8 +254,8 @@ loop2-holds c =
       closed = λ roots begun R. rules-start _ _ _ R;
     }
 
-action-of-requires : tie.Need-action-of-requires Inv-loop3 μ-loop3 Inv-loop2 μ-loop2 Inv-loop μ-loop Inv-round μ-round
-action-of-requires c κs = omega (arith, c .before .before .loop2 .inv .words .kept .calls-open .stored .fits, c .before .before .loop2 .inv .rows-in, c .before .before .before .before .loop-test .taken, c .before .before .before .before .before .before .before .before .before .span-of .ensures .0 .top-in)
+call-at-requires : tie.Need-call-at-requires Inv-loop3 μ-loop3 Inv-loop2 μ-loop2 Inv-loop μ-loop Inv-round μ-round
+call-at-requires c κs = omega (arith, c .before .before .loop2 .inv .words .kept .calls-open .stored .fits, c .before .before .loop2 .inv .rows-in, c .before .before .before .before .loop-test .taken, c .before .before .before .before .before .before .before .before .before .span-of .ensures .0 .top-in)
 
 add-rule : tie.Need-add-rule Inv-loop3 μ-loop3 Inv-loop2 μ-loop2 Inv-loop μ-loop Inv-round μ-round
 add-rule c = omega (arith, c .before .before .before .before .loop2-test .taken, c .before .before .before .before .before .loop2 .inv .rule-in, c .before .before .before .before .before .before .before .before .before .before .before .before .before .before .before .before .before .before .before .before .before .pre .accepted .few-rules)
@@ -274,11 +274,11 @@ loop2-again c =
       rule-in = omega (arith, at-loop2-test .loop2-test .taken);
       rows-in = l .rows-in;
       known-in = l .known-in;
-      closed = λ roots begun R. rules-skip _ _ _ (l .closed roots begun R) (λ e. true-not-false (sym (rw (← c .before .before .action-of .ensures) at e) ∙ sym (c .before .is-at .ensures) ∙ not-true _ (c .if3 .taken)));
+      closed = λ roots begun R. rules-stopped _ _ _ (l .closed roots begun R) (rw (c .before .before .call-at .ensures .0, c .before .before .call-at .ensures .1) at (c .before .begins .ensures .stops (not-true _ (c .if3 .taken))));
     }
 
-is-at-requires : tie.Need-is-at-requires Inv-loop3 μ-loop3 Inv-loop2 μ-loop2 Inv-loop μ-loop Inv-round μ-round
-is-at-requires c κs = omega (arith, c .before .before .before .before .before .before .before .before .before .before .before .before .before .before .before .before .before .before .before .pre .accepted .few-rules)
+begins-requires : tie.Need-begins-requires Inv-loop3 μ-loop3 Inv-loop2 μ-loop2 Inv-loop μ-loop Inv-round μ-round
+begins-requires c κs = let accepted = c .before .before .before .before .before .before .before .before .before .before .before .before .before .before .before .before .before .before .before .pre .accepted in (short-of _ _ accepted, accepted .few-rules)
 
 next-walk-requires : tie.Need-next-walk-requires Inv-loop3 μ-loop3 Inv-loop2 μ-loop2 Inv-loop μ-loop Inv-round μ-round
 next-walk-requires c κs =
@@ -289,10 +289,10 @@ steps-of-requires : tie.Need-steps-of-requires Inv-loop3 μ-loop3 Inv-loop2 μ-l
 steps-of-requires c κs =
     let at-number-of = c .before .before .before .before in
     let at-if3 = c .before .before .before .before .before in
-    let at-is-at = c .before .before .before .before .before .before in
-    let at-action-of = c .before .before .before .before .before .before .before in
+    let at-begins = c .before .before .before .before .before .before in
+    let at-call-at = c .before .before .before .before .before .before .before in
     let entry = c .before .before .before .before .before .before .before .before .before .before .before .before .before .before .before .before .before .before .before .before .before .before .before .before .before .before in
-    (short-of _ _ (entry .pre .accepted), (at-action-of .action-of .result, rw (at-number-of .number-of .ensures) (sym (at-is-at .is-at .ensures) ∙ not-false _ (at-if3 .if3 .left))))
+    (short-of _ _ (entry .pre .accepted), (at-call-at .call-at .result .action, rw (at-number-of .number-of .ensures) (at-begins .begins .ensures .fits (not-false _ (at-if3 .if3 .left)))))
 
 state-of-requires : tie.Need-state-of-requires Inv-loop3 μ-loop3 Inv-loop2 μ-loop2 Inv-loop μ-loop Inv-round μ-round
 state-of-requires c κs = omega (arith, c .before .before .before .before .next-walk .ensures .1 .long, c .before .before .before .before .before .before .before .before .before .before .before .before .loop2 .inv .words .kept .calls-open .stored .fits, c .before .before .before .before .before .before .before .before .before .before .before .before .loop2 .inv .rows-in, c .before .before .before .before .before .before .before .before .before .before .before .before .before .before .loop-test .taken, c .before .before .before .before .before .before .before .before .before .before .before .before .before .before .before .before .before .before .before .span-of .ensures .0 .top-in)
@@ -540,8 +540,8 @@ round-spec =
     loop-again
     add-rule-end
     loop2-holds
-    action-of-requires
-    is-at-requires
+    call-at-requires
+    begins-requires
     add-rule
     loop2-less
     loop2-again
