@@ -2,15 +2,16 @@
 use Prim.Native.Nat.{ℕ, _^_, _<_, _≤_}
 use native.Mathlib.Nat.{div-eq-of-lt}
 use mathlib.Core.Path.{_≡_, refl}
-use mathlib.Core.Bool.{Bool, true, false, not, _||_}
+use mathlib.Core.Bool.{Bool, true, false, not, _&&_, _||_}
 use mathlib.Core.Logic.{_⊎_, inl, inr}
-use lib.Dec.{eqb, ltb}
-use borrow.Author.Tests.{eq-eqb, lt-ltb, le-leb, leb-true, not-false}
+use lib.Dec.{eqb, ltb, leb}
+use borrow.Author.Tests.{eq-eqb, lt-ltb, le-ltb, le-leb, leb-true, not-false}
 use Rattle.steps.specs.Run.{Goal}
 use Rattle.steps.specs.Acceptance.{bad-state}
-use Rattle.steps.proofs.EachBelow.{both, each-at, each-all}
+use Rattle.steps.proofs.EachBelow.{both, each-at, each-all, true-not-false}
 use Rattle.records.specs.Records.{Calls, Answers, Bodies, justified}
-use Rattle.checks.specs.Checks.{last-round, good-call, good-calls, all-justified, bad-records}
+use Rattle.records.specs.Bodies.{is-goal}
+use Rattle.checks.specs.Checks.{last-round, good-call, good-calls, all-justified, bad-records, good-row}
 
 -- A call record of the goal or of an action below the count, in a state of the fluents counted, of a round that a run can come to.
 pub record Proper (fluents actions : ℕ) (calls : Calls) (i : ℕ) : Type 0 where
@@ -48,3 +49,47 @@ unfolding bad-records good-calls good-call
 rounds-right fluents actions bodies calls answers e i l =
     let good = each-at (good-call fluents actions calls) (calls .count) (both (good-calls fluents actions calls) _ (not-false _ e) .0) i l in
     leb-true (calls .round i) last-round (both (not (bad-state fluents (calls .state i))) _ (both (eqb (calls .action i) Goal || ltb (calls .action i) actions) _ good .1) .1)
+
+-- ---- the parts of a good record
+
+module _ (first second : Bool) (fluents actions : ℕ) (calls : Calls) (i : ℕ) where
+  -- an action that is neither that of a goal which stands nor below the count
+  pub bad-action : is-goal first second (calls .action i) ≡ false → actions ≤ calls .action i → false ≡ good-row first second fluents actions calls i
+  unfolding good-row
+  bad-action g l = rw (g, le-ltb (calls .action i) actions l) refl
+
+  -- any other: by the state
+  pub by-state : {a : ℕ} {b : Bool} → a ≡ calls .action i → ((is-goal first second a ≡ true) ⊎ (a < actions)) → b ≡ bad-state fluents (calls .state i)
+      → not b ≡ good-row first second fluents actions calls i
+  unfolding good-row
+  by-state {a} {b} e k z = rw (← e, one k, ← z) refl
+    where
+      said : (g l : Bool) → l ≡ true → (g || l) ≡ true
+      said true l h = refl
+      said false l h = h
+
+      one : ((is-goal first second a ≡ true) ⊎ (a < actions)) → (is-goal first second a || ltb a actions) ≡ true
+      one (inl g) = rw g refl
+      one (inr l) = said (is-goal first second a) (ltb a actions) (lt-ltb a actions l)
+
+module _ (fluents actions : ℕ) (calls : Calls) (i : ℕ) where
+  -- a record of a run alone has a good action and state, and its round is right
+  pub by-round : good-row true false fluents actions calls i ≡ true → leb (calls .round i) last-round ≡ good-call fluents actions calls i
+  unfolding good-row good-call
+  by-round h =
+      let (a, s) = both (eqb (calls .action i) Goal || ltb (calls .action i) actions) _ h in
+      rw (a, s) refl
+
+  pub bad-row : good-row true false fluents actions calls i ≡ false → false ≡ good-call fluents actions calls i
+  unfolding good-row good-call
+  bad-row h = by (eqb (calls .action i) Goal || ltb (calls .action i) actions) (not (bad-state fluents (calls .state i))) (leb (calls .round i) last-round) h
+    where
+      by : (a s r : Bool) → (a && s) ≡ false → false ≡ (a && (s && r))
+      by true true r e = absurd (true-not-false e)
+      by true false r e = refl
+      by false s r e = refl
+
+-- ---- both tests, one after the other
+
+pub both-tested : {g j p q : Bool} → g ≡ p → g ≡ true → j ≡ q → not j ≡ not (p && q)
+both-tested e t f = rw (← e, t, ← f) refl

@@ -1,12 +1,13 @@
 -- The checks of tables that may come from anybody: 40 and 42. Assumes nothing.
-use Prim.Native.Nat.{ℕ}
-use mathlib.Core.Bool.{Bool, not, _&&_, _||_}
+use Prim.Native.Nat.{ℕ, _+_, _-_}
+use mathlib.Core.Bool.{Bool, cond, not, _&&_, _||_}
 use mathlib.Core.List.{List}
-use lib.ListN.{length}
+use lib.ListN.{length, getD}
 use lib.Dec.{eqb, leb, ltb}
 use Rattle.steps.specs.Run.{Goal}
 use Rattle.steps.specs.Acceptance.{each-below, bad-state}
 use Rattle.records.specs.Records.{Calls, Answers, Bodies, room, justified, call-width, answer-width}
+use Rattle.records.specs.Bodies.{is-goal}
 
 -- 40: a record count over its room
 unfoldable pub over-room : List ℕ → ℕ → List ℕ → ℕ → Bool
@@ -34,3 +35,30 @@ all-justified calls answers bodies = each-below (answers .count) (λ n. justifie
 -- 42: a call record with an action neither 64 nor below the count, a state bit too high, or a round over 131,071; or an answer not justified
 unfoldable pub bad-records : ℕ → ℕ → Bodies → Calls → Answers → Bool
 bad-records fluents actions bodies calls answers = not (good-calls fluents actions calls && all-justified calls answers bodies)
+
+-- ---- tables that two parties share
+
+-- "42 takes action 64 or 65 only where its goal is kept": the action is below the count or that of a goal which stands, of the first party or of
+-- the second, and no state bit is at or above the fluent count. Such a record has no round.
+unfoldable pub good-row : Bool → Bool → ℕ → ℕ → Calls → ℕ → Bool
+good-row first second fluents actions calls i =
+    (is-goal first second (calls .action i) || ltb (calls .action i) actions) && not (bad-state fluents (calls .state i))
+
+-- A good call record of either kind: a plain one, of tables that two parties share, or one with a round.
+abbrev pub good-record : Bool → Bool → Bool → ℕ → ℕ → Calls → ℕ → Bool
+good-record plain first second fluents actions calls = cond plain (good-row first second fluents actions calls) (good-call fluents actions calls)
+
+-- 42 there: a call record that is not good, or an answer that is not justified
+unfoldable pub bad-plain : Bool → Bool → ℕ → ℕ → Bodies → Calls → Answers → Bool
+bad-plain first second fluents actions bodies calls answers =
+    not (each-below (calls .count) (good-row first second fluents actions calls) && all-justified calls answers bodies)
+
+-- ---- words that are 0
+
+-- Every word from the first place on and below the second is 0.
+unfoldable pub clear-between : List ℕ → ℕ → ℕ → Bool
+clear-between words from to = each-below (to - from) (λ i. eqb (getD words (from + i) 0) 0)
+
+-- Every word from this place on is 0.
+abbrev pub clear-past : List ℕ → ℕ → Bool
+clear-past words from = clear-between words from (length words)

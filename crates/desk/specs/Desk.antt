@@ -55,9 +55,15 @@ pub record CallsOpen (calls list : List ℕ) (n : ℕ) : Type 0 where
   pub stored : Stored call-width calls n
   pub listed : room call-width (length calls) ≤ length list
 
--- m answer records stand in the words of the answer table, which has room for them as they are given.
-pub record AnswersOpen (answers : List ℕ) (m : ℕ) : Type 0 where
-  pub fits : m ≤ room answer-width (length answers)
+-- How many words of the answer table a record takes while a run lasts: its own, and one for what is noted of it.
+abbrev pub open-width : ℕ
+open-width = 9
+
+-- m answer records stand in the words of the answer table, which has room for so many at most.
+pub record AnswersOpen (most : ℕ) (answers : List ℕ) (m : ℕ) : Type 0 where
+  pub fits : m ≤ most
+  pub small : most ≤ 65536
+  pub long : open-width * most ≤ length answers
 
 -- ---- what is written
 

@@ -15,6 +15,9 @@ const ROUND_UNIT: u64 = 4294967296;
 
 const ROUND_TOP: u64 = 16777216;
 
+// How many words of the answer table a record takes while a run lasts: its own, and one for what is noted of it.
+pub const OPEN_WORDS: usize = 9;
+
 // The action of call record i.
 pub fn action_of(calls: &[u64], i: usize) -> u64
     requires { ⌜ call-width * i + 3 ≤ length (now calls) ⌝ }

@@ -19,7 +19,7 @@ use Rattle.canonical.proofs.Keys.{Rising}
 use Rattle.canonical.proofs.AfterRounds.{Once}
 use Rattle.canonical.proofs.TableRows.{call-row, rows-of, rows-calls, rows-call}
 use Rattle.canonical.proofs.CallList.{key-at, list-is}
-use Rattle.evaluator.proofs.Zeros.{zeros-at}
+use Rattle.records.proofs.Zeros.{zeros-at}
 use Rattle.listing.specs.Listing.{key-of, CallsListed}
 
 -- ---- the list that is promised

@@ -1,5 +1,4 @@
 -- Laws for this crate's proofs.
-pub mod Zeros
 pub mod Finishing
 pub mod CallNumbers
 pub mod Given

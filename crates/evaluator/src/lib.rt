@@ -1,6 +1,7 @@
 // Tabled evaluation of a goal over rule words: the call table and the list are cleared, the goal's call is put in, and rounds fill the tables
 // (crate `filling`); then the ends are counted and listed (crate `finals`), the calls are listed by action and then state (crate `listing`), and
 // both tables are given as they are promised.
+use records::bodies::Goals;
 use records::tables;
 use steps::accept;
 use steps::state::Call;
@@ -58,7 +59,7 @@ fn give(
         (now (ends .entry)) (now (ends .exit)) ⌝ }
 {
     desk::close_calls(calls, n);
-    let free = index::free_from(answers.len());
+    let free = desk::OPEN_WORDS * tables::room_of(answers.len(), tables::ANSWER_WORDS);
     let found = finals::of_call(calls, n, Call::goal(start), answers, m, ends, free);
     listing::list(calls, n, list, answers, free);
     desk::close_answers(answers, m);
@@ -99,7 +100,20 @@ fn tabulate<'a>(
             rounds: 0,
         };
     }
-    let run = filling::fill(rules, goal, calls, count, list, answers, 0, 0);
+    let most = tables::room_of(answers.len(), tables::ANSWER_WORDS);
+    let run = filling::fill(
+        rules,
+        goal,
+        goal,
+        Goals::ALONE,
+        calls,
+        count,
+        list,
+        answers,
+        0,
+        most,
+        0,
+    );
     let n = run.calls;
     let m = run.answers;
     let rounds = run.rounds;

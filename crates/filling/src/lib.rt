@@ -7,28 +7,25 @@
 // end a round's records are put in order (crate `arranging`). Tables that a round adds nothing to are closed, and every record in them is reached
 // or justified: so they hold exactly the run's calls and answers.
 use records::bodies;
+use records::bodies::Goals;
 use search::Job;
 use search::Leave;
 use search::Spot;
-use steps::state::Call;
 use steps::state::State;
 use steps::word;
 ghost use mathlib.Core.Path.{_≡_};
 ghost use mathlib.Core.Bool.{false};
 ghost use mathlib.Core.List.{List};
-ghost use Prim.Native.Nat.{ℕ, _+_, _*_, _/_, _<_, _≤_};
+ghost use Prim.Native.Nat.{ℕ, _<_, _≤_};
 ghost use lib.ListN.{length};
-ghost use Rattle.steps.proofs.AcceptanceLaws.{AcceptedWords};
-ghost use Rattle.steps.specs.Widths.{rule-width};
-ghost use Rattle.records.specs.Records.{bodies-of, call-width};
-ghost use Rattle.records.specs.Bodies.{Short};
+ghost use Rattle.records.specs.Bodies.{bodies-with};
 ghost use Rattle.tabling.proofs.Evidence.{Among, Valid};
-ghost use Rattle.desk.specs.Desk.{open-calls, packed-answers, mark-words};
+ghost use Rattle.desk.specs.Desk.{packed-answers, mark-words};
 ghost use Rattle.marks.specs.Marks.{Stamped};
 ghost use Rattle.uses.specs.Uses.{heat, uses-in};
 ghost use Rattle.invariants.proofs.Going.{Kept, Indexed, in-words};
-ghost use Rattle.invariants.proofs.Filling.{Standing, Went, Filled};
-ghost use Rattle.invariants.proofs.Rounds.{Stopped, Beginning};
+ghost use Rattle.invariants.proofs.Filling.{Accepted, Standing, Went, Filled};
+ghost use Rattle.invariants.proofs.Rounds.{Stopped};
 
 // How many records the tables hold and how many rounds added some, or that a table is full.
 pub struct Counted {
@@ -57,17 +54,6 @@ pub struct Ended {
     pub walk: u64,
 }
 
-// The call of call record i.
-fn call_at(calls: &[u64], i: usize) -> Call
-    requires { ⌜ call-width * i + 3 ≤ length (now calls) ⌝ }
-    ensures { λ r. ⌜ (r .action ≡ open-calls (now (calls .entry)) i .action i) × (r .state .0 ≡ open-calls (now (calls .entry)) i .state i) ⌝ }
-{
-    Call {
-        action: desk::action_of(calls, i),
-        state: desk::state_of(calls, i),
-    }
-}
-
 // Whether a walk of the body goes past its first step, or comes to a call there or to the end.
 fn goes_on(body: &[u16], state: State) -> bool
     ensures { λ r. ⌜ (r ≡ false → Stopped (now (body .entry)) (state .0)) ⌝ }
@@ -86,34 +72,26 @@ fn goes_on(body: &[u16], state: State) -> bool
     }
 }
 
-// Whether the body at this place, of the rules and the goal behind them, is one of the call's action, and a walk of it goes past its first step.
-fn begins<'a>(rules: &'a [u16], goal: &'a [u16], rule: usize, call: Call) -> bool
-    requires { ⌜ Short (now rules) (now goal) × (length (now rules) / rule-width ≤ 256) ⌝ }
-    ensures { λ r. ⌜ Beginning (now (rules .entry)) (now (goal .entry)) rule (call .action) (call .state .0) r ⌝ }
-{
-    if !bodies::is_at(rules, rule, call.action) {
-        return false;
-    }
-    let number = bodies::number_of(rule, rules.len() / word::RULE_WORDS);
-    goes_on(bodies::steps_of(rules, goal, number), call.state)
-}
-
 // One round: walks every body of the call records from `first` on, but for those that have nothing to add, with the answers that stood at its
 // start, and adds what it finds.
 fn round<'a>(
     rules: &'a [u16],
     goal: &'a [u16],
+    second: &'a [u16],
+    goals: Goals,
+    most: usize,
     first: usize,
     stage: Stage,
     calls: &mut [u64],
     list: &mut [u64],
     answers: &mut [u64],
 ) -> Ended
-    requires { ⌜ Standing (now rules) (now goal) (stage .round) first (stage .walked) (stage .seen) (now calls) (now list) (stage .calls)
-        (now answers) (stage .answers) (stage .walk) ⌝ }
-    ensures { λ r. ⌜ Went (now (rules .entry)) (now (goal .entry)) (stage .round) first (stage .walked) (stage .seen) (now (calls .entry))
-        (now (list .entry)) (stage .calls) (now (answers .entry)) (stage .answers) (r .full) (now (calls .exit)) (now (list .exit)) (r .calls)
-        (now (answers .exit)) (r .answers) (r .walk) ⌝ }
+    requires { ⌜ Accepted (now rules) (now goal) (now second) ⌝ }
+    requires { ⌜ Standing (bodies-with (now rules) (goals .first) (goals .second) (now goal) (now second)) most (stage .round) first (stage .walked)
+        (stage .seen) (now calls) (now list) (stage .calls) (now answers) (stage .answers) (stage .walk) ⌝ }
+    ensures { λ r. ⌜ Went (bodies-with (now (rules .entry)) (goals .first) (goals .second) (now (goal .entry)) (now (second .entry))) most
+        (stage .round) first (stage .walked) (stage .seen) (now (calls .entry)) (now (list .entry)) (stage .calls) (now (answers .entry))
+        (stage .answers) (r .full) (now (calls .exit)) (now (list .exit)) (r .calls) (now (answers .exit)) (r .answers) (r .walk) ⌝ }
 {
     let count = rules.len() / word::RULE_WORDS;
     let rows = stage.calls;
@@ -137,15 +115,21 @@ fn round<'a>(
                 }
             }
             for rule in 0..count + 1 {
-                if !begins(rules, goal, rule, call_at(calls, row)) {
+                let action = desk::action_of(calls, row);
+                if !bodies::is_at(rules, goals, rule, action) {
                     continue;
                 }
                 let number = bodies::number_of(rule, count);
+                let body = bodies::steps_for(rules, goal, second, goals, number, action);
+                if !goes_on(body, desk::state_of(calls, row)) {
+                    continue;
+                }
                 walk = marks::next_walk(calls, n, walk);
                 let job = Job {
                     rule: number,
                     row: row,
                     known: known,
+                    most: most,
                     walk: walk,
                     first: first,
                     old: span.old,
@@ -153,7 +137,6 @@ fn round<'a>(
                     warm: span.warm,
                     round: round,
                 };
-                let body = bodies::steps_of(rules, goal, number);
                 let mut chosen = [0u64; 16];
                 let mut rest = body;
                 let mut spot = Spot {
@@ -210,29 +193,34 @@ fn round<'a>(
     }
 }
 
-// Rounds over the call records from `first` on until one adds nothing, under the rules and the goal, or until a table is full. The tables hold
-// n0 call records and m0 answers at first, which have come in no round; what they can hold is fixed by the lengths of the lent words. The rounds
-// are counted from 1, and each record gets the number of the round that adds it; at a round's end its records are put in order.
+// Rounds over the call records from `first` on until one adds nothing, under the rules and the goals that stand, or until a table is full. The
+// tables hold n0 call records and m0 answers at first, which have come in no round; the call table can hold what its length allows, the answer
+// table `most`. The rounds are counted from 1, and each record gets the number of the round that adds it; at a round's end its records are put in
+// order.
 pub fn fill<'a>(
     rules: &'a [u16],
     goal: &'a [u16],
+    second: &'a [u16],
+    goals: Goals,
     calls: &mut [u64],
     n0: usize,
     list: &mut [u64],
     answers: &mut [u64],
     m0: usize,
+    most: usize,
     first: usize,
 ) -> Counted
-    requires { ⌜ Kept (now calls) (now list) n0 (now answers) m0 × Indexed (now calls) (now list) n0 (now answers) m0
+    requires { ⌜ Kept most (now calls) (now list) n0 (now answers) m0 × Indexed most (now calls) (now list) n0 (now answers) m0
         × Stamped (mark-words (now calls)) 0 × (first ≤ n0) × ((k : ℕ) → heat (uses-in (now calls) (now list)) k ≡ 0)
         × ((x : ℕ) → x < m0 → packed-answers (now answers) m0 .round x ≡ 0) ⌝ }
-    requires { ⌜ ((fluents : ℕ) × (actions : ℕ) × AcceptedWords fluents actions (now rules) (now goal)) ⌝ }
-    requires { ⌜ ((roots : List (ℕ × ℕ)) × Valid (bodies-of (now rules) (now goal)) (Among roots) (in-words (now calls) n0 (now answers) m0)) ⌝ }
-    ensures { λ r. ⌜ ((roots : List (ℕ × ℕ)) → Valid (bodies-of (now (rules .entry)) (now (goal .entry))) (Among roots)
-        (in-words (now (calls .entry)) n0 (now (answers .entry)) m0)
-        → Filled (now (rules .entry)) (now (goal .entry)) roots first (in-words (now (calls .entry)) n0 (now (answers .entry)) m0)
-        (now (calls .entry)) (now (list .entry)) (now (answers .entry)) (now (calls .exit)) (now (list .exit)) (now (answers .exit))
-        (r .full) (r .calls) (r .answers) (r .rounds)) ⌝ }
+    requires { ⌜ Accepted (now rules) (now goal) (now second) ⌝ }
+    requires { ⌜ ((roots : List (ℕ × ℕ)) × Valid (bodies-with (now rules) (goals .first) (goals .second) (now goal) (now second)) (Among roots)
+        (in-words (now calls) n0 (now answers) m0)) ⌝ }
+    ensures { λ r. ⌜ ((roots : List (ℕ × ℕ)) → Valid (bodies-with (now (rules .entry)) (goals .first) (goals .second) (now (goal .entry))
+        (now (second .entry))) (Among roots) (in-words (now (calls .entry)) n0 (now (answers .entry)) m0)
+        → Filled (bodies-with (now (rules .entry)) (goals .first) (goals .second) (now (goal .entry)) (now (second .entry))) most roots first
+        (in-words (now (calls .entry)) n0 (now (answers .entry)) m0) (now (calls .entry)) (now (list .entry)) (now (answers .entry))
+        (now (calls .exit)) (now (list .exit)) (now (answers .exit)) (r .full) (r .calls) (r .answers) (r .rounds)) ⌝ }
 {
     let mut n = n0;
     let mut m = m0;
@@ -249,7 +237,18 @@ pub fn fill<'a>(
             walk: walk,
             round: rounds + 1,
         };
-        let done = round(rules, goal, first, stage, calls, list, answers);
+        let done = round(
+            rules,
+            goal,
+            second,
+            goals,
+            most,
+            first,
+            stage,
+            calls,
+            list,
+            answers,
+        );
         let rows = done.calls;
         let known = done.answers;
         if done.full {
@@ -268,7 +267,7 @@ pub fn fill<'a>(
                 rounds: rounds,
             };
         }
-        arranging::order(calls, n, rows, list, answers, m, known);
+        arranging::order(calls, n, rows, list, answers, m, known, most);
         walked = n;
         seen = m;
         n = rows;

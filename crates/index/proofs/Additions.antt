@@ -13,7 +13,7 @@ use Rattle.records.specs.Storage.{NoCall, CallPut, call-added, NoAnswer, Answer
 use Rattle.desk.specs.Desk.{open-calls, packed-width, packed-answers, round-top, call-put, packed-record, Written, CallsOpen, AnswersOpen}
 use Rattle.desk.proofs.CallLaws.{put-long, put-notes, put-stored, put-marks, put-added}
 use Rattle.desk.proofs.AnswerLaws as answer-laws
-use Rattle.index.specs.Index.{bucket, CallIndex, AnswerIndex, answer-room, Noted, CallsKept, AnswersKept, AnswerNoted}
+use Rattle.index.specs.Index.{bucket, CallIndex, AnswerIndex, Noted, CallsKept, AnswersKept, AnswerNoted}
 use Rattle.index.proofs.IndexLaws.{call-index-more}
 
 -- ---- calls
@@ -52,8 +52,8 @@ module _ {calls list calls′ : List ℕ} {n a r most : ℕ} (D : State) (o : Ca
 pub answers-kept : (calls answers : List ℕ) (row : ℕ) → AnswersKept calls answers calls answers row
 answers-kept calls answers row = record { long = refl; answers-long = refl; others = λ p d. refl; beside = λ j l. refl }
 
-module _ {calls answers calls′ answers₁ answers′ : List ℕ} {m row : ℕ} {D : State} (rule r : ℕ) (evidence : List ℕ)
-    (n : AnswerNoted calls answers m row D calls′ answers₁) (few : m < answer-room answers)
+module _ {calls answers calls′ answers₁ answers′ : List ℕ} {most m row : ℕ} {D : State} (rule r : ℕ) (evidence : List ℕ)
+    (n : AnswerNoted most calls answers m row D calls′ answers₁) (few : AnswersOpen most answers (m + 1))
     (z : Written answers₁ (packed-width * m) (packed-record row D rule evidence r) answers′) where
   answer-more-long : length answers′ ≡ length answers
   answer-more-long = z .long ∙ n .kept .answers-long
@@ -64,11 +64,11 @@ module _ {calls answers calls′ answers₁ answers′ : List ℕ} {m row : ℕ}
         let p = answer-laws.put-added m row D rule evidence r z small in
         record {
           count = refl;
-          call-kept = λ x l. p .call-kept x l ∙ n .below (packed-width * x) (omega arith);
-          final-kept = λ x l. p .final-kept x l ∙ n .below (packed-width * x + 1) (omega arith);
-          rule-kept = λ x l. p .rule-kept x l ∙ n .below (packed-width * x + 2) (omega arith);
-          evidence-kept = λ x q l h. p .evidence-kept x q l h ∙ ap (λ (w : ℕ). quarter w (q % 4)) (n .below (packed-width * x + 4 + q / 4) (omega arith));
-          round-kept = λ x l. p .round-kept x l ∙ n .below (packed-width * x + 3) (omega arith);
+          call-kept = λ x l. p .call-kept x l ∙ n .below (packed-width * x) (omega (arith, few .fits));
+          final-kept = λ x l. p .final-kept x l ∙ n .below (packed-width * x + 1) (omega (arith, few .fits));
+          rule-kept = λ x l. p .rule-kept x l ∙ n .below (packed-width * x + 2) (omega (arith, few .fits));
+          evidence-kept = λ x q l h. p .evidence-kept x q l h ∙ ap (λ (w : ℕ). quarter w (q % 4)) (n .below (packed-width * x + 4 + q / 4) (omega (arith, few .fits)));
+          round-kept = λ x l. p .round-kept x l ∙ n .below (packed-width * x + 3) (omega (arith, few .fits));
           new = p .new;
           new-rule = p .new-rule;
           new-evidence = p .new-evidence;
@@ -76,15 +76,15 @@ module _ {calls answers calls′ answers₁ answers′ : List ℕ} {m row : ℕ}
         }
 
     pub answer-more-put : NoAnswer (packed-answers answers m) row D
-        → AnswerPut (answer-room answers) (packed-answers answers m) row D rule evidence r (packed-answers answers′ (m + 1)) false
-    answer-more-put none = answer-added refl few none added
+        → AnswerPut most (packed-answers answers m) row D rule evidence r (packed-answers answers′ (m + 1)) false
+    answer-more-put none = answer-added refl (omega (arith, few .fits)) none added
 
-    pub answer-more-index : AnswerIndex calls′ answers′ (m + 1)
+    pub answer-more-index : AnswerIndex most calls′ answers′ (m + 1)
     answer-more-index = n .index answers′ answer-more-long (λ x l. (added .call-kept x l, added .final-kept x l)) (added .new .has-call) (added .new .has-final)
-        (λ p l. z .other p (inr (omega arith)))
+        (λ p l. z .other p (inr (omega (arith, few .fits))))
 
-  pub answer-more-open : AnswersOpen answers′ (m + 1)
-  answer-more-open = let l = answer-more-long in record { fits = omega arith }
+  pub answer-more-open : AnswersOpen most answers′ (m + 1)
+  answer-more-open = record { fits = few .fits; small = few .small; long = rw answer-more-long (few .long) }
 
   pub answer-more-kept : AnswersKept calls answers calls′ answers′ row
   answer-more-kept = record { long = n .kept .long; answers-long = answer-more-long; others = n .kept .others; beside = n .kept .beside }

@@ -15,7 +15,7 @@ use Rattle.records.specs.Records.{Calls, room, call-width}
 use Rattle.records.specs.Storage.{CallAt, FindCall, CallAdded, FindAnswer, NextAnswer}
 use Rattle.desk.specs.Desk.{open-calls, action-unit, packed-width, packed-answers}
 use Rattle.index.specs.Index.{buckets, bucket, Covers, Queued, Reaches, Sought, Keyed, CallIndex, AnswerIndex, AnswersKeyed, heads-in, links-in, lasts-in, nexts-in, firsts-in}
-use Rattle.index.specs.Index.{answer-room, answer-notes, keys-in, answer-keys, Rechained, Noted, Forgotten, Chained, LastOf, Joined, AnswerNoted}
+use Rattle.index.specs.Index.{answer-notes, keys-in, answer-keys, Rechained, Noted, Forgotten, Chained, LastOf, Joined, AnswerNoted}
 use Rattle.index.proofs.Chains.{first-found, first-none, later-found, later-none, covers-none, covers-more, covers-less, covers-same, queued-none, queued-same, queued-behind, queued-alone}
 
 -- There are no more buckets than records.
@@ -171,24 +171,20 @@ pub call-index-of : {calls list₀ list : List ℕ} {n most : ℕ} → Chained m
     → most ≡ room call-width (length calls) → CallIndex calls list n
 call-index-of {most = most} c e = record { covers = rw e at (c .covers) }
 
-pub answers-keyed : (answers : List ℕ) (m most base : ℕ) → AnswersKeyed answers m → most ≡ answer-room answers → base ≡ packed-width * most
-    → Keyed most (keys-in 1 packed-width answers m) answers base
-answers-keyed answers m most base c e z =
-    rw (z, e) (covers-same c (λ i l. ap (λ (a : ℕ). bucket (answer-room answers) a (getD answers (packed-width * i + 1) 0)) (div-one _)) (λ k. refl) (λ i. refl))
+pub answers-keyed : (answers : List ℕ) (m most : ℕ) → AnswersKeyed most answers m → Keyed most (keys-in 1 packed-width answers m) answers (packed-width * most)
+answers-keyed answers m most c =
+    covers-same c (λ i l. ap (λ (a : ℕ). bucket most a (getD answers (packed-width * i + 1) 0)) (div-one _)) (λ k. refl) (λ i. refl)
 
 -- Where heads and links alone were written, an answer's bucket is as it was.
 pub key-same : {base : ℕ} {words words′ : List ℕ} (most i : ℕ) → Rechained base words words′ → packed-width * i + 2 ≤ base
     → key-in most 1 packed-width words′ i ≡ key-in most 1 packed-width words i
 key-same most i r l = rw (r .below (packed-width * i) (omega arith), r .below (packed-width * i + 1) (omega arith)) refl
 
-pub answers-keyed-of : {answers answers′ : List ℕ} {m most base : ℕ} → Chained most (key-in most 1 packed-width answers) m base answers answers′
-    → most ≡ answer-room answers → base ≡ packed-width * most → m ≤ most → AnswersKeyed answers′ m
-answers-keyed-of {answers} {answers′} {m} {most} {base} c e z l = rw (c .rechained .long) (rw e at (rw z at of))
-  where
-    of : Keyed most (answer-keys answers′ m) answers′ base
-    of = covers-same (c .covers)
-        (λ i h. ap (λ (a : ℕ). bucket most a (getD answers′ (packed-width * i + 1) 0)) (sym (div-one _)) ∙ key-same most i (c .rechained) (omega arith))
-        (λ k. refl) (λ i. refl)
+pub answers-keyed-of : {answers answers′ : List ℕ} {m most : ℕ} → Chained most (key-in most 1 packed-width answers) m (packed-width * most) answers answers′
+    → m ≤ most → AnswersKeyed most answers′ m
+answers-keyed-of {answers} {answers′} {m} {most} c l = covers-same (c .covers)
+    (λ i h. ap (λ (a : ℕ). bucket most a (getD answers′ (packed-width * i + 1) 0)) (sym (div-one _)) ∙ key-same most i (c .rechained) (omega arith))
+    (λ k. refl) (λ i. refl)
 
 -- ---- the index of the calls
 -- Any words are an index of a table without records.
@@ -217,52 +213,52 @@ call-index-more {calls} {n = n} {a} {k} {D = D} c long p few e z = record {
 }
 
 -- ---- the index of the answers
-pub answer-index-none : (calls answers : List ℕ) → AnswerIndex calls answers 0
-answer-index-none calls answers = record { covers = covers-none _ _ _ _ _ refl; queued = queued-none _ _ _ _ _ refl }
+pub answer-index-none : (most : ℕ) (calls answers : List ℕ) → AnswerIndex most calls answers 0
+answer-index-none most calls answers = record { covers = covers-none _ _ _ _ _ refl; queued = queued-none _ _ _ _ _ refl }
 
 -- It rests on the first answers of the call records, the keys, and the words of notes.
-pub answer-index-same : {calls answers calls′ answers′ : List ℕ} {m : ℕ} → AnswerIndex calls answers m → length answers′ ≡ length answers
+pub answer-index-same : {calls answers calls′ answers′ : List ℕ} {most m : ℕ} → AnswerIndex most calls answers m
     → ((r : ℕ) → firsts-in calls′ r ≡ firsts-in calls r)
     → ((x : ℕ) → x < m → (packed-answers answers′ m .call x ≡ packed-answers answers m .call x) × (packed-answers answers′ m .final x ≡ packed-answers answers m .final x))
-    → ((p j : ℕ) → answer-notes answers ≤ p → quarter (getD answers′ p 0) j ≡ quarter (getD answers p 0) j) → AnswerIndex calls′ answers′ m
-answer-index-same {calls} {answers} {calls′} {answers′} {m} c long firsts same notes =
-    let b = answer-notes answers in
+    → ((p j : ℕ) → answer-notes most ≤ p → quarter (getD answers′ p 0) j ≡ quarter (getD answers p 0) j) → AnswerIndex most calls′ answers′ m
+answer-index-same {calls} {answers} {calls′} {answers′} {most} {m} c firsts same notes =
+    let b = answer-notes most in
     record {
-      covers = rw long (covers-same (c .covers)
+      covers = covers-same (c .covers)
           (λ i l. let (a, s) = same i l in rw (a, s) refl)
-          (λ k. notes (b + k) 3 (omega arith)) (λ i. notes (b + i) 2 (omega arith)));
-      queued = rw long (queued-same _ _ _ _ _ _ _ _ m (c .queued) (λ x l. same x l .0) firsts
+          (λ k. notes (b + k) 3 (omega arith)) (λ i. notes (b + i) 2 (omega arith));
+      queued = queued-same _ _ _ _ _ _ _ _ m (c .queued) (λ x l. same x l .0) firsts
           (λ r. ap (lasts-in answers′ b) (firsts r) ∙ notes (b + firsts-in calls r) 1 (omega arith))
-          (λ x. notes (b + x) 0 (omega arith)));
+          (λ x. notes (b + x) 0 (omega arith));
     }
 
-pub answer-index-calls : {calls calls′ answers : List ℕ} {m : ℕ} → AnswerIndex calls answers m → ((r : ℕ) → firsts-in calls′ r ≡ firsts-in calls r)
-    → AnswerIndex calls′ answers m
-answer-index-calls c firsts = answer-index-same c refl firsts (λ x l. (refl, refl)) (λ p j l. refl)
+pub answer-index-calls : {calls calls′ answers : List ℕ} {most m : ℕ} → AnswerIndex most calls answers m → ((r : ℕ) → firsts-in calls′ r ≡ firsts-in calls r)
+    → AnswerIndex most calls′ answers m
+answer-index-calls c firsts = answer-index-same c firsts (λ x l. (refl, refl)) (λ p j l. refl)
 
 -- Where heads and links were written anew for records of the same call records in other order, the queues are as they were.
-pub answer-index-again : {calls answers answers′ : List ℕ} {m : ℕ} → AnswerIndex calls answers m → length answers′ ≡ length answers → AnswersKeyed answers′ m
+pub answer-index-again : {calls answers answers′ : List ℕ} {most m : ℕ} → AnswerIndex most calls answers m → AnswersKeyed most answers′ m
     → ((x : ℕ) → x < m → packed-answers answers′ m .call x ≡ packed-answers answers m .call x)
-    → ((p j : ℕ) → j < 2 → answer-notes answers ≤ p → quarter (getD answers′ p 0) j ≡ quarter (getD answers p 0) j) → AnswerIndex calls answers′ m
-answer-index-again {calls} {answers} {answers′} {m} c long keyed same notes =
-    let b = answer-notes answers in
+    → ((p j : ℕ) → j < 2 → answer-notes most ≤ p → quarter (getD answers′ p 0) j ≡ quarter (getD answers p 0) j) → AnswerIndex most calls answers′ m
+answer-index-again {calls} {answers} {answers′} {most} {m} c keyed same notes =
+    let b = answer-notes most in
     record {
       covers = keyed;
-      queued = rw long (queued-same _ _ _ _ _ _ _ _ m (c .queued) same (λ r. refl) (λ r. notes (b + firsts-in calls r) 1 (omega arith) (omega arith))
-          (λ x. notes (b + x) 0 (omega arith) (omega arith)));
+      queued = queued-same _ _ _ _ _ _ _ _ m (c .queued) same (λ r. refl) (λ r. notes (b + firsts-in calls r) 1 (omega arith) (omega arith))
+          (λ x. notes (b + x) 0 (omega arith) (omega arith));
     }
 
 -- One answer more of call record `row`, whose first answer is f, or m where it has none.
-module _ {calls answers : List ℕ} {m row f last : ℕ} (c : AnswerIndex calls answers m) (small : row < 65536)
-    (found : NextAnswer (packed-answers answers m) m row 0 f) (l : LastOf answers (answer-notes answers) f m last) where
+module _ {calls answers : List ℕ} {most m row f last : ℕ} (c : AnswerIndex most calls answers m) (small : row < 65536)
+    (found : NextAnswer (packed-answers answers m) m row 0 f) (l : LastOf answers (answer-notes most) f m last) where
   first-is : f < m → firsts-in calls row ≡ f
   first-is h =
       let (a, b, g) = c .queued .first row f small h (found .found h) in
       let none : firsts-in calls row < f → ⊥ = λ k. found .skipped (firsts-in calls row) (omega arith) k b in
       omega arith
 
-  last-is : f < m → lasts-in answers (answer-notes answers) (firsts-in calls row) ≡ last
-  last-is h = ap (lasts-in answers (answer-notes answers)) (first-is h) ∙ sym (l .held h)
+  last-is : f < m → lasts-in answers (answer-notes most) (firsts-in calls row) ≡ last
+  last-is h = ap (lasts-in answers (answer-notes most)) (first-is h) ∙ sym (l .held h)
 
   pub last-inside : last ≤ m
   last-inside = by (decLt f m)
@@ -274,17 +270,17 @@ module _ {calls answers : List ℕ} {m row f last : ℕ} (c : AnswerIndex calls 
           omega arith
       by (no n) = let e = l .none (omega arith) in omega arith
 
-  module _ {k : ℕ} {D : State} {calls′ answers₁ answers′ : List ℕ} (words : List ℕ) (e : k ≡ bucket (answer-room answers) row D) (few : m < answer-room answers)
+  module _ {k : ℕ} {D : State} {calls′ answers₁ answers′ : List ℕ} (words : List ℕ) (e : k ≡ bucket most row D) (few : m < most)
       (put : QuarterPut calls (call-width * row + 2) 3 f calls′)
-      (noted : Noted answers (answer-notes answers) k m answers₁) (joined : Joined answers₁ (answer-notes answers) f last m answers′)
+      (noted : Noted answers (answer-notes most) k m answers₁) (joined : Joined answers₁ (answer-notes most) f last m answers′)
       (kept : (x : ℕ) → x < m → (packed-answers words m .call x ≡ packed-answers answers m .call x) × (packed-answers words m .final x ≡ packed-answers answers m .final x))
       (new-call : packed-answers words m .call m ≡ row) (new-final : packed-answers words m .final m ≡ D)
-      (notes : (p : ℕ) → answer-notes answers ≤ p → getD words p 0 ≡ getD answers′ p 0) where
-    now-is : (x j : ℕ) → quarter (getD words (answer-notes answers + x) 0) j ≡ quarter (getD answers′ (answer-notes answers + x) 0) j
-    now-is x j = ap (λ (w : ℕ). quarter w j) (notes (answer-notes answers + x) (omega arith))
+      (notes : (p : ℕ) → answer-notes most ≤ p → getD words p 0 ≡ getD answers′ p 0) where
+    now-is : (x j : ℕ) → quarter (getD words (answer-notes most + x) 0) j ≡ quarter (getD answers′ (answer-notes most + x) 0) j
+    now-is x j = ap (λ (w : ℕ). quarter w j) (notes (answer-notes most + x) (omega arith))
 
-    covers-one-more : Covers (answer-room answers) (λ x. bucket (answer-room answers) (packed-answers words m .call x) (packed-answers words m .final x)) (m + 1)
-        (heads-in words (answer-notes answers)) (links-in words (answer-notes answers))
+    covers-one-more : Covers most (λ x. bucket most (packed-answers words m .call x) (packed-answers words m .final x)) (m + 1)
+        (heads-in words (answer-notes most)) (links-in words (answer-notes most))
     covers-one-more = covers-more _ _ _ _ _ _ _ m k (c .covers)
         (λ i h. let (x, y) = kept i h in rw (x, y) refl)
         (rw (new-call, new-final) (sym e))
@@ -297,36 +293,36 @@ module _ {calls answers : List ℕ} {m row f last : ℕ} (c : AnswerIndex calls 
     firsts-kept : (r : ℕ) → r ≢ row → firsts-in calls′ r ≡ firsts-in calls r
     firsts-kept r d = put-elsewhere put (call-width * r + 2) 3 (omega arith)
 
-    end-is : lasts-in words (answer-notes answers) (firsts-in calls′ row) ≡ m
-    end-is = ap (lasts-in words (answer-notes answers)) (put .changed .here) ∙ now-is f 1 ∙ joined .end
+    end-is : lasts-in words (answer-notes most) (firsts-in calls′ row) ≡ m
+    end-is = ap (lasts-in words (answer-notes most)) (put .changed .here) ∙ now-is f 1 ∙ joined .end
 
     lasts-kept : (r y : ℕ) → r < 65536 → y < m → packed-answers answers m .call y ≡ r → r ≢ row
-        → lasts-in words (answer-notes answers) (firsts-in calls′ r) ≡ lasts-in answers (answer-notes answers) (firsts-in calls r)
+        → lasts-in words (answer-notes most) (firsts-in calls′ r) ≡ lasts-in answers (answer-notes most) (firsts-in calls r)
     lasts-kept r y s h g d =
         let (u, v, w) = c .queued .first r y s h g in
         let other : firsts-in calls r ≢ f = λ z. d (sym v ∙ ap (packed-answers answers m .call) z ∙ found .found (omega arith)) in
-        ap (lasts-in words (answer-notes answers)) (firsts-kept r d) ∙ now-is (firsts-in calls r) 1 ∙ joined .lasts (firsts-in calls r) other
+        ap (lasts-in words (answer-notes most)) (firsts-kept r d) ∙ now-is (firsts-in calls r) 1 ∙ joined .lasts (firsts-in calls r) other
         ∙ noted .rechained .rest _ 1 (omega arith)
 
-    nexts-kept : (x : ℕ) → x ≢ last → nexts-in words (answer-notes answers) x ≡ nexts-in answers (answer-notes answers) x
+    nexts-kept : (x : ℕ) → x ≢ last → nexts-in words (answer-notes most) x ≡ nexts-in answers (answer-notes most) x
     nexts-kept x d = now-is x 0 ∙ joined .nexts x d ∙ noted .rechained .rest _ 0 (omega arith)
 
-    queued-one-more : Queued (packed-answers words m .call) (m + 1) (firsts-in calls′) (λ r. lasts-in words (answer-notes answers) (firsts-in calls′ r))
-        (nexts-in words (answer-notes answers))
+    queued-one-more : Queued (packed-answers words m .call) (m + 1) (firsts-in calls′) (λ r. lasts-in words (answer-notes most) (firsts-in calls′ r))
+        (nexts-in words (answer-notes most))
     queued-one-more = by (decLt f m)
       where
         first-kept : f < m → (r : ℕ) → Dec (r ≡ row) → firsts-in calls′ r ≡ firsts-in calls r
         first-kept h r (yes z) = rw z (put .changed .here ∙ sym (first-is h))
         first-kept h r (no d) = firsts-kept r d
 
-        by : Dec (f < m) → Queued (packed-answers words m .call) (m + 1) (firsts-in calls′) (λ r. lasts-in words (answer-notes answers) (firsts-in calls′ r))
-            (nexts-in words (answer-notes answers))
+        by : Dec (f < m) → Queued (packed-answers words m .call) (m + 1) (firsts-in calls′) (λ r. lasts-in words (answer-notes most) (firsts-in calls′ r))
+            (nexts-in words (answer-notes most))
         by (yes h) =
             let (u, v, w) = c .queued .last row f small h (found .found h) in
             let z = last-is h in
             queued-behind _ _ _ _ _ _ _ _ m row (c .queued) (λ y g. kept y g .0) new-call small end-is lasts-kept u v
             (λ r s. first-kept h r (ℕ-discrete r row))
-            (ap (nexts-in words (answer-notes answers)) z ∙ now-is last 0 ∙ joined .next)
+            (ap (nexts-in words (answer-notes most)) z ∙ now-is last 0 ∙ joined .next)
             (λ x g d. nexts-kept x (λ y. d (y ∙ sym z)))
         by (no n) =
             let z = l .none (omega arith) in
@@ -337,31 +333,27 @@ module _ {calls answers : List ℕ} {m row f last : ℕ} (c : AnswerIndex calls 
             (λ r s d. firsts-kept r d)
             (λ x h. nexts-kept x (omega arith))
 
-    pub answer-index-more : length words ≡ length answers → AnswerIndex calls′ words (m + 1)
-    answer-index-more long = record { covers = rw long covers-one-more; queued = rw long queued-one-more }
+    pub answer-index-more : AnswerIndex most calls′ words (m + 1)
+    answer-index-more = record { covers = covers-one-more; queued = queued-one-more }
 
 -- What the code notes of one answer more.
-pub answer-noted-by : {calls answers calls′ answers₁ answers′ : List ℕ} {m row f last k base : ℕ} {D : State} (most : ℕ) → AnswerIndex calls answers m
-    → row < 65536 → m < most → most ≡ answer-room answers → base ≡ packed-width * most → k ≡ bucket most row D
-    → NextAnswer (packed-answers answers m) m row 0 f → LastOf answers base f m last → QuarterPut calls (call-width * row + 2) 3 f calls′
-    → Noted answers base k m answers₁ → Joined answers₁ base f last m answers′ → AnswerNoted calls answers m row D calls′ answers′
-answer-noted-by {answers = answers} {row = row} {base = base} {D = D} most c small few e z g found l put noted joined =
-    let y : base ≡ answer-notes answers = z ∙ ap (λ (q : ℕ). packed-width * q) e in
-    record {
-      kept = record {
-        long = put .long;
-        answers-long = joined .long ∙ noted .rechained .long;
-        others = put .other;
-        beside = λ j h. put .changed .beside j (omega arith) (omega arith);
-      };
-      below = λ p h. joined .below p (omega arith) ∙ noted .rechained .below p (omega arith);
-      index = λ words long kept new-call new-final notes.
-          answer-index-more c small found (rw y at l) words (g ∙ ap (λ (q : ℕ). bucket q row D) e) (omega arith) put (rw y at noted) (rw y at joined)
-          kept new-call new-final notes long;
-    }
+pub answer-noted-by : {calls answers calls′ answers₁ answers′ : List ℕ} {m row f last k : ℕ} {D : State} (most : ℕ) → AnswerIndex most calls answers m
+    → row < 65536 → m < most → k ≡ bucket most row D
+    → NextAnswer (packed-answers answers m) m row 0 f → LastOf answers (answer-notes most) f m last → QuarterPut calls (call-width * row + 2) 3 f calls′
+    → Noted answers (answer-notes most) k m answers₁ → Joined answers₁ (answer-notes most) f last m answers′ → AnswerNoted most calls answers m row D calls′ answers′
+answer-noted-by most c small few g found l put noted joined = record {
+  kept = record {
+    long = put .long;
+    answers-long = joined .long ∙ noted .rechained .long;
+    others = put .other;
+    beside = λ j h. put .changed .beside j (omega arith) (omega arith);
+  };
+  below = λ p h. joined .below p h ∙ noted .rechained .below p h;
+  index = λ words long kept new-call new-final notes. answer-index-more c small found l words g few put noted joined kept new-call new-final notes;
+}
 
 -- ---- what is read of the answers
-module _ {calls answers : List ℕ} {m : ℕ} (known : ℕ) (c : AnswerIndex calls answers m) (enough : known ≤ m) where
+module _ {calls answers : List ℕ} {most m : ℕ} (known : ℕ) (c : AnswerIndex most calls answers m) (enough : known ≤ m) where
   pub first-noted : (row x : ℕ) → row < 65536 → x ≡ firsts-in calls row → (x < known) × (packed-answers answers known .call x ≡ row)
       → NextAnswer (packed-answers answers known) known row 0 x
   first-noted row x s z (l, e) = rw z (first-found (packed-answers answers known) m known _ _ _ (c .queued) enough row s (rw z at l) (rw z at e))
@@ -370,13 +362,13 @@ module _ {calls answers : List ℕ} {m : ℕ} (known : ℕ) (c : AnswerIndex cal
       → NextAnswer (packed-answers answers known) known row 0 known
   first-not row x s z n = first-none (packed-answers answers known) m known _ _ _ (c .queued) enough row s (rw z at n)
 
-  pub later-noted : (x y : ℕ) → y ≡ nexts-in answers (answer-notes answers) x → x < y → y < known
+  pub later-noted : (x y : ℕ) → y ≡ nexts-in answers (answer-notes most) x → x < y → y < known
       → packed-answers answers known .call y ≡ packed-answers answers known .call x
       → NextAnswer (packed-answers answers known) known (packed-answers answers known .call x) (x + 1) y
   later-noted x y z b l e =
       rw z (later-found (packed-answers answers known) m known _ _ _ (c .queued) enough x (rw z at b) (rw z at l) (rw z at e))
 
-  pub later-not : (x y : ℕ) → x < known → y ≡ nexts-in answers (answer-notes answers) x
+  pub later-not : (x y : ℕ) → x < known → y ≡ nexts-in answers (answer-notes most) x
       → (x < y → y < known → packed-answers answers known .call y ≡ packed-answers answers known .call x → ⊥)
       → NextAnswer (packed-answers answers known) known (packed-answers answers known .call x) (x + 1) known
   later-not x y i z n = later-none (packed-answers answers known) m known _ _ _ (c .queued) enough x i (rw z at n)

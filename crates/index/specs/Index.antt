@@ -9,7 +9,7 @@ use lib.ListN.{length, getD}
 use lib.Count.{leadingZeros}
 use Rattle.steps.specs.State.{State}
 use Rattle.quarters.specs.Quarters.{quarter}
-use Rattle.records.specs.Records.{Calls, Answers, room, call-width, answer-width}
+use Rattle.records.specs.Records.{Calls, Answers, room, call-width}
 use Rattle.records.specs.Storage.{CallAt}
 use Rattle.desk.specs.Desk.{open-calls, mark-words, packed-width, packed-answers}
 
@@ -56,15 +56,8 @@ abbrev pub firsts-in : List ℕ → ℕ → ℕ
 firsts-in calls r = quarter (getD calls (call-width * r + 2) 0) 3
 
 -- The notes of the answers stand behind the records that there is room for.
-abbrev pub answer-room : List ℕ → ℕ
-answer-room answers = room answer-width (length answers)
-
-abbrev pub answer-notes : List ℕ → ℕ
-answer-notes answers = packed-width * answer-room answers
-
--- Behind them, in a table of this length, nothing is kept.
-abbrev pub free-from : ℕ → ℕ
-free-from len = 9 * room answer-width len
+abbrev pub answer-notes : ℕ → ℕ
+answer-notes most = packed-width * most
 
 -- ---- finding by an index
 -- Records of `width` words by their keys: the first word divided by a unit, and the second word.
@@ -105,14 +98,14 @@ pub record CallIndex (calls list : List ℕ) (n : ℕ) : Type 0 where
   pub covers : Keyed (room call-width (length calls)) (open-calls calls n) list 0
 
 -- The first m answer records by their keys, in the notes behind them.
-abbrev pub AnswersKeyed : List ℕ → ℕ → Type 0
-AnswersKeyed answers m = Keyed (answer-room answers) (answer-keys answers m) answers (answer-notes answers)
+abbrev pub AnswersKeyed : ℕ → List ℕ → ℕ → Type 0
+AnswersKeyed most answers m = Keyed most (answer-keys answers m) answers (answer-notes most)
 
 -- The index of the first m answer records: chains, and the answers of each call record.
-pub record AnswerIndex (calls answers : List ℕ) (m : ℕ) : Type 0 where
-  pub covers : AnswersKeyed answers m
-  pub queued : Queued (packed-answers answers m .call) m (firsts-in calls) (λ r. lasts-in answers (answer-notes answers) (firsts-in calls r))
-      (nexts-in answers (answer-notes answers))
+pub record AnswerIndex (most : ℕ) (calls answers : List ℕ) (m : ℕ) : Type 0 where
+  pub covers : AnswersKeyed most answers m
+  pub queued : Queued (packed-answers answers m .call) m (firsts-in calls) (λ r. lasts-in answers (answer-notes most) (firsts-in calls r))
+      (nexts-in answers (answer-notes most))
 
 -- ---- what is noted
 -- The words differ at most in the heads and links from `base` on.
@@ -173,12 +166,12 @@ pub record AnswersKept (calls answers calls′ answers′ : List ℕ) (row : ℕ
   pub beside : (j : ℕ) → j < 3 → quarter (getD calls′ (call-width * row + 2) 0) j ≡ quarter (getD calls (call-width * row + 2) 0) j
 
 -- The notes hold one answer more, of call record `row` with final state f, whose record is about to be written.
-pub record AnswerNoted (calls answers : List ℕ) (m row : ℕ) (f : State) (calls′ answers′ : List ℕ) : Type 0 where
+pub record AnswerNoted (most : ℕ) (calls answers : List ℕ) (m row : ℕ) (f : State) (calls′ answers′ : List ℕ) : Type 0 where
   pub kept : AnswersKept calls answers calls′ answers′ row
-  pub below : (p : ℕ) → p < answer-notes answers → getD answers′ p 0 ≡ getD answers p 0
+  pub below : (p : ℕ) → p < answer-notes most → getD answers′ p 0 ≡ getD answers p 0
   pub index : (words : List ℕ) → length words ≡ length answers
       → ((x : ℕ) → x < m → (packed-answers words m .call x ≡ packed-answers answers m .call x)
       × (packed-answers words m .final x ≡ packed-answers answers m .final x))
       → packed-answers words m .call m ≡ row → packed-answers words m .final m ≡ f
-      → ((p : ℕ) → answer-notes answers ≤ p → getD words p 0 ≡ getD answers′ p 0)
-      → AnswerIndex calls′ words (m + 1)
+      → ((p : ℕ) → answer-notes most ≤ p → getD words p 0 ≡ getD answers′ p 0)
+      → AnswerIndex most calls′ words (m + 1)

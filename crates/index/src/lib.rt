@@ -12,10 +12,10 @@ ghost use mathlib.Core.Path.{_≡_};
 ghost use mathlib.Core.List.{List};
 ghost use Prim.Native.Nat.{ℕ, _+_, _*_, _/_, _<_, _≤_};
 ghost use lib.ListN.{length, getD};
-ghost use Rattle.records.specs.Records.{room, call-width, answer-width};
+ghost use Rattle.records.specs.Records.{room, call-width};
 ghost use Rattle.records.specs.Storage.{FindCall, FindAnswer, NextAnswer, CallPut, AnswerPut};
 ghost use Rattle.desk.specs.Desk.{CallsOpen, AnswersOpen, open-calls, packed-answers, packed-width, round-top};
-ghost use Rattle.index.specs.Index.{buckets, bucket, Keyed, keys-in, OfRow, CallIndex, AnswerIndex, answer-room, answer-notes, free-from};
+ghost use Rattle.index.specs.Index.{buckets, bucket, Keyed, keys-in, OfRow, CallIndex, AnswerIndex, answer-notes};
 ghost use Rattle.index.specs.Index.{Noted, Forgotten, LastOf, Joined, CallsKept, AnswersKept, AnswerNoted, Rechained, AnswersKeyed};
 
 // The quarters of a word of notes.
@@ -198,26 +198,11 @@ pub fn note_calls(calls: &[u64], n0: usize, n: usize, list: &mut [u64])
     }
 }
 
-// Where the notes of the answers begin, in a table of this length.
-fn notes_of(len: usize) -> usize
-    ensures { λ r. ⌜ r ≡ packed-width * room answer-width len ⌝ }
-{
-    PACKED_WORDS * tables::room_of(len, tables::ANSWER_WORDS)
-}
-
-// Where the words behind the notes of the answers begin, in a table of this length: nothing is kept in them.
-pub fn free_from(len: usize) -> usize
-    ensures { λ r. ⌜ r ≡ free-from len ⌝ }
-{
-    9 * tables::room_of(len, tables::ANSWER_WORDS)
-}
-
 // The record among the first m of this call record and final state, or m.
-pub fn find_answer(answers: &[u64], m: usize, row: usize, last: State) -> usize
-    requires { ⌜ AnswersOpen (now answers) m × AnswersKeyed (now answers) m ⌝ }
+pub fn find_answer(answers: &[u64], m: usize, most: usize, row: usize, last: State) -> usize
+    requires { ⌜ AnswersOpen most (now answers) m × AnswersKeyed most (now answers) m ⌝ }
     ensures { λ r. ⌜ (r ≤ m) × FindAnswer (packed-answers (now (answers .entry)) m) row (last .0) r ⌝ }
 {
-    let most = tables::room_of(answers.len(), tables::ANSWER_WORDS);
     find(
         answers,
         1,
@@ -232,12 +217,11 @@ pub fn find_answer(answers: &[u64], m: usize, row: usize, last: State) -> usize
 }
 
 // Takes the answer records from m0 up to m out of heads and links, the latest first. All other words and quarters stay.
-pub fn forget_answers(answers: &mut [u64], m0: usize, m: usize)
-    requires { ⌜ AnswersOpen (now answers) m × (m0 ≤ m) × AnswersKeyed (now answers) m ⌝ }
-    ensures { λ _. ⌜ AnswersKeyed (now (answers .exit)) m0
-        × Rechained (answer-notes (now (answers .entry))) (now (answers .entry)) (now (answers .exit)) ⌝ }
+pub fn forget_answers(answers: &mut [u64], m0: usize, m: usize, most: usize)
+    requires { ⌜ AnswersOpen most (now answers) m × (m0 ≤ m) × AnswersKeyed most (now answers) m ⌝ }
+    ensures { λ _. ⌜ AnswersKeyed most (now (answers .exit)) m0
+        × Rechained (answer-notes most) (now (answers .entry)) (now (answers .exit)) ⌝ }
 {
-    let most = tables::room_of(answers.len(), tables::ANSWER_WORDS);
     let base = PACKED_WORDS * most;
     let mut i = m;
     while m0 < i {
@@ -248,12 +232,11 @@ pub fn forget_answers(answers: &mut [u64], m0: usize, m: usize)
 }
 
 // Notes them in heads and links. All other words and quarters stay.
-pub fn note_answers(answers: &mut [u64], m0: usize, m: usize)
-    requires { ⌜ AnswersOpen (now answers) m × (m0 ≤ m) × AnswersKeyed (now answers) m0 ⌝ }
-    ensures { λ _. ⌜ AnswersKeyed (now (answers .exit)) m
-        × Rechained (answer-notes (now (answers .entry))) (now (answers .entry)) (now (answers .exit)) ⌝ }
+pub fn note_answers(answers: &mut [u64], m0: usize, m: usize, most: usize)
+    requires { ⌜ AnswersOpen most (now answers) m × (m0 ≤ m) × AnswersKeyed most (now answers) m0 ⌝ }
+    ensures { λ _. ⌜ AnswersKeyed most (now (answers .exit)) m
+        × Rechained (answer-notes most) (now (answers .entry)) (now (answers .exit)) ⌝ }
 {
-    let most = tables::room_of(answers.len(), tables::ANSWER_WORDS);
     let base = PACKED_WORDS * most;
     let mut i = m0;
     while i < m {
@@ -279,7 +262,7 @@ fn is_answer(answers: &[u64], known: usize, x: usize, row: u64) -> bool
 // The first answer record of this call record below `known`, or `known`.
 pub fn first_answer(calls: &[u64], answers: &[u64], known: usize, row: usize) -> usize
     requires { ⌜ row < room call-width (length (now calls)) ⌝ }
-    requires { ⌜ ((m : ℕ) × (known ≤ m) × AnswersOpen (now answers) m × AnswerIndex (now calls) (now answers) m) ⌝ }
+    requires { ⌜ ((m : ℕ) × (known ≤ m) × ((most : ℕ) × AnswersOpen most (now answers) m × AnswerIndex most (now calls) (now answers) m)) ⌝ }
     ensures { λ r. ⌜ NextAnswer (packed-answers (now (answers .entry)) known) known row 0 r ⌝ }
 {
     let x = quarters::get(calls, tables::CALL_WORDS * row + USES, FIRST);
@@ -290,13 +273,13 @@ pub fn first_answer(calls: &[u64], answers: &[u64], known: usize, row: usize) ->
 }
 
 // The next answer record after x of the same call record, below `known`, or `known`.
-pub fn later_answer(answers: &[u64], known: usize, x: usize) -> usize
+pub fn later_answer(answers: &[u64], known: usize, most: usize, x: usize) -> usize
     requires { ⌜ x < known ⌝ }
-    requires { ⌜ ((m : ℕ) × (known ≤ m) × AnswersOpen (now answers) m × ((calls : List ℕ) × AnswerIndex calls (now answers) m)) ⌝ }
+    requires { ⌜ ((m : ℕ) × (known ≤ m) × AnswersOpen most (now answers) m × ((calls : List ℕ) × AnswerIndex most calls (now answers) m)) ⌝ }
     ensures { λ r. ⌜ NextAnswer (packed-answers (now (answers .entry)) known) known (getD (now (answers .entry)) (packed-width * x) 0) (x + 1) r ⌝ }
 {
     let row = desk::call_of(answers, x);
-    let later = quarters::get(answers, notes_of(answers.len()) + x, NEXT);
+    let later = quarters::get(answers, PACKED_WORDS * most + x, NEXT);
     if later <= x {
         return known;
     }
@@ -327,11 +310,18 @@ fn join(answers: &mut [u64], base: usize, f: usize, last: usize, m: usize)
 }
 
 // Notes answer m of this call record and final state, which is about to be written. The first answer of the call record is put there anew.
-fn note_answer(calls: &mut [u64], answers: &mut [u64], m: usize, row: usize, last: State)
-    requires { ⌜ (row < room call-width (length (now calls))) × (m < answer-room (now answers)) × AnswerIndex (now calls) (now answers) m ⌝ }
-    ensures { λ _. ⌜ AnswerNoted (now (calls .entry)) (now (answers .entry)) m row (last .0) (now (calls .exit)) (now (answers .exit)) ⌝ }
+fn note_answer(
+    calls: &mut [u64],
+    answers: &mut [u64],
+    m: usize,
+    most: usize,
+    row: usize,
+    last: State,
+)
+    requires { ⌜ (row < room call-width (length (now calls))) × AnswersOpen most (now answers) (m + 1)
+        × AnswerIndex most (now calls) (now answers) m ⌝ }
+    ensures { λ _. ⌜ AnswerNoted most (now (calls .entry)) (now (answers .entry)) m row (last .0) (now (calls .exit)) (now (answers .exit)) ⌝ }
 {
-    let most = tables::room_of(answers.len(), tables::ANSWER_WORDS);
     let base = PACKED_WORDS * most;
     let f = first_answer(calls, answers, m, row);
     let end = last_of(answers, base, f, m);
@@ -345,20 +335,21 @@ pub fn add_answer(
     calls: &mut [u64],
     answers: &mut [u64],
     m: usize,
+    most: usize,
     row: usize,
     last: State,
     rule: u64,
     evidence: &[u64; 16],
     round: u64,
 ) -> Put
-    requires { ⌜ AnswersOpen (now answers) m × AnswerIndex (now calls) (now answers) m × (row < room call-width (length (now calls))) ⌝ }
+    requires { ⌜ AnswersOpen most (now answers) m × AnswerIndex most (now calls) (now answers) m × (row < room call-width (length (now calls))) ⌝ }
     requires { ⌜ ((q : ℕ) → q < 16 → getD (now evidence) q 0 < 65536) ⌝ }
-    ensures { λ r. ⌜ AnswerPut (answer-room (now (answers .entry))) (packed-answers (now (answers .entry)) m) row (last .0) rule
+    ensures { λ r. ⌜ AnswerPut most (packed-answers (now (answers .entry)) m) row (last .0) rule
         (now (evidence .entry)) round (packed-answers (now (answers .exit)) (r .count)) (r .full) ⌝ }
-    ensures { λ r. ⌜ AnswersOpen (now (answers .exit)) (r .count) × AnswerIndex (now (calls .exit)) (now (answers .exit)) (r .count) ⌝ }
+    ensures { λ r. ⌜ AnswersOpen most (now (answers .exit)) (r .count) × AnswerIndex most (now (calls .exit)) (now (answers .exit)) (r .count) ⌝ }
     ensures { λ _. ⌜ AnswersKept (now (calls .entry)) (now (answers .entry)) (now (calls .exit)) (now (answers .exit)) row ⌝ }
 {
-    let x = find_answer(answers, m, row, last);
+    let x = find_answer(answers, m, most, row, last);
     if x < m {
         return Put {
             row: x,
@@ -366,8 +357,8 @@ pub fn add_answer(
             full: false,
         };
     }
-    if m < tables::room_of(answers.len(), tables::ANSWER_WORDS) {
-        note_answer(calls, answers, m, row, last);
+    if m < most {
+        note_answer(calls, answers, m, most, row, last);
         desk::put_answer(answers, m, row, last, rule, evidence, round);
         return Put {
             row: m,

@@ -49,18 +49,18 @@ module _ {calls list calls′ list′ : List ℕ} (k : CallsKept calls list call
   pub called-uses : uses-in calls′ list′ ≡ uses-in calls list
   called-uses = uses-calls calls calls′ list′ (k .uses) ∙ uses-list calls list list′ (λ i. k .notes i 0 (omega arith)) (λ i. k .notes i 1 (omega arith))
 
-  pub called-index : {answers : List ℕ} {m : ℕ} → AnswerIndex calls answers m → AnswerIndex calls′ answers m
+  pub called-index : {answers : List ℕ} {most m : ℕ} → AnswerIndex most calls answers m → AnswerIndex most calls′ answers m
   called-index c = answer-index-calls c (λ r. ap (λ (w : ℕ). quarter w 3) (k .uses r))
 
 -- ---- callers are noted
 module _ {n : ℕ} {calls calls′ : List ℕ} (a : UsesAlone n calls calls′) where
-  pub noted-kept : {list answers : List ℕ} {c m : ℕ} → n ≤ c → Kept calls list c answers m → Kept calls′ list c answers m
+  pub noted-kept : {list answers : List ℕ} {most c m : ℕ} → n ≤ c → Kept most calls list c answers m → Kept most calls′ list c answers m
   noted-kept {list} l k = record {
     calls-open = record { stored = uses.alone-stored (uses.alone-up l a) (k .calls-open .stored); listed = rw (a .long) (k .calls-open .listed) };
     answers-open = k .answers-open;
   }
 
-  pub noted-indexed : {list answers : List ℕ} {c m : ℕ} → Indexed calls list c answers m → Indexed calls′ list c answers m
+  pub noted-indexed : {list answers : List ℕ} {most c m : ℕ} → Indexed most calls list c answers m → Indexed most calls′ list c answers m
   noted-indexed x = record {
     of-calls = call-index-same (x .of-calls) (a .long) (λ i l. (ap (λ (w : ℕ). w / action-unit) (a .heads i), a .states i)) (λ p j l h. refl);
     of-answers = answer-index-calls (x .of-answers) (a .firsts);
@@ -71,13 +71,13 @@ module _ {n : ℕ} {calls calls′ : List ℕ} (a : MarksAlone n calls calls′)
   pub marked-uses : (list : List ℕ) → uses-in calls′ list ≡ uses-in calls list
   marked-uses list = uses-calls calls calls′ list (a .thirds)
 
-  pub marked-kept : {list answers : List ℕ} {c m : ℕ} → n ≤ c → Kept calls list c answers m → Kept calls′ list c answers m
+  pub marked-kept : {list answers : List ℕ} {most c m : ℕ} → n ≤ c → Kept most calls list c answers m → Kept most calls′ list c answers m
   marked-kept {list} l k = record {
     calls-open = record { stored = marks.alone-stored (marks.alone-up l a) (k .calls-open .stored); listed = rw (a .long) (k .calls-open .listed) };
     answers-open = k .answers-open;
   }
 
-  pub marked-indexed : {list answers : List ℕ} {c m : ℕ} → Indexed calls list c answers m → Indexed calls′ list c answers m
+  pub marked-indexed : {list answers : List ℕ} {most c m : ℕ} → Indexed most calls list c answers m → Indexed most calls′ list c answers m
   marked-indexed x = record {
     of-calls = call-index-same (x .of-calls) (a .long) (λ i l. (omega (arith, a .above i), a .states i)) (λ p j l h. refl);
     of-answers = answer-index-calls (x .of-answers) (λ r. ap (λ (w : ℕ). quarter w 3) (a .thirds r));
@@ -85,14 +85,14 @@ module _ {n : ℕ} {calls calls′ : List ℕ} (a : MarksAlone n calls calls′)
 
 -- ---- what a round looks at is noted
 module _ {list list′ : List ℕ} (a : LooksAlone list list′) where
-  pub looked-kept : {calls answers : List ℕ} {n m : ℕ} → Kept calls list n answers m → Kept calls list′ n answers m
+  pub looked-kept : {calls answers : List ℕ} {most n m : ℕ} → Kept most calls list n answers m → Kept most calls list′ n answers m
   looked-kept k = record { calls-open = record { stored = k .calls-open .stored; listed = rw (a .long) (k .calls-open .listed) }; answers-open = k .answers-open }
 
   index-notes : (p j : ℕ) → Dec (j ≡ 2) → j < 4 → 2 ≤ j → quarter (getD list′ p 0) j ≡ quarter (getD list p 0) j
   index-notes p j (yes e) l h = rw e (a .links p)
   index-notes p j (no n) l h = let z : j ≡ 3 = omega arith in rw z (a .heads p)
 
-  pub looked-indexed : {calls answers : List ℕ} {n m : ℕ} → Indexed calls list n answers m → Indexed calls list′ n answers m
+  pub looked-indexed : {calls answers : List ℕ} {most n m : ℕ} → Indexed most calls list n answers m → Indexed most calls list′ n answers m
   looked-indexed x = record {
     of-calls = call-index-same (x .of-calls) refl (λ i l. (refl, refl)) (λ p j l h. index-notes p j (ℕ-discrete j 2) l h);
     of-answers = x .of-answers;

@@ -23,14 +23,14 @@ use Rattle.invariants.proofs.Turn.{Before, Picked, of-all, of-looked, o
 abbrev pub in-words : List ℕ → ℕ → List ℕ → ℕ → Tables
 in-words calls n answers m = tables (open-calls calls n) (packed-answers answers m)
 
-pub record Kept (calls list : List ℕ) (n : ℕ) (answers : List ℕ) (m : ℕ) : Type 0 where
+pub record Kept (most : ℕ) (calls list : List ℕ) (n : ℕ) (answers : List ℕ) (m : ℕ) : Type 0 where
   pub calls-open : CallsOpen calls list n
-  pub answers-open : AnswersOpen answers m
+  pub answers-open : AnswersOpen most answers m
 
 -- Their indexes are in order.
-pub record Indexed (calls list : List ℕ) (n : ℕ) (answers : List ℕ) (m : ℕ) : Type 0 where
+pub record Indexed (most : ℕ) (calls list : List ℕ) (n : ℕ) (answers : List ℕ) (m : ℕ) : Type 0 where
   pub of-calls : CallIndex calls list n
-  pub of-answers : AnswerIndex calls answers m
+  pub of-answers : AnswerIndex most calls answers m
 
 -- how many records are counted is of no account to a search among those known
 pub next-among : (words : List ℕ) {k known row from r : ℕ} (m : ℕ) → NextAnswer (packed-answers words k) known row from r → NextAnswer (packed-answers words m) known row from r

@@ -32,7 +32,7 @@ use Rattle.invariants.proofs.Rounds.{NotedAt, Closing, Round}
 
 module _ {n₀ n : ℕ} {calls list calls′ list′ : List ℕ} (cs : CallsOrdered n₀ n calls list calls′ list′) where
   -- the answers of records that stay are noted as before
-  pub index-ordered : {answers : List ℕ} {m : ℕ} → ((x : ℕ) → x < m → getD answers (packed-width * x) 0 < n₀) → AnswerIndex calls answers m → AnswerIndex calls′ answers m
+  pub index-ordered : {answers : List ℕ} {most m : ℕ} → ((x : ℕ) → x < m → getD answers (packed-width * x) 0 < n₀) → AnswerIndex most calls answers m → AnswerIndex most calls′ answers m
   index-ordered {answers} {m} inside x = record {
     covers = x .covers;
     queued = record {
@@ -54,8 +54,8 @@ module _ {n₀ n : ℕ} {calls list calls′ list′ : List ℕ} (cs : CallsOrde
       by r (no l) (yes k) = rw (cs .unmarked r (omega arith) k) (omega arith)
       by r (no l) (no k) = rw (cs .kept .stored .past (call-width * r) (omega arith)) (omega arith)
 
-module _ (calls₀ : List ℕ) (n₀ : ℕ) (answers₀ : List ℕ) (m₀ : ℕ) (calls list answers calls′ list′ answers′ : List ℕ) (n m : ℕ)
-    (cs : CallsOrdered n₀ n calls list calls′ list′) (ns : AnswersOrdered m₀ m calls′ answers answers′) where
+module _ {room : ℕ} (calls₀ : List ℕ) (n₀ : ℕ) (answers₀ : List ℕ) (m₀ : ℕ) (calls list answers calls′ list′ answers′ : List ℕ) (n m : ℕ)
+    (cs : CallsOrdered n₀ n calls list calls′ list′) (ns : AnswersOrdered room m₀ m calls′ answers answers′) where
   abbrev b : Tables
   b = in-words calls₀ n₀ answers₀ m₀
 

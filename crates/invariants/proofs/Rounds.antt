@@ -1,5 +1,5 @@
 -- Rounds, rows and rules: what is closed so far, and what a round that added nothing leaves. Assumes nothing.
-use Prim.Native.Nat.{ℕ, _+_, _/_, _<_, _≤_}
+use Prim.Native.Nat.{ℕ, _+_, _<_, _≤_}
 use native.Mathlib.Omega.{arith}
 use native.Mathlib.Decide.{decLt}
 use mathlib.Core.Path.{_≡_, refl, sym, ap, _∙_}
@@ -11,9 +11,7 @@ use Rattle.steps.specs.State.{State}
 use Rattle.steps.specs.Inner.{is-call}
 use Rattle.steps.specs.Elementary.{stuck, elementary}
 use Rattle.steps.specs.Words.{step-of}
-use Rattle.steps.specs.Widths.{rule-width}
-use Rattle.records.specs.Records.{Bodies, bodies-of}
-use Rattle.records.specs.Bodies.{number-at}
+use Rattle.records.specs.Records.{Bodies}
 use Rattle.records.proofs.Growth.{Tables, HeldCall, Held, Grew, grew-refl, Inside, held-up, row-once}
 use Rattle.uses.specs.Uses.{Uses, Used, UsesGrew, UsesKept, HeldUsed, Passed, Spans, Lit}
 use Rattle.uses.proofs.UsesLaws.{kept-of, uses-refl, uses-trans, held-used, held-used-up, lit-up}
@@ -37,12 +35,6 @@ pub record Stopped (body : List ℕ) (D : State) : Type 0 where
   pub some : 0 < length body
   pub plain : is-call (getD body 0 0) ≡ false
   pub ends : elementary (step-of (getD body 0 0)) D ≡ stuck
-
--- r tells whether the body at place k, of the rules and the goal behind them, is one of the action, but for one that stops at its first step.
-pub record Beginning (rules goal : List ℕ) (k a : ℕ) (D : State) (r : Bool) : Type 0 where
-  pub fits : r ≡ true → bodies-of rules goal .fits (number-at (length rules / rule-width) k) a ≡ true
-  pub stops : r ≡ false → bodies-of rules goal .fits (number-at (length rules / rule-width) k) a ≡ true
-      → Stopped (bodies-of rules goal .words (number-at (length rules / rule-width) k) a) D
 
 noted-stopped : (body : List ℕ) (t : Tables) (uses : Uses) (known row : ℕ) → Stopped body (t .calls .state row) → NotedAt body t uses known row
 noted-stopped body t uses known row s =
@@ -234,11 +226,16 @@ module _ (bodies : Bodies) (Root : ℕ → State → Type 0) where
     pub rules-start : {first walked seen low high top old round rows known row : ℕ} {warm : Bool} {begun : Begin} {t : Tables} {uses : Uses} → Rows first walked seen low high top old warm round rows known row begun t uses → Rules first walked seen low high top old warm round rows known row 0 begun t uses
     rules-start R = record { rows-closed = R; rules-closed = λ k h. absurd (omega arith) }
 
-    -- a rule of another action, or one whose body stops at its first step
+    -- a rule whose body, if it is one of the action, stops at its first step
     pub rules-stopped : {first walked seen low high top old round rows known row rule : ℕ} {warm : Bool} {begun : Begin} {t : Tables} {uses : Uses} → Rules first walked seen low high top old warm round rows known row rule begun t uses
         → (bodies .fits (number rule) (t .calls .action row) ≡ true → Stopped (bodies .words (number rule) (t .calls .action row)) (t .calls .state row))
         → Rules first walked seen low high top old warm round rows known row (rule + 1) begun t uses
     rules-stopped {known = known} {row} {rule} {t = t} {uses} R n = record { rows-closed = R .rows-closed; rules-closed = λ k h. ⊎-elim (λ l. R .rules-closed k l) (λ (z : k ≡ rule). λ e. rw z (noted-stopped _ t uses known row (n (rw z at e)))) (last-one h) }
+
+    -- a rule of another action
+    pub rules-skip : {first walked seen low high top old round rows known row rule : ℕ} {warm : Bool} {begun : Begin} {t : Tables} {uses : Uses} → Rules first walked seen low high top old warm round rows known row rule begun t uses → (bodies .fits (number rule) (t .calls .action row) ≡ true → ⊥)
+        → Rules first walked seen low high top old warm round rows known row (rule + 1) begun t uses
+    rules-skip R n = rules-stopped R (λ e. absurd (n e))
 
     -- a walk that is over
     pub rules-next : {first walked seen low high top old round rows known row rule walk i : ℕ} {warm : Bool} {begun : Begin} {b u : Tables} {P : Before} {body : List ℕ} {marks : ℕ → ℕ} {uses uses′ : Uses} → Rules first walked seen low high top old warm round rows known row rule begun b uses → row < rows → i ≡ number rule → body ≡ bodies .words i (b .calls .action row)

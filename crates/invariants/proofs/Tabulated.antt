@@ -49,7 +49,7 @@ given c a = record {
 
 -- Where the rounds are over and the tables are given.
 pub tabulated : {rules goal : List ℕ} {roots : List (ℕ × State)} {first : ℕ} {b₀ : Tables} {calls list answers calls₁ list₁ answers₁ calls′ answers′ : List ℕ} {full : Bool} {n m rounds : ℕ}
-    → Proper (bodies-of rules goal) → full ≡ false → Filled rules goal roots first b₀ calls list answers calls₁ list₁ answers₁ full n m rounds
+    → Proper (bodies-of rules goal) → full ≡ false → Filled (bodies-of rules goal) (room answer-width (length answers)) roots first b₀ calls list answers calls₁ list₁ answers₁ full n m rounds
     → CallsClosed calls₁ n calls′ → AnswersClosed answers₁ m answers′ → Tabulated rules goal roots first b₀ calls answers calls′ answers′ full n m rounds
 tabulated {calls₁ = calls₁} {answers₁ = answers₁} {n = n} {m} proper over F c a =
     let R = given {calls = calls₁} {answers = answers₁} {n = n} {m = m} c a in
@@ -66,7 +66,7 @@ tabulated {calls₁ = calls₁} {answers₁ = answers₁} {n = n} {m} proper ove
 
 -- Where a table is full.
 pub tabulated-full : {rules goal : List ℕ} {roots : List (ℕ × State)} {first : ℕ} {b₀ : Tables} {calls list answers calls₁ list₁ answers₁ : List ℕ} {full : Bool} {n m rounds : ℕ}
-    → full ≡ true → Filled rules goal roots first b₀ calls list answers calls₁ list₁ answers₁ full n m rounds → Tabulated rules goal roots first b₀ calls answers calls₁ answers₁ full n m rounds
+    → full ≡ true → Filled (bodies-of rules goal) (room answer-width (length answers)) roots first b₀ calls list answers calls₁ list₁ answers₁ full n m rounds → Tabulated rules goal roots first b₀ calls answers calls₁ answers₁ full n m rounds
 tabulated-full t F = record {
   calls-long = F .calls-long;
   answers-long = F .answers-long;

@@ -1,11 +1,14 @@
 // One step of the walk of a checked record.
 use checks::follow::follow;
 use records::bodies;
+use records::bodies::Goals;
 use records::tables;
+use steps::state::Call;
 use steps::state::State;
 use steps::word::Next;
 use steps::word::is_call;
 ghost use mathlib.Core.Path.{_≡_};
+ghost use mathlib.Core.Bool.{false};
 ghost use mathlib.Core.List.{List};
 ghost use Prim.Native.Nat.{ℕ, _+_, _≤_};
 ghost use lib.ListN.{length};
@@ -24,7 +27,7 @@ pub struct Turn {
 
 // The state of record n's call.
 pub fn start(calls: &[u64], answers: &[u64], n: usize) -> u64
-    requires { ⌜ Readable (now calls) (now answers) (n + 1) ⌝ }
+    requires { ⌜ Readable false (now calls) (now answers) (n + 1) ⌝ }
     ensures { λ s. ⌜ s ≡ start-at (now (calls .entry)) (now (answers .entry)) n ⌝ }
 {
     tables::state_of(
@@ -39,10 +42,13 @@ pub fn steps_of<'a>(rules: &'a [u16], goal: &'a [u16], answers: &[u64], n: usize
     requires { ⌜ ((calls : List ℕ) × Checked (now rules) (now goal) calls (now answers) (n + 1)) ⌝ }
     ensures { λ b. ⌜ (now b ≡ words-at (now (rules .entry)) (now (goal .entry)) (now (answers .entry)) n) × (length (now b) ≤ 16) ⌝ }
 {
-    bodies::steps_of(
+    bodies::steps_for(
         rules,
         goal,
+        goal,
+        Goals::ALONE,
         tables::rule_of(answers, tables::ANSWER_WORDS, n),
+        Call::GOAL,
     )
 }
 
@@ -56,10 +62,10 @@ pub fn shown(step: u16) -> usize
 
 // The state after a step of record n that goes on.
 pub fn after(step: u16, state: u64, evidence: u64, n: usize, calls: &[u64], answers: &[u64]) -> u64
-    requires { ⌜ Readable (now calls) (now answers) (n + 1) × ((t : ℕ) × LeadsTo (now calls) (now answers) n step state evidence t) ⌝ }
+    requires { ⌜ Readable false (now calls) (now answers) (n + 1) × ((t : ℕ) × LeadsTo (now calls) (now answers) n step state evidence t) ⌝ }
     ensures { λ t. ⌜ LeadsTo (now (calls .entry)) (now (answers .entry)) n step state evidence t ⌝ }
 {
-    let next = follow(step, State::of(state), evidence, n, calls, answers);
+    let next = follow(false, step, State::of(state), evidence, n, calls, answers);
     match next {
         Next::On(t) => t.0,
         Next::Stuck => state,
@@ -76,7 +82,7 @@ pub fn take_step(
     answers: &[u64],
     sizes: &[u8],
 ) -> Turn
-    requires { ⌜ Readable (now calls) (now answers) (n + 1) × (n ≤ length (numbers (now sizes)))
+    requires { ⌜ Readable false (now calls) (now answers) (n + 1) × (n ≤ length (numbers (now sizes)))
         × ((t : ℕ) × LeadsTo (now calls) (now answers) n step state evidence t) ⌝ }
     ensures { λ r. ⌜ Turned (now (calls .entry)) (now (answers .entry)) (numbers (now (sizes .entry))) n step state evidence
         (r .state) (r .size) ⌝ }

@@ -3,10 +3,11 @@ use Prim.Native.Nat.{ℕ, _+_, _*_, _<_, _≤_}
 use mathlib.Core.Path.{_≡_}
 use mathlib.Core.Bool.{Bool, true, false, cond}
 use mathlib.Core.List.{List}
+use mathlib.Core.Logic.{_⊎_}
 use lib.ListN.{length, getD}
 use lib.Dec.{ltb}
 use Rattle.steps.specs.State.{State}
-use Rattle.records.specs.Records.{Calls, Answers}
+use Rattle.records.specs.Records.{Calls, Answers, room, call-width, answer-width}
 
 -- ---- the words
 
@@ -29,6 +30,13 @@ answers-in width words n = record {
   evidence = λ x q. getD words (width * x + 3 + q) 0;
   round = round-in 19 width words;
 }
+
+-- The words of a call record and of an answer record: a plain one has no round, and its number stands for it.
+abbrev pub call-width-of : Bool → ℕ
+call-width-of plain = cond plain 2 call-width
+
+abbrev pub answer-width-of : Bool → ℕ
+answer-width-of plain = cond plain 19 answer-width
 
 -- The first n records of `width` words are in use, and all words past them are 0.
 pub record Stored (width : ℕ) (words : List ℕ) (n : ℕ) : Type 0 where
@@ -66,6 +74,12 @@ pub data CallPut (places : ℕ) (calls : Calls) (a : ℕ) (D : State) (r : ℕ) 
   call-added : full ≡ false → row ≡ calls .count → calls .count < places → NoCall calls a D → CallAdded calls a D r calls′
       → CallPut places calls a D r calls′ row full
   call-no-room : full ≡ true → calls .count ≡ places → NoCall calls a D → calls′ ≡ calls → CallPut places calls a D r calls′ row full
+
+-- What the code leaves in the words.
+pub record CallStored (width : ℕ) (words : List ℕ) (n a : ℕ) (D : State) (r : ℕ) (words′ : List ℕ) (row n′ : ℕ) (full : Bool) : Type 0 where
+  pub long : length words′ ≡ length words
+  pub stored : Stored width words′ n′
+  pub put : CallPut (room width (length words)) (calls-in width words n) a D r (calls-in width words′ n′) row full
 
 -- ---- answers
 
@@ -112,3 +126,29 @@ pub data AnswerPut (places : ℕ) (answers : Answers) (row : ℕ) (f : State) (r
       → AnswerPut places answers row f rule evidence r answers′ full
   answer-no-room : full ≡ true → answers .count ≡ places → NoAnswer answers row f → answers′ ≡ answers
       → AnswerPut places answers row f rule evidence r answers′ full
+
+pub record AnswerStored (width : ℕ) (words : List ℕ) (n row : ℕ) (f : State) (rule : ℕ) (evidence : List ℕ) (r : ℕ) (words′ : List ℕ) (n′ : ℕ)
+    (full : Bool) : Type 0 where
+  pub long : length words′ ≡ length words
+  pub stored : Stored width words′ n′
+  pub put : AnswerPut (room width (length words)) (answers-in width words n) row f rule evidence r (answers-in width words′ n′) full
+
+-- ---- the words of one record written
+
+-- Word i is none of record n.
+abbrev pub Beside : ℕ → ℕ → ℕ → Type 0
+Beside width n i = (i < width * n) ⊎ (width * n + width ≤ i)
+
+pub record PutCall (width : ℕ) (words : List ℕ) (n a : ℕ) (D : State) (r : ℕ) (words′ : List ℕ) : Type 0 where
+  pub long : length words′ ≡ length words
+  pub other : (i : ℕ) → Beside width n i → getD words′ i 0 ≡ getD words i 0
+  pub new : CallAt (calls-in width words′ n) n a D
+  pub new-round : 2 < width → calls-in width words′ n .round n ≡ r
+
+pub record PutAnswer (width : ℕ) (words : List ℕ) (m row : ℕ) (f : State) (rule : ℕ) (evidence : List ℕ) (r : ℕ) (words′ : List ℕ) : Type 0 where
+  pub long : length words′ ≡ length words
+  pub other : (i : ℕ) → Beside width m i → getD words′ i 0 ≡ getD words i 0
+  pub new : AnswerAt (answers-in width words′ m) m row f
+  pub new-rule : answers-in width words′ m .rule m ≡ rule
+  pub new-evidence : (q : ℕ) → q < 16 → answers-in width words′ m .evidence m q ≡ getD evidence q 0
+  pub new-round : 19 < width → answers-in width words′ m .round m ≡ r

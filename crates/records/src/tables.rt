@@ -1,4 +1,4 @@
-// The words of the two tables as they are given: reading records. While a run lasts records stand otherwise, and crate `desk` knows
+// The words of the two tables as they are given: reading and writing records. While a run lasts records stand otherwise, and crate `desk` knows
 // how; an index knows only that the first two words of a record are its key.
 use steps::state::Call;
 use steps::state::State;
@@ -6,7 +6,7 @@ ghost use mathlib.Core.Path.{_≡_};
 ghost use Prim.Native.Nat.{_+_, _*_, _<_, _≤_};
 ghost use lib.ListN.{length, getD, replicate};
 ghost use Rattle.records.specs.Records.{room, call-table, call-width};
-ghost use Rattle.records.specs.Storage.{round-in, FindCall};
+ghost use Rattle.records.specs.Storage.{round-in, call-width-of, answer-width-of, FindCall, PutCall, PutAnswer};
 
 // Call record: action, state, round.
 pub const CALL_WORDS: usize = 3;
@@ -19,6 +19,20 @@ pub const ANSWER_WORDS: usize = 20;
 
 // The words of an answer record before its round.
 pub const ANSWER_OTHERS: usize = 19;
+
+// The words of a call record; a plain one has no round.
+pub fn call_width(plain: bool) -> usize
+    ensures { λ r. ⌜ r ≡ call-width-of plain ⌝ }
+{
+    if plain { CALL_OTHERS } else { CALL_WORDS }
+}
+
+// The words of an answer record; a plain one has no round.
+pub fn answer_width(plain: bool) -> usize
+    ensures { λ r. ⌜ r ≡ answer-width-of plain ⌝ }
+{
+    if plain { ANSWER_OTHERS } else { ANSWER_WORDS }
+}
 
 // How many records of this width a table of this length holds, at most 65,536.
 pub fn room_of(len: usize, width: usize) -> usize
@@ -119,6 +133,47 @@ pub fn find_call(calls: &[u64], n: usize, call: Call) -> usize
         i += 1;
     }
     n
+}
+
+// Writes call record n, of 2 words or of 3 with its round.
+pub fn put_call(calls: &mut [u64], width: usize, n: usize, call: Call, round: u64)
+    requires { ⌜ (2 ≤ width) × (width ≤ 3) × (width * n + width ≤ length (now calls)) ⌝ }
+    ensures { λ _. ⌜ PutCall width (now (calls .entry)) n (call .action) (call .state .0) round (now (calls .exit)) ⌝ }
+{
+    let at = width * n;
+    calls[at] = call.action;
+    calls[at + 1] = call.state.0;
+    if CALL_OTHERS < width {
+        calls[at + CALL_OTHERS] = round;
+    }
+}
+
+// Writes answer record m, of 19 words or of 20 with its round.
+pub fn put_answer(
+    answers: &mut [u64],
+    width: usize,
+    m: usize,
+    row: usize,
+    last: State,
+    rule: u64,
+    evidence: &[u64; 16],
+    round: u64,
+)
+    requires { ⌜ (19 ≤ width) × (width ≤ 20) × (width * m + width ≤ length (now answers)) ⌝ }
+    ensures { λ _. ⌜ PutAnswer width (now (answers .entry)) m row (last .0) rule (now (evidence .entry)) round (now (answers .exit)) ⌝ }
+{
+    let at = width * m;
+    answers[at] = row as u64;
+    answers[at + 1] = last.0;
+    answers[at + 2] = rule;
+    let mut q = 0;
+    while q < 16 {
+        answers[at + 3 + q] = evidence[q];
+        q += 1;
+    }
+    if ANSWER_OTHERS < width {
+        answers[at + ANSWER_OTHERS] = round;
+    }
 }
 
 // Where a record stands and how many records there are then, or that there is no room for it.

@@ -1,7 +1,7 @@
 // The words of both tables of a run, straight from request R-7: calls by round, action and state; answers by round, call record and final state,
 // each with its lowest rule and then its least evidence. The rounds are known before (`depth`). The list of calls (R-10) goes through all actions and
-// states in turn. The states from which a body leads to a final
-// state are sought from its end back to its beginning; a rule gives an answer if the call's state is among them.
+// states in turn. The states from which a body leads to a final state are sought from its end back to its beginning; a rule gives an answer if the
+// call's state is among them.
 //
 // Calls stand here at the place of their action and state, 32 for the goal's, answers at 8 times that plus the final state.
 use crate::depth;

@@ -4,7 +4,7 @@ use mathlib.Core.Path.{_≡_}
 use mathlib.Core.List.{List}
 use lib.ListN.{length}
 use Rattle.steps.specs.State.{State}
-use Rattle.records.specs.Records.{Bodies, room, call-width, answer-width}
+use Rattle.records.specs.Records.{Bodies, room, call-width}
 use Rattle.records.proofs.Growth.{Tables}
 use Rattle.tabling.proofs.Measure.{left}
 use Rattle.uses.specs.Uses.{Uses, UsesGrew, uses-in}
@@ -20,12 +20,12 @@ use Rattle.search.specs.declared.Job.{Job}
 use Rattle.search.specs.declared.Spot.{Spot}
 
 -- The words keep their lengths, their records and indexes stay in order, and no use is forgotten.
-pub record Stays (calls list answers calls′ list′ : List ℕ) (n : ℕ) (answers′ : List ℕ) (m : ℕ) : Type 0 where
+pub record Stays (most : ℕ) (calls list answers calls′ list′ : List ℕ) (n : ℕ) (answers′ : List ℕ) (m : ℕ) : Type 0 where
   pub calls-long : length calls′ ≡ length calls
   pub list-long : length list′ ≡ length list
   pub answers-long : length answers′ ≡ length answers
-  pub kept : Kept calls′ list′ n answers′ m
-  pub indexed : Indexed calls′ list′ n answers′ m
+  pub kept : Kept most calls′ list′ n answers′ m
+  pub indexed : Indexed most calls′ list′ n answers′ m
   pub uses-more : UsesGrew (uses-in calls list) (uses-in calls′ list′)
 
 -- The node of the search at which a walk is.
@@ -44,8 +44,7 @@ Stepped (front.On s′) bodies Root b begun job body cw aw chosen at s t marks u
     × (left (job .known) chosen′ (at + 1) < left (job .known) chosen at)
 Stepped front.Spent bodies Root b begun job body cw aw chosen at s t marks uses chosen′ =
     Turned bodies Root b (job .known) (job .rule) (job .row) (job .walk) (past-of job begun) body t marks uses chosen′ at s × (chosen′ ≡ chosen)
-Stepped front.Full bodies Root b begun job body cw aw chosen at s t marks uses chosen′ = Outgrown bodies Root (room call-width cw)
-    (room answer-width aw)
+Stepped front.Full bodies Root b begun job body cw aw chosen at s t marks uses chosen′ = Outgrown bodies Root (room call-width cw) aw
 
 -- A whole turn: as above, or back at place p with another answer, or the walk is over.
 abbrev pub Leaving : Leave → Bodies → (ℕ → State → Type 0) → Tables → Begin → Job → List ℕ → ℕ → ℕ → List ℕ → ℕ → Tables → (ℕ → ℕ) → Uses
@@ -58,5 +57,4 @@ Leaving (leave.Back p s′) bodies Root b begun job body cw aw chosen at t marks
     × (left (job .known) chosen′ p < left (job .known) chosen at)
 Leaving leave.Done bodies Root b begun job body cw aw chosen at t marks uses chosen′ =
     Over bodies Root b (job .known) (job .rule) (job .row) (job .walk) (past-of job begun) body t marks uses
-Leaving leave.Full bodies Root b begun job body cw aw chosen at t marks uses chosen′ = Outgrown bodies Root (room call-width cw)
-    (room answer-width aw)
+Leaving leave.Full bodies Root b begun job body cw aw chosen at t marks uses chosen′ = Outgrown bodies Root (room call-width cw) aw

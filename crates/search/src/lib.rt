@@ -24,13 +24,14 @@ ghost use Rattle.invariants.proofs.Turn.{Begin, RetreatRow, Turning, Picked};
 ghost use Rattle.invariants.proofs.Going.{Kept, Indexed, WentBack, Going, in-words};
 ghost use Rattle.search.specs.Leaving.{spot-of, past-of, Stepped, Leaving, Stays};
 
-// What does not change while a body is walked: its rule's number, the call record that it is of, how many answers may serve, and the
-// walk's own number; the records from `first` up to `old` were walked before, with the answers below `seen`; whether the round has noted all
-// that it has to look at again; and the round's number.
+// What does not change while a body is walked: its rule's number, the call record that it is of, how many answers may serve and how many
+// there is room for, and the walk's own number; the records from `first` up to `old` were walked before, with the answers below `seen`;
+// whether the round has noted all that it has to look at again; and the round's number.
 pub struct Job {
     pub rule: u64,
     pub row: usize,
     pub known: usize,
+    pub most: usize,
     pub walk: u64,
     pub first: usize,
     pub old: usize,
@@ -70,15 +71,16 @@ fn finish(
     chosen: &[u64; 16],
     spot: Spot,
 ) -> Advanced
-    requires { ⌜ Kept (now calls) (now list) n (now answers) m × Indexed (now calls) (now list) n (now answers) m × (job .row < n) ⌝ }
+    requires { ⌜ Kept (job .most) (now calls) (now list) n (now answers) m × Indexed (job .most) (now calls) (now list) n (now answers) m
+        × (job .row < n) ⌝ }
     requires { ⌜ ((q : ℕ) → q < 16 → getD (now chosen) q 0 < 65536) ⌝ }
-    ensures { λ r. ⌜ Stays (now (calls .entry)) (now (list .entry)) (now (answers .entry)) (now (calls .exit)) (now (list .entry)) (r .calls)
-        (now (answers .exit)) (r .answers) × (r .calls ≡ n) ⌝ }
+    ensures { λ r. ⌜ Stays (job .most) (now (calls .entry)) (now (list .entry)) (now (answers .entry)) (now (calls .exit))
+        (now (list .entry)) (r .calls) (now (answers .exit)) (r .answers) × (r .calls ≡ n) ⌝ }
     ensures { λ r. ⌜ ((bodies : Bodies) (roots : List (ℕ × ℕ)) (b : Tables) (begun : Begin) (body : List ℕ) (at : ℕ) → length body ≤ at
         → Turning bodies (Among roots) b (job .known) (job .rule) (job .row) (job .walk) (past-of job begun) body
         (in-words (now (calls .entry)) n (now (answers .entry)) m) (mark-words (now (calls .entry)))
         (uses-in (now (calls .entry)) (now (list .entry))) (now (chosen .entry)) at (spot-of spot)
-        → Stepped (r .front) bodies (Among roots) b begun job body (length (now (calls .entry))) (length (now (answers .entry)))
+        → Stepped (r .front) bodies (Among roots) b begun job body (length (now (calls .entry))) (job .most)
         (now (chosen .entry)) at (spot-of spot)
         (in-words (now (calls .exit)) n (now (answers .exit)) (r .answers)) (mark-words (now (calls .exit)))
         (uses-in (now (calls .exit)) (now (list .entry))) (now (chosen .entry))) ⌝ }
@@ -87,6 +89,7 @@ fn finish(
         calls,
         answers,
         m,
+        job.most,
         job.row,
         spot.state,
         job.rule,
@@ -149,7 +152,7 @@ fn first_of(
     row: usize,
 ) -> usize
     requires { ⌜ (row < room call-width (length (now calls))) × (row < length (now list)) × (at ≤ 16) ⌝ }
-    requires { ⌜ ((m : ℕ) × (job .known ≤ m) × AnswersOpen (now answers) m × AnswerIndex (now calls) (now answers) m) ⌝ }
+    requires { ⌜ ((m : ℕ) × (job .known ≤ m) × AnswersOpen (job .most) (now answers) m × AnswerIndex (job .most) (now calls) (now answers) m) ⌝ }
     ensures { λ r. ⌜ (r ≤ job .known) × ((begun : Begin) (body : List ℕ) → now (rest .entry) ≡ drop at body
         → Picked (packed-answers (now (answers .entry)) (job .known)) (uses-in (now (calls .entry)) (now (list .entry))) (job .known) (job .row)
         (past-of job begun) body (now (chosen .entry)) at row r) ⌝ }
@@ -185,16 +188,16 @@ fn enter(
     chosen: &mut [u64; 16],
     spot: Spot,
 ) -> Advanced
-    requires { ⌜ Kept (now calls) (now list) n (now answers) m × Indexed (now calls) (now list) n (now answers) m
+    requires { ⌜ Kept (job .most) (now calls) (now list) n (now answers) m × Indexed (job .most) (now calls) (now list) n (now answers) m
         × Stamped (mark-words (now calls)) (job .walk) × (at < 16) × (job .known ≤ m) × (job .row < n) × (job .round < round-top) ⌝ }
-    ensures { λ r. ⌜ Stays (now (calls .entry)) (now (list .entry)) (now (answers .entry)) (now (calls .exit)) (now (list .exit)) (r .calls)
-        (now (answers .entry)) (r .answers) × (r .answers ≡ m) ⌝ }
+    ensures { λ r. ⌜ Stays (job .most) (now (calls .entry)) (now (list .entry)) (now (answers .entry)) (now (calls .exit))
+        (now (list .exit)) (r .calls) (now (answers .entry)) (r .answers) × (r .answers ≡ m) ⌝ }
     ensures { λ r. ⌜ ((bodies : Bodies) (roots : List (ℕ × ℕ)) (b : Tables) (begun : Begin) (body : List ℕ) → at < length body
         → is-call (getD body at 0) ≡ true → getD body at 0 ≡ step → now (rest .entry) ≡ drop at body
         → Turning bodies (Among roots) b (job .known) (job .rule) (job .row) (job .walk) (past-of job begun) body
         (in-words (now (calls .entry)) n (now (answers .entry)) m) (mark-words (now (calls .entry)))
         (uses-in (now (calls .entry)) (now (list .entry))) (now (chosen .entry)) at (spot-of spot)
-        → Stepped (r .front) bodies (Among roots) b begun job body (length (now (calls .entry))) (length (now (answers .entry)))
+        → Stepped (r .front) bodies (Among roots) b begun job body (length (now (calls .entry))) (job .most)
         (now (chosen .entry)) at (spot-of spot)
         (in-words (now (calls .exit)) (r .calls) (now (answers .entry)) m) (mark-words (now (calls .exit)))
         (uses-in (now (calls .exit)) (now (list .exit))) (now (chosen .exit))) ⌝ }
@@ -256,17 +259,17 @@ fn advance(
     chosen: &mut [u64; 16],
     spot: Spot,
 ) -> Advanced
-    requires { ⌜ Kept (now calls) (now list) n (now answers) m × Indexed (now calls) (now list) n (now answers) m
+    requires { ⌜ Kept (job .most) (now calls) (now list) n (now answers) m × Indexed (job .most) (now calls) (now list) n (now answers) m
         × Stamped (mark-words (now calls)) (job .walk) × (at + length (now rest) ≤ 16) × (job .known ≤ m) × (job .row < n)
         × (job .round < round-top) ⌝ }
     requires { ⌜ (length (now rest) ≡ 0 → (q : ℕ) → q < 16 → getD (now chosen) q 0 < 65536) ⌝ }
-    ensures { λ r. ⌜ Stays (now (calls .entry)) (now (list .entry)) (now (answers .entry)) (now (calls .exit)) (now (list .exit)) (r .calls)
-        (now (answers .exit)) (r .answers) ⌝ }
+    ensures { λ r. ⌜ Stays (job .most) (now (calls .entry)) (now (list .entry)) (now (answers .entry)) (now (calls .exit))
+        (now (list .exit)) (r .calls) (now (answers .exit)) (r .answers) ⌝ }
     ensures { λ r. ⌜ ((bodies : Bodies) (roots : List (ℕ × ℕ)) (b : Tables) (begun : Begin) (body : List ℕ) → now (rest .entry) ≡ drop at body
         → Turning bodies (Among roots) b (job .known) (job .rule) (job .row) (job .walk) (past-of job begun) body
         (in-words (now (calls .entry)) n (now (answers .entry)) m) (mark-words (now (calls .entry)))
         (uses-in (now (calls .entry)) (now (list .entry))) (now (chosen .entry)) at (spot-of spot)
-        → Stepped (r .front) bodies (Among roots) b begun job body (length (now (calls .entry))) (length (now (answers .entry)))
+        → Stepped (r .front) bodies (Among roots) b begun job body (length (now (calls .entry))) (job .most)
         (now (chosen .entry)) at (spot-of spot)
         (in-words (now (calls .exit)) (r .calls) (now (answers .exit)) (r .answers)) (mark-words (now (calls .exit)))
         (uses-in (now (calls .exit)) (now (list .exit))) (now (chosen .exit))) ⌝ }
@@ -320,9 +323,16 @@ pub struct Later {
 }
 
 // The place after the latest call step with an answer left, and that answer; place 0 where there is none.
-fn retreat(body: &[u16], answers: &[u64], known: usize, chosen: &[u64; 16], at: usize) -> Later
+fn retreat(
+    body: &[u16],
+    answers: &[u64],
+    known: usize,
+    most: usize,
+    chosen: &[u64; 16],
+    at: usize,
+) -> Later
     requires { ⌜ (at ≤ length (now body)) × (at ≤ 16) × Chosen (now body) known (now chosen) at ⌝ }
-    requires { ⌜ ((m : ℕ) × (known ≤ m) × AnswersOpen (now answers) m × ((calls : List ℕ) × AnswerIndex calls (now answers) m)) ⌝ }
+    requires { ⌜ ((m : ℕ) × (known ≤ m) × AnswersOpen most (now answers) m × ((calls : List ℕ) × AnswerIndex most calls (now answers) m)) ⌝ }
     ensures { λ r. ⌜ RetreatRow (now (body .entry)) (packed-answers (now (answers .entry)) known) known (now (chosen .entry)) at (r .at)
         (r .answer) ⌝ }
 {
@@ -331,7 +341,7 @@ fn retreat(body: &[u16], answers: &[u64], known: usize, chosen: &[u64; 16], at: 
         place -= 1;
         if word::is_call(body[place]) {
             let last = chosen[place] as usize;
-            let later = index::later_answer(answers, known, last);
+            let later = index::later_answer(answers, known, most, last);
             if later < known {
                 return Later {
                     at: place + 1,
@@ -350,13 +360,20 @@ pub struct Went {
 }
 
 // Takes the next answer of the latest call step that has one left: the place after it and its final state; place 0 where there is none.
-fn go_back(body: &[u16], answers: &[u64], known: usize, chosen: &mut [u64; 16], at: usize) -> Went
+fn go_back(
+    body: &[u16],
+    answers: &[u64],
+    known: usize,
+    most: usize,
+    chosen: &mut [u64; 16],
+    at: usize,
+) -> Went
     requires { ⌜ (at ≤ length (now body)) × (at ≤ 16) × Chosen (now body) known (now chosen) at ⌝ }
-    requires { ⌜ ((m : ℕ) × (known ≤ m) × AnswersOpen (now answers) m × ((calls : List ℕ) × AnswerIndex calls (now answers) m)) ⌝ }
+    requires { ⌜ ((m : ℕ) × (known ≤ m) × AnswersOpen most (now answers) m × ((calls : List ℕ) × AnswerIndex most calls (now answers) m)) ⌝ }
     ensures { λ r. ⌜ WentBack (now (body .entry)) (now (answers .entry)) known (now (chosen .entry)) at (now (chosen .exit)) (r .at)
         (spot-of (r .spot)) ⌝ }
 {
-    let back = retreat(body, answers, known, chosen, at);
+    let back = retreat(body, answers, known, most, chosen, at);
     let after = back.at;
     let answer = back.answer;
     if after == 0 {
@@ -406,17 +423,18 @@ pub fn turn(
     chosen: &mut [u64; 16],
     spot: Spot,
 ) -> Moved
-    requires { ⌜ Kept (now calls) (now list) n (now answers) m × Indexed (now calls) (now list) n (now answers) m × (job .round < round-top) ⌝ }
+    requires { ⌜ Kept (job .most) (now calls) (now list) n (now answers) m × Indexed (job .most) (now calls) (now list) n (now answers) m
+        × (job .round < round-top) ⌝ }
     requires { ⌜ ((bodies : Bodies) × (roots : List (ℕ × ℕ)) × (b : Tables) × (begun : Begin)
         × Going bodies (Among roots) b (job .known) (job .rule) (job .row) (job .walk) (past-of job begun) (now body)
         (in-words (now calls) n (now answers) m) (mark-words (now calls)) (uses-in (now calls) (now list)) (now chosen) (now rest) (spot-of spot)) ⌝ }
-    ensures { λ r. ⌜ Stays (now (calls .entry)) (now (list .entry)) (now (answers .entry)) (now (calls .exit)) (now (list .exit)) (r .calls)
-        (now (answers .exit)) (r .answers) ⌝ }
+    ensures { λ r. ⌜ Stays (job .most) (now (calls .entry)) (now (list .entry)) (now (answers .entry)) (now (calls .exit))
+        (now (list .exit)) (r .calls) (now (answers .exit)) (r .answers) ⌝ }
     ensures { λ r. ⌜ ((bodies : Bodies) (roots : List (ℕ × ℕ)) (b : Tables) (begun : Begin)
         → Going bodies (Among roots) b (job .known) (job .rule) (job .row) (job .walk) (past-of job begun) (now (body .entry))
         (in-words (now (calls .entry)) n (now (answers .entry)) m) (mark-words (now (calls .entry)))
         (uses-in (now (calls .entry)) (now (list .entry))) (now (chosen .entry)) (now (rest .entry)) (spot-of spot)
-        → Leaving (r .leave) bodies (Among roots) b begun job (now (body .entry)) (length (now (calls .entry))) (length (now (answers .entry)))
+        → Leaving (r .leave) bodies (Among roots) b begun job (now (body .entry)) (length (now (calls .entry))) (job .most)
         (now (chosen .entry)) (length (now (body .entry)) - length (now (rest .entry)))
         (in-words (now (calls .exit)) (r .calls) (now (answers .exit)) (r .answers)) (mark-words (now (calls .exit)))
         (uses-in (now (calls .exit)) (now (list .exit))) (now (chosen .exit))) ⌝ }
@@ -436,7 +454,7 @@ pub fn turn(
             leave: Leave::Full,
         },
         Front::Spent => {
-            let back = go_back(body, answers, job.known, chosen, at);
+            let back = go_back(body, answers, job.known, job.most, chosen, at);
             let place = back.at;
             let there = back.spot;
             if place == 0 {

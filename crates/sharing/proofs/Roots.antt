@@ -1,10 +1,8 @@
--- What holds of tables throughout an evaluation holds with more bodies, and with one more root that stands in them. Assumes nothing.
-use Prim.Native.Nat.{ℕ, _+_, _/_, _<_}
-use native.Mathlib.Omega.{arith}
+-- What holds of tables throughout an evaluation holds with more bodies. Assumes nothing.
+use Prim.Native.Nat.{ℕ, _/_}
 use mathlib.Core.Path.{_≡_, refl, sym, ap, _∙_}
 use mathlib.Core.Bool.{Bool, true, false, cond}
 use mathlib.Core.List.{List, []}
-use mathlib.Core.Logic.{_⊎_, inl, inr, ⊎-elim}
 use lib.ListN.{length}
 use lib.Dec.{eqb}
 use borrow.Author.Tests.{lt-ltb, eqb-false, eq-eqb, ne-eqb}
@@ -12,20 +10,15 @@ use Rattle.steps.specs.State.{State}
 use Rattle.steps.specs.Step.{Body}
 use Rattle.steps.specs.Words.{body-of, head-of}
 use Rattle.steps.specs.Widths.{rule-width}
-use Rattle.steps.proofs.Deductions.{Does}
-use Rattle.steps.proofs.Tables.{Reached, reached-map}
-use Rattle.records.specs.Records.{Calls, Bodies, bodies-of, goal-rule}
-use Rattle.records.specs.Storage.{CallAt, NoCall, CallAdded}
-use Rattle.records.proofs.Growth.{Tables, tables, HeldCall, Grew, grew-call, held-call-up, call-down}
-use Rattle.records.proofs.Justification.{Has, Proper, Justified, justified-up}
+use Rattle.steps.proofs.Tables.{reached-map}
+use Rattle.records.specs.Records.{Bodies, bodies-of, goal-rule}
+use Rattle.records.proofs.Growth.{Tables}
+use Rattle.records.proofs.Justification.{Has, Justified}
 use Rattle.records.proofs.Numbers.{fits-cases, words-rule}
-use Rattle.tabling.proofs.Evidence.{Valid, inside-of}
-use Rattle.tabling.proofs.Adding.{last-one}
+use Rattle.tabling.proofs.Evidence.{Valid}
 use Rattle.sharing.specs.Parties.{Party, first, goal-number, Ledger, account-of}
 use Rattle.sharing.specs.Charged.{goal-kept, goal-under, bodies-kept}
 use Rattle.sharing.proofs.TwoGoals.{kept-goal, goal-keeps, under-is}
-
--- ---- bodies
 
 -- Whatever goes with an action goes with it here too, and has the same words.
 abbrev pub MoreBodies : Bodies → Bodies → Type 0
@@ -80,38 +73,3 @@ goal-more rules goal l h same i a f = fits-cases rules goal i a f _
       rw (ne-eqb i goal-rule n, lt-ltb i (length rules / rule-width) k, eq-eqb (head-of rules i) a g) refl,
       words-rule rules (goal-under l a) i a n ∙ sym (words-rule rules goal i a n),
     ))
-
--- ---- roots
-
-module _ {bodies : Bodies} {Root Root′ : ℕ → State → Type 0} {t : Tables} (v : Valid bodies Root t) (a : ℕ) (D : State) (old : (b : ℕ) (E : State) → Root b E → Root′ b E)
-    (only : (b : ℕ) (E : State) → Root′ b E → Root b E ⊎ ((b ≡ a) × (E ≡ D))) where
-  reached-more : {b : ℕ} {E : State} → Reached Does (Has bodies) Root b E → Reached Does (Has bodies) Root′ b E
-  reached-more r = reached-map (λ a body h. h) old r
-
-  -- It stood already.
-  pub root-stood : HeldCall t (a, D) → Valid bodies Root′ t
-  root-stood h = record {
-    roots = λ b E r. ⊎-elim (λ k. v .roots b E k) (λ (e, f). rw (e, f) h) (only b E r);
-    calls-once = v .calls-once;
-    answers-once = v .answers-once;
-    reached = λ i l. reached-more (v .reached i l);
-    justified = v .justified;
-  }
-
-  -- It is added.
-  pub root-added : Root′ a D → Proper bodies → {r : ℕ} {calls′ : Calls} → CallAdded (t .calls) a D r calls′ → NoCall (t .calls) a D → Valid bodies Root′ (tables calls′ (t .answers))
-  root-added root proper {calls′ = calls′} p none = record {
-    roots = λ b E r. ⊎-elim (λ k. held-call-up g (b, E) (v .roots b E k)) (λ (e, f). rw (e, f) (t .calls .count, omega (arith, p .count), p .new)) (only b E r);
-    calls-once = λ i j b E l h x y. ⊎-elim (λ (k : j < t .calls .count). v .calls-once i j b E l k (call-down g (omega arith) x) (call-down g k y))
-        (λ (z : j ≡ t .calls .count). fresh i b E (omega arith) x (rw z at y)) (last-one (rw (p .count) at h));
-    answers-once = v .answers-once;
-    reached = λ i h. ⊎-elim (λ (k : i < t .calls .count). rw (g .action-same k, g .state-same k) (reached-more (v .reached i k)))
-        (λ (z : i ≡ t .calls .count). rw (z, p .new .has-action, p .new .has-state) (inl root)) (last-one (rw (p .count) at h));
-    justified = λ x h. justified-up g (inside-of v) h proper (v .justified x h);
-  }
-    where
-      g : Grew t (tables calls′ (t .answers))
-      g = grew-call t p
-
-      fresh : (i b : ℕ) (E : State) → i < t .calls .count → CallAt calls′ i b E → CallAt calls′ (t .calls .count) b E → ⊥
-      fresh i b E l x y = none i l (call-down g l (record { has-action = x .has-action ∙ sym (y .has-action) ∙ p .new .has-action; has-state = x .has-state ∙ sym (y .has-state) ∙ p .new .has-state }))

@@ -12,7 +12,7 @@ use Rattle.steps.specs.State.{State}
 use Rattle.steps.specs.Step.{Step, query, insert, delete, call, deny, Body, Rule, Book}
 use Rattle.steps.specs.Deduction.{Final, ComesToCall}
 use Rattle.steps.specs.Run.{Goal}
-use Rattle.steps.specs.Counting.{Outnumbers}
+use Rattle.steps.specs.Counting.{Exactly, Outnumbers}
 use Rattle.steps.specs.Words.{step-of, body-of, head-of, words-of, book-of}
 use Rattle.steps.specs.Widths.{rule-width}
 use Rattle.steps.specs.Inner.{rule-of}
@@ -25,6 +25,7 @@ use Rattle.steps.proofs.Deductions.{Does, RuleOf, rule, to-runs, of-runs, to-co
 use Rattle.steps.proofs.Execution.{Runs, ended, does, uses, Comes, here, past, inside, after, Ends, runs-map, comes-map}
 use Rattle.steps.proofs.Tables.{Reached, Exact, reached-map, ends-map}
 use Rattle.records.specs.Records.{Bodies, bodies-of, goal-rule}
+use Rattle.records.specs.Finished.{call-rows, answer-rows}
 use Rattle.records.proofs.Growth.{Tables, tables}
 use Rattle.records.proofs.Justification.{Has, Proper, justified-in}
 use Rattle.records.proofs.Numbers.{fits-cases, words-goal, words-rule}
@@ -238,22 +239,27 @@ module _ {fluents actions : ℕ} (rules : List ℕ) (l : Ledger) (acc : (p : Par
     pub outgrown-kept : (n m : ℕ) → Outgrown bodies Root n m → Outnumbers (KeptCall rules l) n ⊎ Outnumbers (KeptAnswer rules l) m
     outgrown-kept n m o = ⊎-map (outnumbers-map n (λ c r. call-of r)) (outnumbers-map m (λ c r. answer-of r)) o
 
-    -- Closed tables, with 0 past them, are balanced.
-    module _ (calls answers : List ℕ) (R : Whole bodies Root 0 (tables (kept-calls l calls) (kept-answers l answers))) where
-      abbrev t : Tables
-      t = tables (kept-calls l calls) (kept-answers l answers)
-
+    -- Closed tables hold just the calls and the answers of the kept goals.
+    module _ (t : Tables) (R : Whole bodies Root 0 t) where
       held : Exact Does (Has bodies) Root (C t) (A t)
       held = exact-of bodies Root kept-proper t R
 
+      pub whole-calls : Exactly (KeptCall rules l) (call-rows (t .calls))
+      whole-calls = table-exactly _ (KeptCall rules l) (t .calls .count) (calls-apart (R .valid)) (λ i k. call-of (held .calls _ _ .0 (i, k, record { has-action = refl; has-state = refl })))
+          (λ (a, D) c. let (i, k, h) = held .calls a D .1 (of-call c) in (i, k, λ j. (sym (h .has-action) j, sym (h .has-state) j)))
+
+      pub whole-answers : Exactly (KeptAnswer rules l) (answer-rows (t .calls) (t .answers))
+      whole-answers = table-exactly _ (KeptAnswer rules l) (t .answers .count) (answers-apart (R .valid))
+          (λ x k. answer-of (held .answers _ _ _ .0 (x, record { below = k; action = refl; state = refl }, refl)))
+          (λ (a, D, D′) c. let (x, o, f) = held .answers a D D′ .1 (of-answer c) in (x, o .below, λ j. (sym (o .action) j, sym (o .state) j, sym f j)))
+
+    -- With 0 past them they are balanced.
+    module _ (calls answers : List ℕ) (R : Whole bodies Root 0 (tables (kept-calls l calls) (kept-answers l answers))) where
       pub whole-balanced : ((i : ℕ) → plain-call-width * l .calls ≤ i → getD calls i 0 ≡ 0) → ((i : ℕ) → plain-answer-width * l .answers ≤ i → getD answers i 0 ≡ 0)
           → Balanced rules l calls answers
       whole-balanced zeros zeros′ = record {
-        calls-held = table-exactly _ (KeptCall rules l) (l .calls) (calls-apart (R .valid)) (λ i k. call-of (held .calls _ _ .0 (i, k, record { has-action = refl; has-state = refl })))
-            (λ (a, D) c. let (i, k, h) = held .calls a D .1 (of-call c) in (i, k, λ j. (sym (h .has-action) j, sym (h .has-state) j)));
-        answers-held = table-exactly _ (KeptAnswer rules l) (l .answers) (answers-apart (R .valid))
-            (λ x k. answer-of (held .answers _ _ _ .0 (x, record { below = k; action = refl; state = refl }, refl)))
-            (λ (a, D, D′) c. let (x, o, f) = held .answers a D D′ .1 (of-answer c) in (x, o .below, λ j. (sym (o .action) j, sym (o .state) j, sym f j)));
+        calls-held = whole-calls (tables (kept-calls l calls) (kept-answers l answers)) R;
+        answers-held = whole-answers (tables (kept-calls l calls) (kept-answers l answers)) R;
         justified = λ x k. justified-in kept-proper (R .valid .justified x k);
         calls-past = zeros;
         answers-past = zeros′;

@@ -43,7 +43,7 @@ checked fluents actions rules goal calls k answers m x words room bad l =
     each-at (λ n. justified (call-table calls k) (answer-table answers m) n (bodies-of rules goal)) m all in
     checked-less (omega arith) (record {
       short = short fluents actions rules goal words;
-      readable = readable calls k answers m (bodies-of rules goal) m (w .calls-fit) (w .answers-most) (w .answers-fit) all;
+      readable = readable false calls k answers m (bodies-of rules goal) m (w .calls-fit) (w .answers-most) (w .answers-fit) all;
       fits = λ n h. (getD calls (call-width * getD answers (answer-width * n) 0) 0, justified-parts (call-table calls k) (answer-table answers m) n (bodies-of rules goal) (one n h) .1);
       followed = λ n h. sym (follows-uncounted calls answers k m 0 0 n (body-of (words-at rules goal answers n)) 0 (start-at calls answers n)) ∙ justified-parts (call-table calls k) (answer-table answers m) n (bodies-of rules goal) (one n h) .2;
     })

@@ -52,7 +52,7 @@ added-by rules goal calls answers = states-added (calls-of calls) (answers-of an
 -- The records below count are checked.
 pub record Checked (rules goal calls answers : List ℕ) (count : ℕ) : Type 0 where
   pub short : Short rules goal
-  pub readable : Readable calls answers count
+  pub readable : Readable false calls answers count
   pub fits : (n : ℕ) → n < count → (a : ℕ) × (bodies-of rules goal .fits (getD answers (answer-width * n + 2) 0) a ≡ true)
   pub followed : (n : ℕ) → n < count → follows (calls-of calls) (answers-of answers) n (body-of (words-at rules goal answers n)) 0 (start-at calls answers n) ≡ true
 

@@ -14,8 +14,8 @@
 //! ```
 //!
 //! In the functions below the caller lends all memory as slices. What each slice holds afterwards, for every
-//! refusal, is said at each function. As the header's constants say, [`path`] needs 512 KiB of stack, and 1.125 MiB with a list of 2^24
-//! places or more, [`evaluate`], [`class`], [`read`], [`fluent_name`], [`write`], [`merge`], [`merged_fluent`] and [`mark`] 64 KiB,
+//! refusal, is said at each function. As the header's constants say, [`path`] needs 512 KiB of stack,
+//! [`evaluate`], [`class`], [`read`], [`fluent_name`], [`write`], [`merge`], [`merged_fluent`] and [`mark`] 64 KiB,
 //! [`report`] 8 KiB, [`store`] and [`restore`] 1 KiB: a thread of the standard library has 2 MiB.
 //!
 //! ```

@@ -11,7 +11,7 @@ use Rattle.records.specs.Records.{call-table, answer-table}
 use Rattle.finals.specs.Finals.{CallFinals}
 use Rattle.listing.specs.Listing.{CallsListed}
 use Rattle.evaluator.specs.Evaluated.{Asked, Lent, asked, lent, told, refused-with, CallListShort, not-accepted, list-of-calls-short, outgrown}
-use Rattle.evaluator.proofs.Zeros.{all-zero, zero-long}
+use Rattle.records.proofs.Zeros.{all-zero, zero-long}
 use Rattle.evaluator.proofs.Outcomes.{is-full, is-short, is-listed}
 use Rattle.evaluator.proofs.evaluate.Statement.{statement}
 use Rattle.evaluator.proofs.evaluate.Tie as tie

@@ -15,14 +15,14 @@ of-call-requires : tie.Need-of-call-requires
 of-call-requires c κs =
     let p = c .before .before .before .before .before .before .before .before .before .before .before .before .before .pre in
     let long = c .before .before .before .before .before .before .before .close-calls .ensures .long in
-    let free = c .before .before .before .before .free-from .ensures in
+    let free = c .before .before .before .before .room-of .ensures in
     ((omega (arith, long, p .0 .0), p .0 .1, omega (arith, p .1 .0), omega (arith, p .1 .0)), (omega (arith, free, p .1 .0), p .1 .1))
 
 list-requires : tie.Need-list-requires
 list-requires c κs =
     let p = c .before .before .before .before .before .before .before .before .before .before .before .before .before .before .before .before .before .before .before .before .before .pre in
     let C = c .before .before .before .before .before .before .before .before .before .before .before .before .before .before .before .close-calls .ensures in
-    let free = c .before .before .before .before .before .before .before .before .before .before .before .before .free-from .ensures in
+    let free = c .before .before .before .before .before .before .before .before .before .before .before .before .room-of .ensures in
     let B = c .before .before .before .before .before .before .before .of-call .ensures .1 in
     ((omega (arith, C .long, p .0 .0), p .0 .2, calls-once-given C (p .0 .3)), omega (arith, free, B .long))
 
@@ -40,10 +40,13 @@ returns : tie.Need-returns
 returns c =
     let i = c .before .before .before .before .before .before .before .before .before .before .before .before .before .before .before .before .before .before .before .before .before .before .before .before .before .before .before .before .before .before in
     let L = c .before .before .before .before .before .before .before .before .list .ensures in
-    let free = c .before .before .before .before .before .before .before .before .before .before .before .before .before .before .before .before .before .before .before .before .before .free-from .ensures in
+    let free = c .before .before .before .before .before .before .before .before .before .before .before .before .before .before .before .before .before .before .before .before .before .room-of .ensures in
     let A : AnswersClosed (i .args .answers .now) (i .args .m) (c .before .before .close-answers .last .0) = closed-below (omega (arith, free, i .pre .1 .0)) (c .before .before .before .before .before .before .before .before .before .before .before .before .before .before .before .before .of-call .ensures .1)
     (closed-below (omega (arith, free, i .pre .1 .0)) (L .1) (c .before .before .close-answers .ensures)) in
     ((c .before .before .before .before .before .before .before .before .before .before .before .before .before .before .before .before .before .before .before .before .before .before .before .before .close-calls .ensures, A), (L .0, call-finals-given A (of-goal (c .before .before .before .before .before .before .before .before .before .before .before .before .before .before .before .before))))
+
+mul-free : tie.Need-mul-free
+mul-free c = omega (arith, c .room-of .ensures)
 
 pub give-spec : {M : Type 1} → statement M
 give-spec =
@@ -51,6 +54,7 @@ give-spec =
     (tie.spec
     (λ c κs. search needs)
     (λ c κs. search needs)
+    mul-free
     (λ c κs. search needs)
     of-call-requires
     list-requires

@@ -22,7 +22,7 @@ use Rattle.invariants.proofs.Going.{in-words}
 use Rattle.invariants.proofs.Filling.{Filled, first-valid, first-full}
 use Rattle.invariants.proofs.Tabulated.{Tabulated, tabulated, tabulated-full}
 use Rattle.canonical.proofs.Beginning.{Begins}
-use Rattle.evaluator.proofs.Zeros.{zeros-stored, zero-at}
+use Rattle.records.proofs.Zeros.{zeros-stored, zero-at}
 use Rattle.evaluator.proofs.Outcomes.{first-begins, listed-fits}
 use Rattle.evaluator.proofs.tabulate.Statement.{statement}
 use Rattle.evaluator.proofs.tabulate.Tie as tie
@@ -86,47 +86,51 @@ module _ (p : tie.After-add-call) where
 
 fill-requires : tie.Need-fill-requires
 fill-requires c κs =
-    let p = c .before .before .before .before .before .before .before .before in
+    let p = c .before .before .before .before .before .before .before .before .before in
     let i = start p in
-    let e = c .before .before .before .if1 .left in
-    let s = p .add-call .ensures .1 .0 in (
+    let e = c .before .before .before .before .if1 .left in
+    let s = p .add-call .ensures .1 .0 in
+    let room = c .before .before .before .room-of .ensures in (
       (
-        record { calls-open = s .0; answers-open = record { fits = omega arith } },
-        record { of-calls = s .1; of-answers = answer-index-none (p .add-call .last .0) (i .args .answers .now) },
+        record { calls-open = s .0; answers-open = record { fits = omega arith; small = omega (arith, room); long = omega (arith, room) } },
+        record { of-calls = s .1; of-answers = answer-index-none _ (p .add-call .last .0) (i .args .answers .now) },
         zeros-stamped 0 (unmarked p) (omega arith),
         omega arith,
         cold p,
         λ x l. absurd (omega arith),
       ),
-      (i .pre .0, ((Goal, i .args .start) ∷ [], first p e)),
+      ((i .pre .0 .0, i .pre .0 .1, i .pre .0 .2, i .pre .0 .2), ((Goal, i .args .start) ∷ [], first p e)),
     )
 
 -- the tables where the rounds are over
 module _ (f : tie.After-fill) where
   abbrev put : tie.After-add-call
-  put = f .before .before .before .before .before .before .before .before .before
+  put = f .before .before .before .before .before .before .before .before .before .before
 
   abbrev was : tie.Start
   was = start put
 
   none : put .add-call .result .full ≡ false
-  none = f .before .before .before .before .if1 .left
+  none = f .before .before .before .before .before .if1 .left
 
-  abbrev Full : Type 0
-  Full = Filled (was .args .rules .now) (was .args .goal .now) ((Goal, was .args .start) ∷ []) 0 (in-words (put .add-call .last .0) (put .add-call .result .count) (was .args .answers .now) 0)
-      (was .args .calls .now) (was .args .list .now) (was .args .answers .now) (f .fill .last .1 .1 .0) (f .fill .last .1 .1 .1 .1 .0) (f .fill .last .1 .1 .1 .1 .1 .0) (f .fill .result .full) (f .fill .result .calls) (f .fill .result .answers) (f .fill .result .rounds)
+  abbrev Full : ℕ → Type 0
+  Full most = Filled (bodies-of (was .args .rules .now) (was .args .goal .now)) most ((Goal, was .args .start) ∷ []) 0 (in-words (put .add-call .last .0) (put .add-call .result .count) (was .args .answers .now) 0)
+      (was .args .calls .now) (was .args .list .now) (was .args .answers .now) (f .fill .last .1 .1 .1 .1 .0) (f .fill .last .1 .1 .1 .1 .1 .1 .0) (f .fill .last .1 .1 .1 .1 .1 .1 .1 .0) (f .fill .result .full) (f .fill .result .calls) (f .fill .result .answers) (f .fill .result .rounds)
 
-  filled-in : Full
-  filled-in =
-      let F = f .fill .ensures ((Goal, was .args .start) ∷ []) (first put none) in
-      let s = put .add-call .ensures .1 .1 in
-      record { calls-long = F .calls-long ∙ s .long; list-long = F .list-long ∙ s .list-long; answers-long = F .answers-long; kept = F .kept; closed = F .closed; rounded = F .rounded; outgrown = λ z. rw (s .long) at (F .outgrown z) }
+  filled-in : Full (room answer-width (length (was .args .answers .now)))
+  filled-in = subst Full (f .before .before .before .before .room-of .ensures) filled-to
+    where
+      filled-to : Full (f .before .before .before .before .room-of .result)
+      filled-to =
+          let F = f .fill .ensures ((Goal, was .args .start) ∷ []) (first put none) in
+          let s = put .add-call .ensures .1 .1 in
+          record { calls-long = F .calls-long ∙ s .long; list-long = F .list-long ∙ s .list-long; answers-long = F .answers-long; kept = F .kept; indexed = F .indexed; closed = F .closed; rounded = F .rounded; outgrown = λ z. rw (s .long) at (F .outgrown z) }
 
   -- the tables as they are given
-  given-tables : {calls′ answers′ : List ℕ} → CallsClosed (f .fill .last .1 .1 .0) (f .fill .result .calls) calls′ → AnswersClosed (f .fill .last .1 .1 .1 .1 .1 .0) (f .fill .result .answers) answers′ → f .fill .result .full ≡ false
+  given-tables : {calls′ answers′ : List ℕ} → CallsClosed (f .fill .last .1 .1 .1 .1 .0) (f .fill .result .calls) calls′ → AnswersClosed (f .fill .last .1 .1 .1 .1 .1 .1 .1 .0) (f .fill .result .answers) answers′ → f .fill .result .full ≡ false
       → Tabulated (was .args .rules .now) (was .args .goal .now) ((Goal, was .args .start) ∷ []) 0 (in-words (put .add-call .last .0) (put .add-call .result .count) (was .args .answers .now) 0)
       (was .args .calls .now) (was .args .answers .now) calls′ answers′ (f .fill .result .full) (f .fill .result .calls) (f .fill .result .answers) (f .fill .result .rounds)
-  given-tables c a e = tabulated {list = was .args .list .now} {list₁ = f .fill .last .1 .1 .1 .1 .0} (proper-of (was .args .rules .now) (was .args .goal .now) (was .pre .0 .2)) e filled-in c a
+  given-tables c a e = tabulated {list = was .args .list .now} {list₁ = f .fill .last .1 .1 .1 .1 .1 .1 .0} (proper-of (was .args .rules .now) (was .args .goal .now) (was .pre .0 .2)) e filled-in c a
 
 returns-2 : tie.Need-returns-2
 returns-2 c =
@@ -147,7 +151,7 @@ give-requires c κs =
         omega (arith, F .list-long, listed-fits {len = length (was f .args .list .now)} k (λ h. omega (arith, F .calls-long, was f .pre .1 .2))),
         W .calls-once,
       ),
-      (F .kept .answers-open .fits, W .answers-once),
+      (rw (F .answers-long) (F .kept .answers-open .fits), W .answers-once),
     )
 
 returns-3 : tie.Need-returns-3
@@ -168,6 +172,7 @@ tabulate-spec =
     (λ c. search needs)
     (λ c. search needs)
     returns
+    (λ c κs. search needs)
     fill-requires
     (λ c. search needs)
     (λ c. search needs)

@@ -10,16 +10,13 @@ use Rattle.index.proofs.find_answer.Tie as tie
 
 find-requires : tie.Need-find-requires
 find-requires c κs =
-    let e = c .room-of .ensures in
-    let a = c .before .before .args in
-    let fits = c .before .before .pre .0 .fits in (
-      (omega arith, omega arith, omega (arith, fits), omega (arith, e, fits), omega (arith, e), omega (arith, e)),
-      answers-keyed (a .answers .now) (a .m) (c .room-of .result) (packed-width * c .room-of .result) (c .before .before .pre .1) e refl,
-    )
+    let i = c .before in
+    let o = i .pre .0 in
+    ((omega arith, omega arith, omega (arith, o .fits, o .long), o .fits, o .small, omega (arith, o .long)), answers-keyed (i .args .answers .now) (i .args .m) (i .args .most) (i .pre .1))
 
 returns : tie.Need-returns
 returns c =
-    let a = c .before .before .before .args in
+    let a = c .before .before .args in
     let f = c .find .ensures in
     (f .0, found-answer (a .answers .now) (a .m) (a .row) (a .last .0) (c .find .result) (f .1))
 
@@ -27,4 +24,4 @@ pub find-answer-spec : {M : Type 1} → statement M
 find-answer-spec =
     tie.close
     (tie.spec
-    (λ c κs. search needs) (λ c. search needs) find-requires returns)
+    (λ c. search needs) find-requires returns)

@@ -6,19 +6,19 @@ use Rattle.index.proofs.first_answer.Statement.{statement}
 use Rattle.index.proofs.first_answer.Tie as tie
 
 is-answer-requires : tie.Need-is-answer-requires
-is-answer-requires c κs = let (m, enough, fits, x) = c .before .before .before .pre .1 in omega (arith, enough, fits .fits)
+is-answer-requires c κs = let (m, enough, (most, fits, x)) = c .before .before .before .pre .1 in omega (arith, enough, fits .fits, fits .long)
 
 returns : tie.Need-returns
 returns c =
     let a = c .before .before .before .before .before .args in
-    let (m, enough, fits, x) = c .before .before .before .before .before .pre .1 in
+    let (m, enough, (most, fits, x)) = c .before .before .before .before .before .pre .1 in
     let h = rw (c .if1 .taken) at (c .before .is-answer .ensures) in
     first-noted (a .known) x enough (a .row) (c .before .before .get .result) (omega (arith, c .before .before .before .before .before .pre .0)) (c .before .before .get .ensures .0) h
 
 returns-2 : tie.Need-returns-2
 returns-2 c =
     let a = c .before .before .before .before .before .args in
-    let (m, enough, fits, x) = c .before .before .before .before .before .pre .1 in
+    let (m, enough, (most, fits, x)) = c .before .before .before .before .before .pre .1 in
     let h = rw (c .if1 .left) at (c .before .is-answer .ensures) in
     first-not (a .known) x enough (a .row) (c .before .before .get .result) (omega (arith, c .before .before .before .before .before .pre .0)) (c .before .before .get .ensures .0) h
 

@@ -17,12 +17,12 @@ abbrev μ-loop : tie.MeasureT-loop
 μ-loop answers₀ m0 m most base i₀ answers i = i
 
 mul-base : tie.Need-mul-base Inv-loop μ-loop
-mul-base c = omega (arith, c .room-of .ensures)
+mul-base c = let i = c .before in omega (arith, i .pre .0 .small)
 
 loop-holds : tie.Need-loop-holds Inv-loop μ-loop
 loop-holds c =
-    let q = c .room-of .result in
-    (c .before .before .pre .1, omega arith, chained-start (answers-keyed (c .before .before .args .answers .now) (c .before .before .args .m) q (packed-width * q) (c .before .before .pre .2) (c .room-of .ensures) refl))
+    let i = c .before in
+    (i .pre .1, omega arith, chained-start (answers-keyed (i .args .answers .now) (i .args .m) (i .args .most) (i .pre .2)))
 
 sub-i : tie.Need-sub-i Inv-loop μ-loop
 sub-i c = omega (arith, c .loop-test .taken)
@@ -30,18 +30,18 @@ sub-i c = omega (arith, c .loop-test .taken)
 bucket-of-requires : tie.Need-bucket-of-requires Inv-loop μ-loop
 bucket-of-requires c κs =
     let l = c .before .before .loop .inv in
-    let e = c .before .before .before .room-of .ensures in
-    (omega arith, omega (arith, c .before .loop-test .taken, l .1, l .2 .rechained .long, e, c .before .before .before .before .before .pre .0 .fits), omega (arith, c .before .loop-test .taken, l .1, e, c .before .before .before .before .before .pre .0 .fits), omega (arith, e))
+    let o = c .before .before .before .before .pre .0 in
+    (omega arith, omega (arith, c .before .loop-test .taken, l .1, l .2 .rechained .long, o .small, o .long, c .before .before .before .before .pre .0 .fits), omega (arith, c .before .loop-test .taken, l .1, o .small, o .long, c .before .before .before .before .pre .0 .fits), omega (arith, o .small, o .long))
 
 forget-requires : tie.Need-forget-requires Inv-loop μ-loop
 forget-requires c κs =
     let l = c .before .before .before .before .loop .inv in
-    let e = c .before .before .before .before .before .room-of .ensures in
+    let o = c .before .before .before .before .before .before .pre .0 in
     let t = c .before .before .before .loop-test .taken in
-    let few = c .before .before .before .before .before .before .before .pre .0 .fits in
-    let some : 0 < c .before .before .before .before .before .room-of .result = omega (arith, e, t, l .1, few) in
-    let b : c .before .bucket-of .result < c .before .before .before .before .before .room-of .result = rw (c .before .bucket-of .ensures) (bucket-small _ _ _ some) in
-    (omega (arith, b, e, l .2 .rechained .long), omega (arith, e, t, l .1, l .2 .rechained .long, few))
+    let few = c .before .before .before .before .before .before .pre .0 .fits in
+    let some : 0 < c .before .before .before .before .before .before .args .most = omega (arith, o .small, o .long, t, l .1, few) in
+    let b : c .before .bucket-of .result < c .before .before .before .before .before .before .args .most = rw (c .before .bucket-of .ensures) (bucket-small _ _ _ some) in
+    (omega (arith, b, o .small, o .long, l .2 .rechained .long), omega (arith, o .small, o .long, t, l .1, l .2 .rechained .long, few))
 
 loop-less : tie.Need-loop-less Inv-loop μ-loop
 loop-less c = omega (arith, c .before .before .before .before .before .before .loop-test .taken)
@@ -52,7 +52,7 @@ loop-again c =
     let t = c .before .before .before .before .before .before .loop-test .taken in
     let i : ℕ = l .i - 1 in
     let z : i + 1 ≡ l .i = omega (arith, t) in
-    let k = key-same (c .before .before .before .before .before .before .before .before .room-of .result) i (l .inv .2 .rechained) (omega (arith, t, l .inv .1, c .before .before .before .before .before .before .before .before .room-of .ensures, c .before .before .before .before .before .before .before .before .before .before .pre .0 .fits)) in
+    let k = key-same (c .before .before .before .before .before .before .before .before .before .args .most) i (l .inv .2 .rechained) (omega (arith, t, l .inv .1, c .before .before .before .before .before .before .before .before .before .pre .0 .small, c .before .before .before .before .before .before .before .before .before .pre .0 .long, c .before .before .before .before .before .before .before .before .before .pre .0 .fits)) in
     (omega (arith, t), omega (arith, l .inv .1), chained-less i (c .before .before .before .before .bucket-of .ensures ∙ k) (rw z (l .inv .2)) (c .before .before .forget .ensures))
 
 same-length : tie.Need-same-length Inv-loop μ-loop
@@ -61,15 +61,15 @@ same-length c = c .before .loop .inv .2 .rechained .long
 returns : tie.Need-returns Inv-loop μ-loop
 returns c =
     let l = c .before .loop in
-    let e : l .i ≡ c .before .before .before .before .args .m0 = omega (arith, c .loop-test .left, l .inv .0) in
+    let e : l .i ≡ c .before .before .before .args .m0 = omega (arith, c .loop-test .left, l .inv .0) in
     let k = rw e at (l .inv .2) in
-    let q = c .before .before .room-of .ensures in
-    (answers-keyed-of k q refl (omega (arith, q, c .before .before .before .before .pre .0 .fits, c .before .before .before .before .pre .1)), rw q at (k .rechained))
+    let o = c .before .before .before .pre .0 in
+    (answers-keyed-of k (omega (arith, o .fits, c .before .before .before .pre .1)), k .rechained)
 
 pub forget-answers-spec : {M : Type 1} → statement M
 forget-answers-spec =
     tie.close
     (tie.spec
-    Inv-loop μ-loop (λ c κs. search needs) mul-base loop-holds
+    Inv-loop μ-loop mul-base loop-holds
     sub-i bucket-of-requires forget-requires loop-less loop-again
     same-length returns)

@@ -50,7 +50,7 @@ row-small : (p : tie.After-add-call) → p .add-call .result .full ≡ false →
 row-small p f = omega (arith, p .add-call .ensures .1 .0 .0 .stored .most, row-in p f)
 
 -- ---- the words after each part
-stays-put : (p : tie.After-add-call) → Stays (start p .args .calls .now) (start p .args .list .now) (start p .args .answers .now) (p .add-call .last .0) (p .add-call .last .1 .1 .0) (p .add-call .result .count)
+stays-put : (p : tie.After-add-call) → Stays (start p .args .job .most) (start p .args .calls .now) (start p .args .list .now) (start p .args .answers .now) (p .add-call .last .0) (p .add-call .last .1 .1 .0) (p .add-call .result .count)
     (start p .args .answers .now) (start p .args .m)
 stays-put p =
     let x = p .add-call .ensures in
@@ -64,11 +64,11 @@ stays-put p =
       uses-more = uses-same (called-uses (x .1 .1));
     }
 
-put-stays : (p : tie.After-add-call) {k : ℕ} → k ≡ p .add-call .result .count → Stays (start p .args .calls .now) (start p .args .list .now) (start p .args .answers .now) (p .add-call .last .0) (p .add-call .last .1 .1 .0) k
+put-stays : (p : tie.After-add-call) {k : ℕ} → k ≡ p .add-call .result .count → Stays (start p .args .job .most) (start p .args .calls .now) (start p .args .list .now) (start p .args .answers .now) (p .add-call .last .0) (p .add-call .last .1 .1 .0) k
     (start p .args .answers .now) (start p .args .m)
 put-stays p e = rw e (stays-put p)
 
-stays-noted : (v : tie.After-note) → Stays (start (put v) .args .calls .now) (start (put v) .args .list .now) (start (put v) .args .answers .now) (v .note .last .0) (put v .add-call .last .1 .1 .0)
+stays-noted : (v : tie.After-note) → Stays (start (put v) .args .job .most) (start (put v) .args .calls .now) (start (put v) .args .list .now) (start (put v) .args .answers .now) (v .note .last .0) (put v .add-call .last .1 .1 .0)
     (put v .add-call .result .count) (start (put v) .args .answers .now) (start (put v) .args .m)
 stays-noted v =
     let s = stays-put (put v) in
@@ -82,7 +82,7 @@ stays-noted v =
       uses-more = uses-trans (s .uses-more) (v .note .ensures .0 (put v .add-call .last .1 .1 .0) .grew);
     }
 
-stays-marked : (w : tie.After-mark) → Stays (start (put (noted w)) .args .calls .now) (start (put (noted w)) .args .list .now) (start (put (noted w)) .args .answers .now) (w .mark .last .0) (put (noted w) .add-call .last .1 .1 .0)
+stays-marked : (w : tie.After-mark) → Stays (start (put (noted w)) .args .job .most) (start (put (noted w)) .args .calls .now) (start (put (noted w)) .args .list .now) (start (put (noted w)) .args .answers .now) (w .mark .last .0) (put (noted w) .add-call .last .1 .1 .0)
     (put (noted w) .add-call .result .count) (start (put (noted w)) .args .answers .now) (start (put (noted w)) .args .m)
 stays-marked w =
     let s = stays-noted (noted w) in
@@ -118,7 +118,7 @@ returns c =
     let i = start p in
     let j = i .args .job in (
       (put-stays p (omega arith), refl),
-      λ bodies roots b begun body h e z d T. turn-calls-full bodies (Among roots) b (j .known) (j .rule) (j .row) (j .walk) (past-of j begun) body T h e (room answer-width (length (i .args .answers .now))) (put-at p z) (c .if1 .taken),
+      λ bodies roots b begun body h e z d T. turn-calls-full bodies (Among roots) b (j .known) (j .rule) (j .row) (j .walk) (past-of j begun) body T h e (j .most) (put-at p z) (c .if1 .taken),
     )
 
 note-requires : tie.Need-note-requires
@@ -184,10 +184,16 @@ element-write-chosen : tie.Need-element-write-chosen
 element-write-chosen c = omega (arith, c .before .before .before .before .before .before .before .before .before .before .before .before .before .before .before .before .before .before .before .before .before .before .before .before .before .before .before .before .before .before .before .pre .3)
 
 final-of-requires : tie.Need-final-of-requires
-final-of-requires c κs = omega (arith, c .before .before .before .before .before .before .before .before .before .before .before .before .before .before .before .before .before .before .before .before .before .before .before .before .before .before .before .before .before .before .before .pre .0 .answers-open .fits, c .before .before .before .before .before .before .before .before .before .before .before .before .before .before .before .before .before .before .before .before .before .before .before .before .before .before .before .before .before .before .before .pre .4, first-below c)
+final-of-requires c κs = omega (arith, c .before .before .before .before .before .before .before .before .before .before .before .before .before .before .before .before .before .before .before .before .before .before .before .before .before .before .before .before .before .before .before .pre .0 .answers-open .fits, c .before .before .before .before .before .before .before .before .before .before .before .before .before .before .before .before .before .before .before .before .before .before .before .before .before .before .before .before .before .before .before .pre .0 .answers-open .small, c .before .before .before .before .before .before .before .before .before .before .before .before .before .before .before .before .before .before .before .before .before .before .before .before .before .before .before .before .before .before .before .pre .0 .answers-open .long, c .before .before .before .before .before .before .before .before .before .before .before .before .before .before .before .before .before .before .before .before .before .before .before .before .before .before .before .before .before .before .before .pre .4, first-below c)
 
 add-t41 : tie.Need-add-t41
-add-t41 c = omega (arith, c .before .before .before .before .before .before .before .before .before .before .before .before .before .before .before .before .before .before .before .before .before .before .before .before .before .before .before .before .before .before .before .before .pre .0 .answers-open .fits, c .before .before .before .before .before .before .before .before .before .before .before .before .before .before .before .before .before .before .before .before .before .before .before .before .before .before .before .before .before .before .before .before .pre .4, first-below (c .before))
+add-t41 c = omega (arith, c .before .before .before .before .before .before .before .before .before .before .before .before .before .before .before .before .before .before .before .before .before .before .before .before .before .before .before .before .before .before .before .before .pre .0 .answers-open .fits, c .before .before .before .before .before .before .before .before .before .before .before .before .before .before .before .before .before .before .before .before .before .before .before .before .before .before .before .before .before .before .before .before .pre .0 .answers-open .small, c .before .before .before .before .before .before .before .before .before .before .before .before .before .before .before .before .before .before .before .before .before .before .before .before .before .before .before .before .before .before .before .before .pre .0 .answers-open .long, c .before .before .before .before .before .before .before .before .before .before .before .before .before .before .before .before .before .before .before .before .before .before .before .before .before .before .before .before .before .before .before .before .pre .4, first-below (c .before))
+
+same-length-7 : tie.Need-same-length-7
+same-length-7 c = stays-marked (c .before .before .before .before .before .before .before .before .before) .calls-long
+
+same-length-8 : tie.Need-same-length-8
+same-length-8 c = stays-marked (c .before .before .before .before .before .before .before .before .before) .list-long
 
 returns-4 : tie.Need-returns-4
 returns-4 c =
@@ -229,6 +235,6 @@ enter-spec =
     element-write-chosen
     final-of-requires
     add-t41
-    (λ c. search needs)
-    (λ c. search needs)
+    same-length-7
+    same-length-8
     returns-4)

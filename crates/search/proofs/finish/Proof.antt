@@ -21,7 +21,7 @@ add-answer-requires c κs =
     let o = i .pre .0 .0 in
     ((o .answers-open, i .pre .0 .1 .of-answers, omega (arith, o .calls-open .stored .fits, o .calls-open .stored .most, i .pre .0 .2)), i .pre .1)
 
-stays : (p : tie.After-add-answer) → Stays (start p .args .calls .now) (start p .args .list .now) (start p .args .answers .now) (p .add-answer .last .0) (start p .args .list .now) (start p .args .n)
+stays : (p : tie.After-add-answer) → Stays (start p .args .job .most) (start p .args .calls .now) (start p .args .list .now) (start p .args .answers .now) (p .add-answer .last .0) (start p .args .list .now) (start p .args .n)
     (p .add-answer .last .1 .0) (p .add-answer .result .count)
 stays p =
     let x = p .add-answer .ensures in

@@ -16,10 +16,10 @@ answer-below : (d : tie.Else1) → d .before .retreat .result .answer < d .befor
 answer-below d = let r = d .before .retreat in let e : r .result .at ≡ (r .result .at - 1) + 1 = omega arith in r .ensures .found (r .result .at - 1) e .1
 
 final-of-requires : tie.Need-final-of-requires
-final-of-requires c κs = let (m, l, f, x) = c .before .before .before .before .before .pre .1 in omega (arith, answer-below c, l, f .fits)
+final-of-requires c κs = let (m, l, f, x) = c .before .before .before .before .before .pre .1 in omega (arith, answer-below c, l, f .fits, f .small, f .long)
 
-add-t14 : tie.Need-add-t14
-add-t14 c = let (m, l, f, x) = c .before .before .before .before .before .before .pre .1 in omega (arith, answer-below (c .before), l, f .fits)
+add-t15 : tie.Need-add-t15
+add-t15 c = let (m, l, f, x) = c .before .before .before .before .before .before .pre .1 in omega (arith, answer-below (c .before), l, f .fits, f .small, f .long)
 
 returns-2 : tie.Need-returns-2
 returns-2 c =
@@ -36,5 +36,5 @@ go-back-spec =
     (λ c. search needs)
     (λ c. search needs)
     final-of-requires
-    add-t14
+    add-t15
     returns-2)

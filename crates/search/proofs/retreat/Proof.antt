@@ -14,10 +14,10 @@ use Rattle.search.proofs.retreat.Statement.{statement}
 use Rattle.search.proofs.retreat.Tie as tie
 
 abbrev Inv-loop : tie.InvT-loop
-Inv-loop body answers known chosen at place₀ place = (place ≤ at) × ((q : ℕ) → place ≤ q → q < at → SpentRow body (packed-answers answers known) known chosen q)
+Inv-loop body answers known most chosen at place₀ place = (place ≤ at) × ((q : ℕ) → place ≤ q → q < at → SpentRow body (packed-answers answers known) known chosen q)
 
 abbrev μ-loop : tie.MeasureT-loop
-μ-loop body answers known chosen at place₀ place = place
+μ-loop body answers known most chosen at place₀ place = place
 
 loop-holds : tie.Need-loop-holds Inv-loop μ-loop
 loop-holds c = (omega arith, λ q a b. absurd (omega arith))
@@ -47,8 +47,8 @@ element-copy-out-last c = omega (arith, c .before .before .before .before .befor
 later-answer-requires : tie.Need-later-answer-requires Inv-loop μ-loop
 later-answer-requires c κs = (chosen-below (c .before), c .before .before .before .before .before .before .before .before .pre .1)
 
-add-t19 : tie.Need-add-t19 Inv-loop μ-loop
-add-t19 c = omega (arith, c .before .before .before .before .before .before .before .before .before .before .pre .0 .1)
+add-t20 : tie.Need-add-t20 Inv-loop μ-loop
+add-t20 c = omega (arith, c .before .before .before .before .before .before .before .before .before .before .pre .0 .1)
 
 returns : tie.Need-returns Inv-loop μ-loop
 returns c =
@@ -88,5 +88,5 @@ retreat-spec =
     tie.close
     (tie.spec
     Inv-loop μ-loop loop-holds sub-place mul-is-call shared-slice-read-is-call
-    (λ c κs. search needs) mul-last element-copy-out-last later-answer-requires add-t19 returns
+    (λ c κs. search needs) mul-last element-copy-out-last later-answer-requires add-t20 returns
     loop-less loop-again loop-less-2 loop-again-2 returns-2)

@@ -44,7 +44,7 @@ chosen-fits : (c : tie.Start) → length (c .args .rest .now) ≡ 0 → (q : ℕ
 chosen-fits c e q l =
     let a = c .args in
     let j = a .job in
-    let few : j .known ≤ 65536 = omega (arith, known-in c, c .pre .0 .0 .answers-open .fits) in
+    let few : j .known ≤ 65536 = omega (arith, known-in c, c .pre .0 .0 .answers-open .fits, c .pre .0 .0 .answers-open .small, c .pre .0 .0 .answers-open .long) in
     chosen-small (c .pre .1 .0) (Among (c .pre .1 .1)) (c .pre .1 .2) (j .known) (j .rule) (j .row) (j .walk) (past-of j (c .pre .1 .3)) (a .body .now) (a .calls .now) (a .list .now) (a .n) (a .answers .now) (a .m) (going c .turning) (omega arith) few q
 
 advance-requires : tie.Need-advance-requires
@@ -71,7 +71,7 @@ module _ (v : tie.After-advance) (e : v .advance .result .front ≡ front.Spent)
       (mark-words (v .advance .last .1 .1 .1 .0)) (uses-in (v .advance .last .1 .1 .1 .0) (v .advance .last .1 .1 .1 .1 .1 .0)) (v .advance .last .1 .1 .1 .1 .1 .1 .1 .1 .0) at (spot-of (i .args .spot))
       × ((v .advance .last .1 .1 .1 .1 .1 .1 .1 .1 .0) ≡ i .args .chosen .now)
   spent G = subst
-      (λ (f : Front). Stepped f bodies (Among roots) b begun j (i .args .body .now) (length (i .args .calls .now)) (length (i .args .answers .now)) (i .args .chosen .now) at (spot-of (i .args .spot))
+      (λ (f : Front). Stepped f bodies (Among roots) b begun j (i .args .body .now) (length (i .args .calls .now)) (j .most) (i .args .chosen .now) at (spot-of (i .args .spot))
       (in-words (v .advance .last .1 .1 .1 .0) (v .advance .result .calls) (v .advance .last .1 .1 .1 .1 .1 .1 .0) (v .advance .result .answers)) (mark-words (v .advance .last .1 .1 .1 .0)) (uses-in (v .advance .last .1 .1 .1 .0) (v .advance .last .1 .1 .1 .1 .1 .0)) (v .advance .last .1 .1 .1 .1 .1 .1 .1 .1 .0))
       e (v .advance .ensures .1 bodies roots b begun (i .args .body .now) (G .tail) (G .turning))
 

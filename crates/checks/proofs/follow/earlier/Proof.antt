@@ -2,7 +2,7 @@
 use native.Mathlib.Omega.{arith}
 use mathlib.Core.Path.{refl}
 use borrow.Author.Tests.{lt-ltb, le-ltb}
-use borrow.Author.Needs.{needs}
+use Rattle.checks.proofs.WidthLaws.{answer-within, answers-more}
 use Rattle.checks.proofs.follow.earlier.Statement.{statement}
 use Rattle.checks.proofs.follow.earlier.Tie as tie
 
@@ -16,5 +16,8 @@ returns-2 c calls m =
     let a = c .before .before .args in
     rw (le-ltb (a .evidence) (a .n) (omega arith)) refl
 
+round-requires : tie.Need-round-requires
+round-requires c κs = let i = c .before .before in answer-within (i .args .plain) _ (answers-more (i .args .plain) (i .args .n) (i .pre .0)) (omega arith)
+
 pub earlier-spec : {M : Type 1} → statement M
-earlier-spec = tie.close (tie.spec (λ c κs. search needs) (λ c κs. search needs) returns returns-2)
+earlier-spec = tie.close (tie.spec round-requires (λ c κs. c .before .before .before .pre .0) returns returns-2)

@@ -6,30 +6,43 @@ use mathlib.Core.Bool.{true}
 use borrow.Author.Tests.{not-true, not-false}
 use Rattle.steps.specs.Acceptance.{each-below}
 use Rattle.steps.proofs.EachBelow.{each-none, each-more, each-not}
-use Rattle.records.specs.Records.{bodies-of, justified, call-table, answer-table}
+use Rattle.records.specs.Records.{justified}
+use Rattle.records.specs.Storage.{calls-in, answers-in, call-width-of, answer-width-of}
+use Rattle.records.specs.Bodies.{bodies-with}
+use Rattle.checks.proofs.WidthLaws.{answer-within, answers-less}
 use Rattle.checks.specs.Checks.{all-justified}
 use Rattle.checks.proofs.JustifiedLaws.{readable}
 use Rattle.checks.proofs.justified.all_justified.Statement.{statement}
 use Rattle.checks.proofs.justified.all_justified.Tie as tie
 
 abbrev Inv-loop : tie.InvT-loop
-Inv-loop rules goal calls call-count answers answer-count n₀ n = (n ≤ answer-count) × (each-below n (λ x. justified (call-table calls call-count) (answer-table answers answer-count) x (bodies-of rules goal)) ≡ true)
+Inv-loop plain rules goal second goals calls call-count answers answer-count n₀ n =
+    (n ≤ answer-count) × (each-below n (λ x. justified (calls-in (call-width-of plain) calls call-count) (answers-in (answer-width-of plain) answers answer-count) x (bodies-with rules (goals .first) (goals .second) goal second)) ≡ true)
 
 abbrev μ-loop : tie.MeasureT-loop
-μ-loop rules goal calls call-count answers answer-count n₀ n = answer-count - n
+μ-loop plain rules goal second goals calls call-count answers answer-count n₀ n = answer-count - n
 
 loop-holds : tie.Need-loop-holds Inv-loop μ-loop
 loop-holds c = (omega arith, each-none _)
 
 justified-requires : tie.Need-justified-requires Inv-loop μ-loop
 justified-requires c κs =
-    let a = c .before .before .before .before .before .before .args in
-    (c .before .before .before .before .before .before .pre .0, omega arith, omega arith, omega arith, readable _ (a .call-count) _ (a .answer-count) (bodies-of (a .rules .now) (a .goal .now)) _ (omega arith) (omega arith) (omega arith) (c .before .loop .inv .1))
+    let a = c .before .before .before .before .before .before .before .args in
+    let p = c .before .before .before .before .before .before .before .pre in
+    let n = c .before .loop .n in
+    let l : n < a .answer-count = omega arith in (
+      p .0,
+      p .1,
+      p .2,
+      omega arith,
+      answer-within (a .plain) n (p .4) l,
+      readable (a .plain) _ (a .call-count) _ (a .answer-count) (bodies-with (a .rules .now) (a .goals .first) (a .goals .second) (a .goal .now) (a .second .now)) _ (p .2) (omega arith) (answers-less (a .plain) n (p .4) (omega arith)) (c .before .loop .inv .1),
+    )
 
 returns : tie.Need-returns Inv-loop μ-loop
 unfolding all-justified
 returns c =
-    let within : c .before .before .before .loop .n < c .before .before .before .before .before .before .before .before .args .answer-count = omega arith in
+    let within : c .before .before .before .loop .n < c .before .before .before .before .before .before .before .before .before .args .answer-count = omega arith in
     sym (each-not _ _ _ within (sym (c .before .justified .ensures _) ∙ not-true _ (c .if1 .taken)))
 
 add-n : tie.Need-add-n Inv-loop μ-loop
@@ -44,7 +57,7 @@ loop-again c = (omega arith, each-more _ _ (c .before .before .before .loop .inv
 returns-2 : tie.Need-returns-2 Inv-loop μ-loop
 unfolding all-justified
 returns-2 c =
-    let e : c .before .loop .n ≡ c .before .before .before .before .before .before .args .answer-count = omega arith in
+    let e : c .before .loop .n ≡ c .before .before .before .before .before .before .before .args .answer-count = omega arith in
     sym (rw e at (c .before .loop .inv .1))
 
 pub all-justified-spec : {M : Type 1} → statement M

@@ -1,57 +1,33 @@
--- `unused` meets its contract. The loop's invariant: the words passed are 0; the measure: the words left. Assumes nothing.
-use Prim.Native.Nat.{_+_, _-_, _*_, _<_, _≤_}
+-- `unused` meets its contract. Assumes nothing.
 use native.Mathlib.Omega.{arith}
-use mathlib.Core.Path.{_≡_, sym, _∙_}
-use mathlib.Core.Bool.{true}
-use borrow.Author.Tests.{eq-eqb, ne-eqb}
-use lib.ListN.{getD}
-use lib.Dec.{eqb}
-use Rattle.steps.specs.Acceptance.{each-below}
-use Rattle.steps.proofs.EachBelow.{each-none, each-more, each-not}
-use Rattle.records.specs.Records.{answer-width}
+use mathlib.Core.Path.{_∙_}
+use borrow.Author.Needs.{needs}
+use Rattle.checks.proofs.WidthLaws.{answer-others}
+use Rattle.checks.proofs.ClearLaws.{evidence-clear}
 use Rattle.checks.proofs.justified.unused.Statement.{statement}
 use Rattle.checks.proofs.justified.unused.Tie as tie
 
-abbrev Inv-loop : tie.InvT-loop
-Inv-loop answers n q i₀ i = (i ≤ 16 - q) × (each-below i (λ i. eqb (getD answers (answer-width * n + 3 + (q + i)) 0) 0) ≡ true)
+mul-at : tie.Need-mul-at
+mul-at c = let i = c .before .before in omega (arith, answer-others (i .args .plain) (i .args .n) (c .answer-width .ensures) (i .pre .0))
 
-abbrev μ-loop : tie.MeasureT-loop
-μ-loop answers n q i₀ i = 16 - q - i
+add-at : tie.Need-add-at
+add-at c = let i = c .before .before in omega (arith, answer-others (i .args .plain) (i .args .n) (c .answer-width .ensures) (i .pre .0))
 
-loop-holds : tie.Need-loop-holds Inv-loop μ-loop
-loop-holds c = (omega arith, each-none _)
+add-clear-between : tie.Need-add-clear-between
+add-clear-between c = let i = c .before .before in omega (arith, answer-others (i .args .plain) (i .args .n) (c .answer-width .ensures) (i .pre .0))
 
-sub-loop : tie.Need-sub-loop Inv-loop μ-loop
-sub-loop c = omega arith
+add-clear-between-2 : tie.Need-add-clear-between-2
+add-clear-between-2 c = let i = c .before .before in omega (arith, answer-others (i .args .plain) (i .args .n) (c .answer-width .ensures) (i .pre .0))
 
-add-evidence-of : tie.Need-add-evidence-of Inv-loop μ-loop
-add-evidence-of c = omega arith
+clear-between-requires : tie.Need-clear-between-requires
+clear-between-requires c κs = let i = c .before .before in (omega arith, omega (arith, answer-others (i .args .plain) (i .args .n) (c .answer-width .ensures) (i .pre .0)))
 
-evidence-of-requires : tie.Need-evidence-of-requires Inv-loop μ-loop
-evidence-of-requires c κs = (omega arith, omega arith)
-
-returns : tie.Need-returns Inv-loop μ-loop
-returns c =
-    let within : c .before .before .before .loop .i < 16 - c .before .before .before .before .before .args .q = omega arith in
-    sym (each-not _ _ _ within (ne-eqb _ 0 (rw (c .before .evidence-of .ensures) at (c .if1 .taken))))
-
-add-i : tie.Need-add-i Inv-loop μ-loop
-add-i c = omega arith
-
-loop-less : tie.Need-loop-less Inv-loop μ-loop
-loop-less c = omega arith
-
-loop-again : tie.Need-loop-again Inv-loop μ-loop
-loop-again c = (omega arith, each-more _ _ (c .before .before .before .loop .inv .1) (eq-eqb _ 0 (sym (c .before .evidence-of .ensures) ∙ c .if1 .left)))
-
-returns-2 : tie.Need-returns-2 Inv-loop μ-loop
-returns-2 c =
-    let e : c .before .loop .i ≡ 16 - c .before .before .before .args .q = omega arith in
-    sym (rw e at (c .before .loop .inv .1))
+returns : tie.Need-returns
+returns c = rw (c .before .answer-width .ensures) at (c .clear-between .ensures ∙ evidence-clear _ _ _)
 
 pub unused-spec : {M : Type 1} → statement M
 unused-spec =
     tie.close
     (tie.spec
-    Inv-loop μ-loop loop-holds sub-loop add-evidence-of evidence-of-requires returns add-i loop-less
-    loop-again returns-2)
+    (λ c κs. search needs) mul-at add-at add-clear-between add-clear-between-2 clear-between-requires
+    returns)

@@ -11,15 +11,18 @@ use Rattle.records.proofs.bodies.is_at.Tie as tie
 use Rattle.records.specs.Records.{goal-rule}
 
 cast-result : tie.Need-cast-result
-cast-result c = omega (arith, c .shared-slice-known .given (rule-width * c .before .before .args .k))
+cast-result c = omega (arith, c .shared-slice-known2 .given (rule-width * c .before .before .before .args .k))
 
 returns : tie.Need-returns
 unfolding number-at
-returns c = rw (lt-ltb _ _ (c .before .if1 .taken), ne-eqb (c .before .before .args .k) goal-rule (omega (arith, c .before .before .pre, c .before .if1 .taken)), lt-ltb _ _ (c .before .if1 .taken)) refl
+returns c =
+    let i = c .before .before .before in
+    let l = c .before .if1 .taken in
+    rw (lt-ltb _ _ l, ne-eqb (i .args .k) goal-rule (omega (arith, i .pre, l)), lt-ltb _ _ l) refl
 
 returns-2 : tie.Need-returns-2
 unfolding number-at
-returns-2 c = rw (le-ltb _ _ (c .if1 .left)) refl
+returns-2 c = rw (le-ltb _ _ (c .before .if1 .left)) (c .is-goal .ensures)
 
 pub is-at-spec : {M : Type 1} → statement M
 is-at-spec =
@@ -30,4 +33,5 @@ is-at-spec =
     (λ c. search needs)
     cast-result
     returns
+    (λ c κs. search needs)
     returns-2)

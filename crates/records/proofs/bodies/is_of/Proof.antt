@@ -10,10 +10,10 @@ use Rattle.records.proofs.bodies.is_of.Reads as reads
 use Rattle.records.proofs.bodies.is_of.Lts as lts
 
 returns : tie.Need-returns
-returns c = simp (eq-eqb _ _ (c .if1 .taken))
+returns c = rw (eq-eqb _ _ (c .before .if1 .taken)) (c .is-goal .ensures)
 
 cast-result : tie.Need-cast-result
-cast-result c = omega (arith, c .shared-slice-known .given (rule-width * c .before .before .before .args .number))
+cast-result c = omega (arith, c .shared-slice-known2 .given (rule-width * c .before .before .before .before .args .number))
 
 returns-2 : tie.Need-returns-2
 returns-2 c = simp (ne-eqb _ _ (c .before .before .if1 .left), lt-ltb _ _ (c .before .if2 .taken))
@@ -25,5 +25,5 @@ pub is-of-spec : {M : Type 1} → statement M
 is-of-spec =
     tie.close
     (tie.spec
-    returns (λ c. search needs) (λ c. search needs) (λ c. search needs) cast-result returns-2
+    (λ c κs. search needs) returns (λ c. search needs) (λ c. search needs) (λ c. search needs) cast-result returns-2
     returns-3)

@@ -1,0 +1,2 @@
+-- What the code that reads, judges and writes the words kept promises.
+pub mod Accounts

@@ -1,0 +1,2 @@
+-- Tables put aside and given back.
+pub mod Stowing
