@@ -16,8 +16,9 @@ use steps::word;
 ghost use mathlib.Core.Path.{_≡_};
 ghost use mathlib.Core.Bool.{false};
 ghost use mathlib.Core.List.{List};
-ghost use Prim.Native.Nat.{ℕ, _<_, _≤_};
+ghost use Prim.Native.Nat.{ℕ, _+_, _/_, _<_, _≤_};
 ghost use lib.ListN.{length};
+ghost use Rattle.steps.specs.Widths.{rule-width};
 ghost use Rattle.records.specs.Bodies.{bodies-with};
 ghost use Rattle.tabling.proofs.Evidence.{Among, Valid};
 ghost use Rattle.desk.specs.Desk.{packed-answers, mark-words};
@@ -26,6 +27,7 @@ ghost use Rattle.uses.specs.Uses.{heat, uses-in};
 ghost use Rattle.invariants.proofs.Going.{Kept, Indexed, in-words};
 ghost use Rattle.invariants.proofs.Filling.{Accepted, Standing, Went, Filled};
 ghost use Rattle.invariants.proofs.Rounds.{Stopped};
+ghost use Rattle.filling.specs.Others.{Other};
 
 // How many records the tables hold and how many rounds added some, or that a table is full.
 pub struct Counted {
@@ -72,6 +74,39 @@ fn goes_on(body: &[u16], state: State) -> bool
     }
 }
 
+// The first of the bodies, the goals' behind the rules', that is one of the action; or one more than there are.
+fn first_body(rules: &[u16], goals: Goals, action: u64) -> usize
+    requires { ⌜ length (now rules) / rule-width ≤ 256 ⌝ }
+    ensures { λ r. ⌜ (r ≤ length (now (rules .entry)) / rule-width + 1) × ((k : ℕ) → k < r
+        → Other (now (rules .entry)) (goals .first) (goals .second) k action) ⌝ }
+{
+    let end = rules.len() / word::RULE_WORDS + 1;
+    let mut k = 0;
+    while k < end {
+        if bodies::is_at(rules, goals, k, action) {
+            return k;
+        }
+        k += 1;
+    }
+    k
+}
+
+// One more than the last of them that is, or 0.
+fn past_body(rules: &[u16], goals: Goals, action: u64) -> usize
+    requires { ⌜ length (now rules) / rule-width ≤ 256 ⌝ }
+    ensures { λ r. ⌜ (r ≤ length (now (rules .entry)) / rule-width + 1) × ((k : ℕ) → r ≤ k
+        → k < length (now (rules .entry)) / rule-width + 1 → Other (now (rules .entry)) (goals .first) (goals .second) k action) ⌝ }
+{
+    let mut k = rules.len() / word::RULE_WORDS + 1;
+    while 0 < k {
+        if bodies::is_at(rules, goals, k - 1, action) {
+            return k;
+        }
+        k -= 1;
+    }
+    k
+}
+
 // One round: walks every body of the call records from `first` on, but for those that have nothing to add, with the answers that stood at its
 // start, and adds what it finds.
 fn round<'a>(
@@ -114,7 +149,10 @@ fn round<'a>(
                     continue;
                 }
             }
-            for rule in 0..count + 1 {
+            let own = desk::action_of(calls, row);
+            let from = first_body(rules, goals, own);
+            let past = past_body(rules, goals, own);
+            for rule in from..past {
                 let action = desk::action_of(calls, row);
                 if !bodies::is_at(rules, goals, rule, action) {
                     continue;

@@ -1,10 +1,10 @@
 -- `round` meets its contract. The invariants of its loops (the block, call records, rules, the walk) are the records of `Filling`; the measures are
 -- the records and rules left, and the walk's own. Assumes nothing.
-use Prim.Native.Nat.{ℕ, _-_, _/_, _<_}
+use Prim.Native.Nat.{ℕ, _-_, _/_, _<_, _≤_}
 use native.Mathlib.Omega.{arith}
 use native.Mathlib.Decide.{decLt}
 use mathlib.Core.Path.{_≡_, refl, sym, ap, subst, _∙_}
-use mathlib.Core.Bool.{Bool}
+use mathlib.Core.Bool.{Bool, true}
 use mathlib.Core.List.{List}
 use lib.ListN.{length, getD, replicate, length-replicate, getD-replicate, List·getD-eq-default}
 use borrow.Author.Tests.{not-true, not-false}
@@ -34,19 +34,19 @@ use Rattle.filling.proofs.round.Statement.{statement}
 use Rattle.filling.proofs.round.Tie as tie
 
 abbrev Inv-loop3 : tie.InvT-loop3
-Inv-loop3 rules goal second goals most first calls₀ list₀ answers₀ count rows known walked seen round span low high top n₀ m₀ walk row rule action number body job chosen₀ rest₀ spot₀ rule-end calls list answers n m chosen rest spot =
+Inv-loop3 rules goal second goals most first calls₀ list₀ answers₀ count rows known walked seen round span low high top n₀ m₀ walk row own from past rule action number body job chosen₀ rest₀ spot₀ calls list answers n m chosen rest spot =
     Walked (bodies-with rules (goals .first) (goals .second) goal second) most first calls₀ list₀ n₀ answers₀ m₀ (job .known) (job .rule) (job .row) (job .walk) (job .old) (job .seen) (job .warm) (job .round) body calls list n answers m chosen rest (spot-of spot)
 
 abbrev μ-loop3 : tie.MeasureT-loop3
-μ-loop3 rules goal second goals most first calls₀ list₀ answers₀ count rows known walked seen round span low high top n₀ m₀ walk row rule action number body job chosen₀ rest₀ spot₀ rule-end calls list answers n m chosen rest spot =
+μ-loop3 rules goal second goals most first calls₀ list₀ answers₀ count rows known walked seen round span low high top n₀ m₀ walk row own from past rule action number body job chosen₀ rest₀ spot₀ calls list answers n m chosen rest spot =
     left (job .known) chosen (length body - length rest)
 
 abbrev Inv-loop2 : tie.InvT-loop2
-Inv-loop2 rules goal second goals most first calls₀ list₀ answers₀ count rows known walked seen round span low high top n₀ m₀ walk₀ row rule₀ rule-end calls list answers n m walk rule =
+Inv-loop2 rules goal second goals most first calls₀ list₀ answers₀ count rows known walked seen round span low high top n₀ m₀ walk₀ row own from past rule₀ calls list answers n m walk rule =
     RulesDone (bodies-with rules (goals .first) (goals .second) goal second) most first calls₀ list₀ n₀ answers₀ m₀ (length rules / rule-width) walked seen low high top (span .old) (span .warm) round rows known row rule calls list n answers m walk
 
 abbrev μ-loop2 : tie.MeasureT-loop2
-μ-loop2 rules goal second goals most first calls₀ list₀ answers₀ count rows known walked seen round span low high top n₀ m₀ walk₀ row rule₀ rule-end calls list answers n m walk rule = rule-end - rule
+μ-loop2 rules goal second goals most first calls₀ list₀ answers₀ count rows known walked seen round span low high top n₀ m₀ walk₀ row own from past rule₀ calls list answers n m walk rule = past - rule
 
 abbrev Inv-loop : tie.InvT-loop
 Inv-loop rules goal second goals most first calls₀ list₀ answers₀ count rows known walked seen round span low high top n₀ m₀ walk₀ row₀ calls list answers n m walk row =
@@ -103,70 +103,76 @@ rows-at l rs S =
 past-words : {t : Tables} {notes : Uses} {seen known : ℕ} {warm : Bool} {row : ℕ} {body body′ : List ℕ} → body ≡ body′ → Past t notes seen known warm row body′ → Past t notes seen known warm row body
 past-words {t} {notes} {seen} {known} {warm} {row} e p = subst (λ (w : List ℕ). Past t notes seen known warm row w) (sym e) p
 
+-- the rules up to another are of other actions
+rules-past : (bodies : Bodies) (Root : ℕ → State → Type 0) (number : ℕ → ℕ) {first walked seen low high top old round rows known row rule rule′ : ℕ} {warm : Bool} {begun : Begin} {t : Tables} {uses : Uses}
+    → Rules bodies Root number first walked seen low high top old warm round rows known row rule begun t uses → ((k : ℕ) → rule ≤ k → k < rule′ → bodies .fits (number k) (t .calls .action row) ≡ true → ⊥)
+    → Rules bodies Root number first walked seen low high top old warm round rows known row rule′ begun t uses
+rules-past bodies Root number {rule = rule} R n = record { rows-closed = R .rows-closed; rules-closed = λ k h. elim (decLt k rule) [ yes l ↦ R .rules-closed k l | no m ↦ (λ e. absurd (n k (omega arith) h e)) ] }
+
 -- a new walk's number changes marks alone
 rules-marked : {bodies : Bodies} {Root : ℕ → State → Type 0} {number : ℕ → ℕ} {first walked seen low high top old : ℕ} {warm : Bool} {round rows known row rule : ℕ} {begun : Begin} {t t′ : Tables} {uses uses′ : Uses} → t′ ≡ t → uses′ ≡ uses
     → Rules bodies Root number first walked seen low high top old warm round rows known row rule begun t uses → Rules bodies Root number first walked seen low high top old warm round rows known row rule begun t′ uses′
 rules-marked p q R = rw (p, q) R
 
 marked-at : (f : Found) (rs : List (ℕ × ℕ)) (begun : Begin)
-    → Rules (over (f .before .before .before .before .before .before .before .before .before .before .before .before .before .before .before .before .before .before .before .before .before .before .before .before .before .before .before .before .before .before .before .before .before .before)) (Among rs) (number-at (length (f .before .before .before .before .before .before .before .before .before .before .before .before .before .before .before .before .before .before .before .before .before .before .before .before .before .before .before .before .before .before .before .before .before .before .args .rules .now) / rule-width)) (f .before .before .before .before .before .before .before .before .before .before .before .before .before .before .before .before .before .before .before .before .before .before .before .before .before .before .before .before .before .before .before .before .before .before .args .first) (f .before .before .before .before .before .before .before .before .before .before .before .before .before .before .before .before .before .before .before .before .before .before .before .before .before .before .before .before .before .before .before .before .before .before .args .stage .walked) (f .before .before .before .before .before .before .before .before .before .before .before .before .before .before .before .before .before .before .before .before .before .before .before .before .before .before .before .before .before .before .before .before .before .before .args .stage .seen) (f .before .before .before .before .before .before .before .before .before .before .before .before .before .before .before .before .before .before .before .before .before .before .before .before .span-of .result .low) (f .before .before .before .before .before .before .before .before .before .before .before .before .before .before .before .before .before .before .before .before .before .before .before .before .span-of .result .high) (f .before .before .before .before .before .before .before .before .before .before .before .before .before .before .before .before .before .before .before .before .before .before .before .before .span-of .result .top) (f .before .before .before .before .before .before .before .before .before .before .before .before .before .before .before .before .before .before .before .before .before .before .before .before .span-of .result .old) (f .before .before .before .before .before .before .before .before .before .before .before .before .before .before .before .before .before .before .before .before .before .before .before .before .span-of .result .warm)
-    (f .before .before .before .before .before .before .before .before .before .before .before .before .before .before .before .before .before .before .before .before .before .before .before .before .before .before .before .before .before .before .before .before .before .before .args .stage .round) (f .before .before .before .before .before .before .before .before .before .before .before .before .before .before .before .before .before .before .before .before .before .before .before .before .before .before .before .before .before .before .before .before .before .before .args .stage .calls) (f .before .before .before .before .before .before .before .before .before .before .before .before .before .before .before .before .before .before .before .before .before .before .before .before .before .before .before .before .before .before .before .before .before .before .args .stage .answers) (f .before .before .before .before .before .before .before .before .before .before .before .before .before .before .before .before .before .before .before .before .loop .row) (f .before .before .before .before .before .before .before .before .before .before .before .before .before .before .before .before .before .loop2 .rule) begun (in-words (f .before .before .before .before .before .before .before .before .before .before .before .before .before .before .before .before .before .loop2 .calls) (f .before .before .before .before .before .before .before .before .before .before .before .before .before .before .before .before .before .loop2 .n) (f .before .before .before .before .before .before .before .before .before .before .before .before .before .before .before .before .before .loop2 .answers) (f .before .before .before .before .before .before .before .before .before .before .before .before .before .before .before .before .before .loop2 .m)) (uses-in (f .before .before .before .before .before .before .before .before .before .before .before .before .before .before .before .before .before .loop2 .calls) (f .before .before .before .before .before .before .before .before .before .before .before .before .before .before .before .before .before .loop2 .list))
-    → Rules (over (f .before .before .before .before .before .before .before .before .before .before .before .before .before .before .before .before .before .before .before .before .before .before .before .before .before .before .before .before .before .before .before .before .before .before)) (Among rs) (number-at (length (f .before .before .before .before .before .before .before .before .before .before .before .before .before .before .before .before .before .before .before .before .before .before .before .before .before .before .before .before .before .before .before .before .before .before .args .rules .now) / rule-width)) (f .before .before .before .before .before .before .before .before .before .before .before .before .before .before .before .before .before .before .before .before .before .before .before .before .before .before .before .before .before .before .before .before .before .before .args .first) (f .before .before .before .before .before .before .before .before .before .before .before .before .before .before .before .before .before .before .before .before .before .before .before .before .before .before .before .before .before .before .before .before .before .before .args .stage .walked) (f .before .before .before .before .before .before .before .before .before .before .before .before .before .before .before .before .before .before .before .before .before .before .before .before .before .before .before .before .before .before .before .before .before .before .args .stage .seen) (f .before .before .before .before .before .before .before .before .before .before .before .before .before .before .before .before .before .before .before .before .before .before .before .before .span-of .result .low) (f .before .before .before .before .before .before .before .before .before .before .before .before .before .before .before .before .before .before .before .before .before .before .before .before .span-of .result .high) (f .before .before .before .before .before .before .before .before .before .before .before .before .before .before .before .before .before .before .before .before .before .before .before .before .span-of .result .top) (f .before .before .before .before .before .before .before .before .before .before .before .before .before .before .before .before .before .before .before .before .before .before .before .before .span-of .result .old) (f .before .before .before .before .before .before .before .before .before .before .before .before .before .before .before .before .before .before .before .before .before .before .before .before .span-of .result .warm)
-    (f .before .before .before .before .before .before .before .before .before .before .before .before .before .before .before .before .before .before .before .before .before .before .before .before .before .before .before .before .before .before .before .before .before .before .args .stage .round) (f .before .before .before .before .before .before .before .before .before .before .before .before .before .before .before .before .before .before .before .before .before .before .before .before .before .before .before .before .before .before .before .before .before .before .args .stage .calls) (f .before .before .before .before .before .before .before .before .before .before .before .before .before .before .before .before .before .before .before .before .before .before .before .before .before .before .before .before .before .before .before .before .before .before .args .stage .answers) (f .before .before .before .before .before .before .before .before .before .before .before .before .before .before .before .before .before .before .before .before .loop .row) (f .before .before .before .before .before .before .before .before .before .before .before .before .before .before .before .before .before .loop2 .rule) begun (in-words (f .before .before .before .before .next-walk .last .0) (f .before .before .before .before .before .before .before .before .before .before .before .before .before .before .before .before .before .loop2 .n) (f .before .before .before .before .before .before .before .before .before .before .before .before .before .before .before .before .before .loop2 .answers) (f .before .before .before .before .before .before .before .before .before .before .before .before .before .before .before .before .before .loop2 .m)) (uses-in (f .before .before .before .before .next-walk .last .0) (f .before .before .before .before .before .before .before .before .before .before .before .before .before .before .before .before .before .loop2 .list))
+    → Rules (over (f .before .before .before .before .before .before .before .before .before .before .before .before .before .before .before .before .before .before .before .before .before .before .before .before .before .before .before .before .before .before .before .before .before .before .before .before .before .before)) (Among rs) (number-at (length (f .before .before .before .before .before .before .before .before .before .before .before .before .before .before .before .before .before .before .before .before .before .before .before .before .before .before .before .before .before .before .before .before .before .before .before .before .before .before .args .rules .now) / rule-width)) (f .before .before .before .before .before .before .before .before .before .before .before .before .before .before .before .before .before .before .before .before .before .before .before .before .before .before .before .before .before .before .before .before .before .before .before .before .before .before .args .first) (f .before .before .before .before .before .before .before .before .before .before .before .before .before .before .before .before .before .before .before .before .before .before .before .before .before .before .before .before .before .before .before .before .before .before .before .before .before .before .args .stage .walked) (f .before .before .before .before .before .before .before .before .before .before .before .before .before .before .before .before .before .before .before .before .before .before .before .before .before .before .before .before .before .before .before .before .before .before .before .before .before .before .args .stage .seen) (f .before .before .before .before .before .before .before .before .before .before .before .before .before .before .before .before .before .before .before .before .before .before .before .before .before .before .before .before .span-of .result .low) (f .before .before .before .before .before .before .before .before .before .before .before .before .before .before .before .before .before .before .before .before .before .before .before .before .before .before .before .before .span-of .result .high) (f .before .before .before .before .before .before .before .before .before .before .before .before .before .before .before .before .before .before .before .before .before .before .before .before .before .before .before .before .span-of .result .top) (f .before .before .before .before .before .before .before .before .before .before .before .before .before .before .before .before .before .before .before .before .before .before .before .before .before .before .before .before .span-of .result .old) (f .before .before .before .before .before .before .before .before .before .before .before .before .before .before .before .before .before .before .before .before .before .before .before .before .before .before .before .before .span-of .result .warm)
+    (f .before .before .before .before .before .before .before .before .before .before .before .before .before .before .before .before .before .before .before .before .before .before .before .before .before .before .before .before .before .before .before .before .before .before .before .before .before .before .args .stage .round) (f .before .before .before .before .before .before .before .before .before .before .before .before .before .before .before .before .before .before .before .before .before .before .before .before .before .before .before .before .before .before .before .before .before .before .before .before .before .before .args .stage .calls) (f .before .before .before .before .before .before .before .before .before .before .before .before .before .before .before .before .before .before .before .before .before .before .before .before .before .before .before .before .before .before .before .before .before .before .before .before .before .before .args .stage .answers) (f .before .before .before .before .before .before .before .before .before .before .before .before .before .before .before .before .before .before .before .before .before .before .before .before .loop .row) (f .before .before .before .before .before .before .before .before .before .before .before .before .before .before .before .before .before .loop2 .rule) begun (in-words (f .before .before .before .before .before .before .before .before .before .before .before .before .before .before .before .before .before .loop2 .calls) (f .before .before .before .before .before .before .before .before .before .before .before .before .before .before .before .before .before .loop2 .n) (f .before .before .before .before .before .before .before .before .before .before .before .before .before .before .before .before .before .loop2 .answers) (f .before .before .before .before .before .before .before .before .before .before .before .before .before .before .before .before .before .loop2 .m)) (uses-in (f .before .before .before .before .before .before .before .before .before .before .before .before .before .before .before .before .before .loop2 .calls) (f .before .before .before .before .before .before .before .before .before .before .before .before .before .before .before .before .before .loop2 .list))
+    → Rules (over (f .before .before .before .before .before .before .before .before .before .before .before .before .before .before .before .before .before .before .before .before .before .before .before .before .before .before .before .before .before .before .before .before .before .before .before .before .before .before)) (Among rs) (number-at (length (f .before .before .before .before .before .before .before .before .before .before .before .before .before .before .before .before .before .before .before .before .before .before .before .before .before .before .before .before .before .before .before .before .before .before .before .before .before .before .args .rules .now) / rule-width)) (f .before .before .before .before .before .before .before .before .before .before .before .before .before .before .before .before .before .before .before .before .before .before .before .before .before .before .before .before .before .before .before .before .before .before .before .before .before .before .args .first) (f .before .before .before .before .before .before .before .before .before .before .before .before .before .before .before .before .before .before .before .before .before .before .before .before .before .before .before .before .before .before .before .before .before .before .before .before .before .before .args .stage .walked) (f .before .before .before .before .before .before .before .before .before .before .before .before .before .before .before .before .before .before .before .before .before .before .before .before .before .before .before .before .before .before .before .before .before .before .before .before .before .before .args .stage .seen) (f .before .before .before .before .before .before .before .before .before .before .before .before .before .before .before .before .before .before .before .before .before .before .before .before .before .before .before .before .span-of .result .low) (f .before .before .before .before .before .before .before .before .before .before .before .before .before .before .before .before .before .before .before .before .before .before .before .before .before .before .before .before .span-of .result .high) (f .before .before .before .before .before .before .before .before .before .before .before .before .before .before .before .before .before .before .before .before .before .before .before .before .before .before .before .before .span-of .result .top) (f .before .before .before .before .before .before .before .before .before .before .before .before .before .before .before .before .before .before .before .before .before .before .before .before .before .before .before .before .span-of .result .old) (f .before .before .before .before .before .before .before .before .before .before .before .before .before .before .before .before .before .before .before .before .before .before .before .before .before .before .before .before .span-of .result .warm)
+    (f .before .before .before .before .before .before .before .before .before .before .before .before .before .before .before .before .before .before .before .before .before .before .before .before .before .before .before .before .before .before .before .before .before .before .before .before .before .before .args .stage .round) (f .before .before .before .before .before .before .before .before .before .before .before .before .before .before .before .before .before .before .before .before .before .before .before .before .before .before .before .before .before .before .before .before .before .before .before .before .before .before .args .stage .calls) (f .before .before .before .before .before .before .before .before .before .before .before .before .before .before .before .before .before .before .before .before .before .before .before .before .before .before .before .before .before .before .before .before .before .before .before .before .before .before .args .stage .answers) (f .before .before .before .before .before .before .before .before .before .before .before .before .before .before .before .before .before .before .before .before .before .before .before .before .loop .row) (f .before .before .before .before .before .before .before .before .before .before .before .before .before .before .before .before .before .loop2 .rule) begun (in-words (f .before .before .before .before .next-walk .last .0) (f .before .before .before .before .before .before .before .before .before .before .before .before .before .before .before .before .before .loop2 .n) (f .before .before .before .before .before .before .before .before .before .before .before .before .before .before .before .before .before .loop2 .answers) (f .before .before .before .before .before .before .before .before .before .before .before .before .before .before .before .before .before .loop2 .m)) (uses-in (f .before .before .before .before .next-walk .last .0) (f .before .before .before .before .before .before .before .before .before .before .before .before .before .before .before .before .before .loop2 .list))
 marked-at f rs begun R = rules-marked (ap (λ (c : Calls). tables c (packed-answers (f .before .before .before .before .before .before .before .before .before .before .before .before .before .before .before .before .before .loop2 .answers) (f .before .before .before .before .before .before .before .before .before .before .before .before .before .before .before .before .before .loop2 .m))) (alone-calls (f .before .before .before .before .next-walk .ensures .1) (f .before .before .before .before .before .before .before .before .before .before .before .before .before .before .before .before .before .loop2 .n))) (marked-uses (f .before .before .before .before .next-walk .ensures .1) (f .before .before .before .before .before .before .before .before .before .before .before .before .before .before .before .before .before .loop2 .list)) R
 
 -- the action of the call record is that which was read
-action-at : (f : Found) → open-calls (f .before .before .before .before .next-walk .last .0) (f .before .before .before .before .before .before .before .before .before .before .before .before .before .before .before .before .before .loop2 .n) .action (f .before .before .before .before .before .before .before .before .before .before .before .before .before .before .before .before .before .before .before .before .loop .row) ≡ f .before .before .before .before .before .before .before .before .before .before .before .before .before .before .action-of .result
-action-at f = ap (λ (c : Calls). c .action (f .before .before .before .before .before .before .before .before .before .before .before .before .before .before .before .before .before .before .before .before .loop .row)) (alone-calls (f .before .before .before .before .next-walk .ensures .1) (f .before .before .before .before .before .before .before .before .before .before .before .before .before .before .before .before .before .loop2 .n)) ∙ sym (f .before .before .before .before .before .before .before .before .before .before .before .before .before .before .action-of .ensures)
+action-at : (f : Found) → open-calls (f .before .before .before .before .next-walk .last .0) (f .before .before .before .before .before .before .before .before .before .before .before .before .before .before .before .before .before .loop2 .n) .action (f .before .before .before .before .before .before .before .before .before .before .before .before .before .before .before .before .before .before .before .before .before .before .before .before .loop .row) ≡ f .before .before .before .before .before .before .before .before .before .before .before .before .before .before .action-of2 .result
+action-at f = ap (λ (c : Calls). c .action (f .before .before .before .before .before .before .before .before .before .before .before .before .before .before .before .before .before .before .before .before .before .before .before .before .loop .row)) (alone-calls (f .before .before .before .before .next-walk .ensures .1) (f .before .before .before .before .before .before .before .before .before .before .before .before .before .before .before .before .before .loop2 .n)) ∙ sym (f .before .before .before .before .before .before .before .before .before .before .before .before .before .before .action-of2 .ensures)
 
-words-at : (f : Found) → f .before .before .before .before .before .before .before .before .before .before .steps-for .result .now ≡ over (f .before .before .before .before .before .before .before .before .before .before .before .before .before .before .before .before .before .before .before .before .before .before .before .before .before .before .before .before .before .before .before .before .before .before) .words (f .before .before .before .before .before .before .before .before .before .before .before .number-of .result) (open-calls (f .before .before .before .before .next-walk .last .0) (f .before .before .before .before .before .before .before .before .before .before .before .before .before .before .before .before .before .loop2 .n) .action (f .before .before .before .before .before .before .before .before .before .before .before .before .before .before .before .before .before .before .before .before .loop .row))
+words-at : (f : Found) → f .before .before .before .before .before .before .before .before .before .before .steps-for .result .now ≡ over (f .before .before .before .before .before .before .before .before .before .before .before .before .before .before .before .before .before .before .before .before .before .before .before .before .before .before .before .before .before .before .before .before .before .before .before .before .before .before) .words (f .before .before .before .before .before .before .before .before .before .before .before .number-of .result) (open-calls (f .before .before .before .before .next-walk .last .0) (f .before .before .before .before .before .before .before .before .before .before .before .before .before .before .before .before .before .loop2 .n) .action (f .before .before .before .before .before .before .before .before .before .before .before .before .before .before .before .before .before .before .before .before .before .before .before .before .loop .row))
 words-at f = rw (action-at f) (f .before .before .before .before .before .before .before .before .before .before .steps-for .ensures .0)
 
 -- the walk's body is that of a rule of the call record's action
 given-at : (f : Found) (rs : List (ℕ × ℕ)) (begun : Begin)
-    → Rules (over (f .before .before .before .before .before .before .before .before .before .before .before .before .before .before .before .before .before .before .before .before .before .before .before .before .before .before .before .before .before .before .before .before .before .before)) (Among rs) (number-at (length (f .before .before .before .before .before .before .before .before .before .before .before .before .before .before .before .before .before .before .before .before .before .before .before .before .before .before .before .before .before .before .before .before .before .before .args .rules .now) / rule-width)) (f .before .before .before .before .before .before .before .before .before .before .before .before .before .before .before .before .before .before .before .before .before .before .before .before .before .before .before .before .before .before .before .before .before .before .args .first) (f .before .before .before .before .before .before .before .before .before .before .before .before .before .before .before .before .before .before .before .before .before .before .before .before .before .before .before .before .before .before .before .before .before .before .args .stage .walked) (f .before .before .before .before .before .before .before .before .before .before .before .before .before .before .before .before .before .before .before .before .before .before .before .before .before .before .before .before .before .before .before .before .before .before .args .stage .seen) (f .before .before .before .before .before .before .before .before .before .before .before .before .before .before .before .before .before .before .before .before .before .before .before .before .span-of .result .low) (f .before .before .before .before .before .before .before .before .before .before .before .before .before .before .before .before .before .before .before .before .before .before .before .before .span-of .result .high) (f .before .before .before .before .before .before .before .before .before .before .before .before .before .before .before .before .before .before .before .before .before .before .before .before .span-of .result .top) (f .before .before .before .before .before .before .before .before .before .before .before .before .before .before .before .before .before .before .before .before .before .before .before .before .span-of .result .old) (f .before .before .before .before .before .before .before .before .before .before .before .before .before .before .before .before .before .before .before .before .before .before .before .before .span-of .result .warm)
-    (f .before .before .before .before .before .before .before .before .before .before .before .before .before .before .before .before .before .before .before .before .before .before .before .before .before .before .before .before .before .before .before .before .before .before .args .stage .round) (f .before .before .before .before .before .before .before .before .before .before .before .before .before .before .before .before .before .before .before .before .before .before .before .before .before .before .before .before .before .before .before .before .before .before .args .stage .calls) (f .before .before .before .before .before .before .before .before .before .before .before .before .before .before .before .before .before .before .before .before .before .before .before .before .before .before .before .before .before .before .before .before .before .before .args .stage .answers) (f .before .before .before .before .before .before .before .before .before .before .before .before .before .before .before .before .before .before .before .before .loop .row) (f .before .before .before .before .before .before .before .before .before .before .before .before .before .before .before .before .before .loop2 .rule) begun (in-words (f .before .before .before .before .next-walk .last .0) (f .before .before .before .before .before .before .before .before .before .before .before .before .before .before .before .before .before .loop2 .n) (f .before .before .before .before .before .before .before .before .before .before .before .before .before .before .before .before .before .loop2 .answers) (f .before .before .before .before .before .before .before .before .before .before .before .before .before .before .before .before .before .loop2 .m)) (uses-in (f .before .before .before .before .next-walk .last .0) (f .before .before .before .before .before .before .before .before .before .before .before .before .before .before .before .before .before .loop2 .list))
-    → Given (over (f .before .before .before .before .before .before .before .before .before .before .before .before .before .before .before .before .before .before .before .before .before .before .before .before .before .before .before .before .before .before .before .before .before .before)) (Among rs) (in-words (f .before .before .before .before .next-walk .last .0) (f .before .before .before .before .before .before .before .before .before .before .before .before .before .before .before .before .before .loop2 .n) (f .before .before .before .before .before .before .before .before .before .before .before .before .before .before .before .before .before .loop2 .answers) (f .before .before .before .before .before .before .before .before .before .before .before .before .before .before .before .before .before .loop2 .m))
-    (f .before .before .before .before .before .before .before .before .before .before .before .before .before .before .before .before .before .before .before .before .before .before .before .before .before .before .before .before .before .before .before .before .before .before .args .stage .answers) (f .before .before .before .before .before .before .before .before .before .before .before .number-of .result) (f .before .before .before .before .before .before .before .before .before .before .before .before .before .before .before .before .before .before .before .before .loop .row) (before (f .before .before .before .before .before .before .before .before .before .before .before .before .before .before .before .before .before .before .before .before .before .before .before .before .before .before .before .before .before .before .before .before .before .before .args .first) (f .before .before .before .before .before .before .before .before .before .before .before .before .before .before .before .before .before .before .before .before .before .before .before .before .span-of .result .old) (f .before .before .before .before .before .before .before .before .before .before .before .before .before .before .before .before .before .before .before .before .before .before .before .before .before .before .before .before .before .before .before .before .before .before .args .stage .seen) (f .before .before .before .before .before .before .before .before .before .before .before .before .before .before .before .before .before .before .before .before .before .before .before .before .span-of .result .warm) (f .before .before .before .before .before .before .before .before .before .before .before .before .before .before .before .before .before .before .before .before .before .before .before .before .before .before .before .before .before .before .before .before .before .before .args .stage .round) begun) (f .before .before .before .before .before .before .before .before .before .before .steps-for .result .now)
+    → Rules (over (f .before .before .before .before .before .before .before .before .before .before .before .before .before .before .before .before .before .before .before .before .before .before .before .before .before .before .before .before .before .before .before .before .before .before .before .before .before .before)) (Among rs) (number-at (length (f .before .before .before .before .before .before .before .before .before .before .before .before .before .before .before .before .before .before .before .before .before .before .before .before .before .before .before .before .before .before .before .before .before .before .before .before .before .before .args .rules .now) / rule-width)) (f .before .before .before .before .before .before .before .before .before .before .before .before .before .before .before .before .before .before .before .before .before .before .before .before .before .before .before .before .before .before .before .before .before .before .before .before .before .before .args .first) (f .before .before .before .before .before .before .before .before .before .before .before .before .before .before .before .before .before .before .before .before .before .before .before .before .before .before .before .before .before .before .before .before .before .before .before .before .before .before .args .stage .walked) (f .before .before .before .before .before .before .before .before .before .before .before .before .before .before .before .before .before .before .before .before .before .before .before .before .before .before .before .before .before .before .before .before .before .before .before .before .before .before .args .stage .seen) (f .before .before .before .before .before .before .before .before .before .before .before .before .before .before .before .before .before .before .before .before .before .before .before .before .before .before .before .before .span-of .result .low) (f .before .before .before .before .before .before .before .before .before .before .before .before .before .before .before .before .before .before .before .before .before .before .before .before .before .before .before .before .span-of .result .high) (f .before .before .before .before .before .before .before .before .before .before .before .before .before .before .before .before .before .before .before .before .before .before .before .before .before .before .before .before .span-of .result .top) (f .before .before .before .before .before .before .before .before .before .before .before .before .before .before .before .before .before .before .before .before .before .before .before .before .before .before .before .before .span-of .result .old) (f .before .before .before .before .before .before .before .before .before .before .before .before .before .before .before .before .before .before .before .before .before .before .before .before .before .before .before .before .span-of .result .warm)
+    (f .before .before .before .before .before .before .before .before .before .before .before .before .before .before .before .before .before .before .before .before .before .before .before .before .before .before .before .before .before .before .before .before .before .before .before .before .before .before .args .stage .round) (f .before .before .before .before .before .before .before .before .before .before .before .before .before .before .before .before .before .before .before .before .before .before .before .before .before .before .before .before .before .before .before .before .before .before .before .before .before .before .args .stage .calls) (f .before .before .before .before .before .before .before .before .before .before .before .before .before .before .before .before .before .before .before .before .before .before .before .before .before .before .before .before .before .before .before .before .before .before .before .before .before .before .args .stage .answers) (f .before .before .before .before .before .before .before .before .before .before .before .before .before .before .before .before .before .before .before .before .before .before .before .before .loop .row) (f .before .before .before .before .before .before .before .before .before .before .before .before .before .before .before .before .before .loop2 .rule) begun (in-words (f .before .before .before .before .next-walk .last .0) (f .before .before .before .before .before .before .before .before .before .before .before .before .before .before .before .before .before .loop2 .n) (f .before .before .before .before .before .before .before .before .before .before .before .before .before .before .before .before .before .loop2 .answers) (f .before .before .before .before .before .before .before .before .before .before .before .before .before .before .before .before .before .loop2 .m)) (uses-in (f .before .before .before .before .next-walk .last .0) (f .before .before .before .before .before .before .before .before .before .before .before .before .before .before .before .before .before .loop2 .list))
+    → Given (over (f .before .before .before .before .before .before .before .before .before .before .before .before .before .before .before .before .before .before .before .before .before .before .before .before .before .before .before .before .before .before .before .before .before .before .before .before .before .before)) (Among rs) (in-words (f .before .before .before .before .next-walk .last .0) (f .before .before .before .before .before .before .before .before .before .before .before .before .before .before .before .before .before .loop2 .n) (f .before .before .before .before .before .before .before .before .before .before .before .before .before .before .before .before .before .loop2 .answers) (f .before .before .before .before .before .before .before .before .before .before .before .before .before .before .before .before .before .loop2 .m))
+    (f .before .before .before .before .before .before .before .before .before .before .before .before .before .before .before .before .before .before .before .before .before .before .before .before .before .before .before .before .before .before .before .before .before .before .before .before .before .before .args .stage .answers) (f .before .before .before .before .before .before .before .before .before .before .before .number-of .result) (f .before .before .before .before .before .before .before .before .before .before .before .before .before .before .before .before .before .before .before .before .before .before .before .before .loop .row) (before (f .before .before .before .before .before .before .before .before .before .before .before .before .before .before .before .before .before .before .before .before .before .before .before .before .before .before .before .before .before .before .before .before .before .before .before .before .before .before .args .first) (f .before .before .before .before .before .before .before .before .before .before .before .before .before .before .before .before .before .before .before .before .before .before .before .before .before .before .before .before .span-of .result .old) (f .before .before .before .before .before .before .before .before .before .before .before .before .before .before .before .before .before .before .before .before .before .before .before .before .before .before .before .before .before .before .before .before .before .before .before .before .before .before .args .stage .seen) (f .before .before .before .before .before .before .before .before .before .before .before .before .before .before .before .before .before .before .before .before .before .before .before .before .before .before .before .before .span-of .result .warm) (f .before .before .before .before .before .before .before .before .before .before .before .before .before .before .before .before .before .before .before .before .before .before .before .before .before .before .before .before .before .before .before .before .before .before .before .before .before .before .args .stage .round) begun) (f .before .before .before .before .before .before .before .before .before .before .steps-for .result .now)
 given-at f rs begun R =
-    let i = f .before .before .before .before .before .before .before .before .before .before .before .before .before .before .before .before .before .before .before .before .before .before .before .before .before .before .before .before .before .before .before .before .before .before in
+    let i = f .before .before .before .before .before .before .before .before .before .before .before .before .before .before .before .before .before .before .before .before .before .before .before .before .before .before .before .before .before .before .before .before .before .before .before .before .before .before in
     record {
       proper = proper-with (i .args .rules .now) (i .args .goals .first) (i .args .goals .second) (i .args .goal .now) (i .args .second .now) (i .pre .0 .2) (i .pre .0 .3);
       valid = R .rows-closed .before .valid;
       enough = R .rows-closed .known-in;
-      row-in = omega (arith, R .rows-closed .rows-in, f .before .before .before .before .before .before .before .before .before .before .before .before .before .before .before .before .before .before .before .loop-test .taken, f .before .before .before .before .before .before .before .before .before .before .before .before .before .before .before .before .before .before .before .before .before .before .before .before .span-of .ensures .0 .top-in);
+      row-in = omega (arith, R .rows-closed .rows-in, f .before .before .before .before .before .before .before .before .before .before .before .before .before .before .before .before .before .before .before .before .before .before .before .loop-test .taken, f .before .before .before .before .before .before .before .before .before .before .before .before .before .before .before .before .before .before .before .before .before .before .before .before .before .before .before .before .span-of .ensures .0 .top-in);
       fits = rw (f .before .before .before .before .before .before .before .before .before .before .before .number-of .ensures, action-at f) (sym (f .before .before .before .before .before .before .before .before .before .before .before .before .before .is-at .ensures) ∙ not-false _ (f .before .before .before .before .before .before .before .before .before .before .before .before .if3 .left));
       words = words-at f;
       past = λ (h, k). past-words (words-at f) (rows-past _ _ (R .rows-closed) (f .before .before .before .before .before .before .before .before .before .before .before .number-of .result) (rw (f .before .before .before .before .before .before .before .before .before .before .before .number-of .ensures, action-at f) (sym (f .before .before .before .before .before .before .before .before .before .before .before .before .before .is-at .ensures) ∙ not-false _ (f .before .before .before .before .before .before .before .before .before .before .before .before .if3 .left))) h k);
-      lower = λ j k e g w. rules-lower _ _ _ R j (lower-number (i .args .rules .now) (i .args .goals .first) (i .args .goals .second) (i .args .goal .now) (i .args .second .now) (i .pre .0 .2 .few-rules) j (open-calls (f .before .before .before .before .next-walk .last .0) (f .before .before .before .before .before .before .before .before .before .before .before .before .before .before .before .before .before .loop2 .n) .action (f .before .before .before .before .before .before .before .before .before .before .before .before .before .before .before .before .before .before .before .before .loop .row)) (f .before .before .before .before .before .before .before .before .before .before .before .before .before .before .before .before .before .loop2 .rule) e (omega (arith, f .before .before .before .before .before .before .before .before .before .before .before .before .before .before .before .before .loop2-test .taken)) (rw (f .before .before .before .before .before .before .before .before .before .before .before .number-of .ensures) at k)) e g w;
+      lower = λ j k e g w. rules-lower _ _ _ R j (lower-number (i .args .rules .now) (i .args .goals .first) (i .args .goals .second) (i .args .goal .now) (i .args .second .now) (i .pre .0 .2 .few-rules) j (open-calls (f .before .before .before .before .next-walk .last .0) (f .before .before .before .before .before .before .before .before .before .before .before .before .before .before .before .before .before .loop2 .n) .action (f .before .before .before .before .before .before .before .before .before .before .before .before .before .before .before .before .before .before .before .before .before .before .before .before .loop .row)) (f .before .before .before .before .before .before .before .before .before .before .before .before .before .before .before .before .before .loop2 .rule) e (omega (arith, f .before .before .before .before .before .before .before .before .before .before .before .before .before .before .before .before .loop2-test .taken, f .before .before .before .before .before .before .before .before .before .before .before .before .before .before .before .before .before .before .past-body .ensures .0)) (rw (f .before .before .before .before .before .before .before .before .before .before .before .number-of .ensures) at k)) e g w;
       row-last = λ x h l. R .rows-closed .latest x (omega (arith, R .rows-closed .since .all-known)) l;
-      row-old = omega (arith, R .rows-closed .base-rows, f .before .before .before .before .before .before .before .before .before .before .before .before .before .before .before .before .before .before .before .loop-test .taken, f .before .before .before .before .before .before .before .before .before .before .before .before .before .before .before .before .before .before .before .before .before .before .before .before .span-of .ensures .0 .top-in);
+      row-old = omega (arith, R .rows-closed .base-rows, f .before .before .before .before .before .before .before .before .before .before .before .before .before .before .before .before .before .before .before .before .before .before .before .loop-test .taken, f .before .before .before .before .before .before .before .before .before .before .before .before .before .before .before .before .before .before .before .before .before .before .before .before .before .before .before .before .span-of .ensures .0 .top-in);
       since = R .rows-closed .since;
     }
 
 -- the rules walked so far
-rules-at : (f : Found) (rs : List (ℕ × ℕ)) → First (f .before .before .before .before .before .before .before .before .before .before .before .before .before .before .before .before .before .before .before .before .before .before .before .before .before .before .before .before .before .before .before .before .before .before) rs
-    → Rules (over (f .before .before .before .before .before .before .before .before .before .before .before .before .before .before .before .before .before .before .before .before .before .before .before .before .before .before .before .before .before .before .before .before .before .before)) (Among rs) (number-at (length (f .before .before .before .before .before .before .before .before .before .before .before .before .before .before .before .before .before .before .before .before .before .before .before .before .before .before .before .before .before .before .before .before .before .before .args .rules .now) / rule-width)) (f .before .before .before .before .before .before .before .before .before .before .before .before .before .before .before .before .before .before .before .before .before .before .before .before .before .before .before .before .before .before .before .before .before .before .args .first) (f .before .before .before .before .before .before .before .before .before .before .before .before .before .before .before .before .before .before .before .before .before .before .before .before .before .before .before .before .before .before .before .before .before .before .args .stage .walked) (f .before .before .before .before .before .before .before .before .before .before .before .before .before .before .before .before .before .before .before .before .before .before .before .before .before .before .before .before .before .before .before .before .before .before .args .stage .seen) (f .before .before .before .before .before .before .before .before .before .before .before .before .before .before .before .before .before .before .before .before .before .before .before .before .span-of .result .low) (f .before .before .before .before .before .before .before .before .before .before .before .before .before .before .before .before .before .before .before .before .before .before .before .before .span-of .result .high) (f .before .before .before .before .before .before .before .before .before .before .before .before .before .before .before .before .before .before .before .before .before .before .before .before .span-of .result .top) (f .before .before .before .before .before .before .before .before .before .before .before .before .before .before .before .before .before .before .before .before .before .before .before .before .span-of .result .old) (f .before .before .before .before .before .before .before .before .before .before .before .before .before .before .before .before .before .before .before .before .before .before .before .before .span-of .result .warm)
-    (f .before .before .before .before .before .before .before .before .before .before .before .before .before .before .before .before .before .before .before .before .before .before .before .before .before .before .before .before .before .before .before .before .before .before .args .stage .round) (f .before .before .before .before .before .before .before .before .before .before .before .before .before .before .before .before .before .before .before .before .before .before .before .before .before .before .before .before .before .before .before .before .before .before .args .stage .calls) (f .before .before .before .before .before .before .before .before .before .before .before .before .before .before .before .before .before .before .before .before .before .before .before .before .before .before .before .before .before .before .before .before .before .before .args .stage .answers) (f .before .before .before .before .before .before .before .before .before .before .before .before .before .before .before .before .before .before .before .before .loop .row) (f .before .before .before .before .before .before .before .before .before .before .before .before .before .before .before .before .before .loop2 .rule) (begin (in-words (f .before .before .before .before .before .before .before .before .before .before .before .before .before .before .before .before .before .before .before .before .before .round .calls) (f .before .before .before .before .before .before .before .before .before .before .before .before .before .before .before .before .before .before .before .before .before .round .n) (f .before .before .before .before .before .before .before .before .before .before .before .before .before .before .before .before .before .before .before .before .before .round .answers) (f .before .before .before .before .before .before .before .before .before .before .before .before .before .before .before .before .before .before .before .before .before .round .m)) (uses-in (f .before .before .before .before .before .before .before .before .before .before .before .before .before .before .before .before .before .before .before .before .before .round .calls) (f .before .before .before .before .before .before .before .before .before .before .before .before .before .before .before .before .before .before .before .before .before .round .list))) (in-words (f .before .before .before .before .next-walk .last .0) (f .before .before .before .before .before .before .before .before .before .before .before .before .before .before .before .before .before .loop2 .n) (f .before .before .before .before .before .before .before .before .before .before .before .before .before .before .before .before .before .loop2 .answers) (f .before .before .before .before .before .before .before .before .before .before .before .before .before .before .before .before .before .loop2 .m)) (uses-in (f .before .before .before .before .next-walk .last .0) (f .before .before .before .before .before .before .before .before .before .before .before .before .before .before .before .before .before .loop2 .list))
-rules-at f rs S = marked-at f rs _ (f .before .before .before .before .before .before .before .before .before .before .before .before .before .before .before .before .before .loop2 .inv .closed rs _ (rows-at (f .before .before .before .before .before .before .before .before .before .before .before .before .before .before .before .before .before .before .before .before) rs S))
+rules-at : (f : Found) (rs : List (ℕ × ℕ)) → First (f .before .before .before .before .before .before .before .before .before .before .before .before .before .before .before .before .before .before .before .before .before .before .before .before .before .before .before .before .before .before .before .before .before .before .before .before .before .before) rs
+    → Rules (over (f .before .before .before .before .before .before .before .before .before .before .before .before .before .before .before .before .before .before .before .before .before .before .before .before .before .before .before .before .before .before .before .before .before .before .before .before .before .before)) (Among rs) (number-at (length (f .before .before .before .before .before .before .before .before .before .before .before .before .before .before .before .before .before .before .before .before .before .before .before .before .before .before .before .before .before .before .before .before .before .before .before .before .before .before .args .rules .now) / rule-width)) (f .before .before .before .before .before .before .before .before .before .before .before .before .before .before .before .before .before .before .before .before .before .before .before .before .before .before .before .before .before .before .before .before .before .before .before .before .before .before .args .first) (f .before .before .before .before .before .before .before .before .before .before .before .before .before .before .before .before .before .before .before .before .before .before .before .before .before .before .before .before .before .before .before .before .before .before .before .before .before .before .args .stage .walked) (f .before .before .before .before .before .before .before .before .before .before .before .before .before .before .before .before .before .before .before .before .before .before .before .before .before .before .before .before .before .before .before .before .before .before .before .before .before .before .args .stage .seen) (f .before .before .before .before .before .before .before .before .before .before .before .before .before .before .before .before .before .before .before .before .before .before .before .before .before .before .before .before .span-of .result .low) (f .before .before .before .before .before .before .before .before .before .before .before .before .before .before .before .before .before .before .before .before .before .before .before .before .before .before .before .before .span-of .result .high) (f .before .before .before .before .before .before .before .before .before .before .before .before .before .before .before .before .before .before .before .before .before .before .before .before .before .before .before .before .span-of .result .top) (f .before .before .before .before .before .before .before .before .before .before .before .before .before .before .before .before .before .before .before .before .before .before .before .before .before .before .before .before .span-of .result .old) (f .before .before .before .before .before .before .before .before .before .before .before .before .before .before .before .before .before .before .before .before .before .before .before .before .before .before .before .before .span-of .result .warm)
+    (f .before .before .before .before .before .before .before .before .before .before .before .before .before .before .before .before .before .before .before .before .before .before .before .before .before .before .before .before .before .before .before .before .before .before .before .before .before .before .args .stage .round) (f .before .before .before .before .before .before .before .before .before .before .before .before .before .before .before .before .before .before .before .before .before .before .before .before .before .before .before .before .before .before .before .before .before .before .before .before .before .before .args .stage .calls) (f .before .before .before .before .before .before .before .before .before .before .before .before .before .before .before .before .before .before .before .before .before .before .before .before .before .before .before .before .before .before .before .before .before .before .before .before .before .before .args .stage .answers) (f .before .before .before .before .before .before .before .before .before .before .before .before .before .before .before .before .before .before .before .before .before .before .before .before .loop .row) (f .before .before .before .before .before .before .before .before .before .before .before .before .before .before .before .before .before .loop2 .rule) (begin (in-words (f .before .before .before .before .before .before .before .before .before .before .before .before .before .before .before .before .before .before .before .before .before .before .before .before .before .round .calls) (f .before .before .before .before .before .before .before .before .before .before .before .before .before .before .before .before .before .before .before .before .before .before .before .before .before .round .n) (f .before .before .before .before .before .before .before .before .before .before .before .before .before .before .before .before .before .before .before .before .before .before .before .before .before .round .answers) (f .before .before .before .before .before .before .before .before .before .before .before .before .before .before .before .before .before .before .before .before .before .before .before .before .before .round .m)) (uses-in (f .before .before .before .before .before .before .before .before .before .before .before .before .before .before .before .before .before .before .before .before .before .before .before .before .before .round .calls) (f .before .before .before .before .before .before .before .before .before .before .before .before .before .before .before .before .before .before .before .before .before .before .before .before .before .round .list))) (in-words (f .before .before .before .before .next-walk .last .0) (f .before .before .before .before .before .before .before .before .before .before .before .before .before .before .before .before .before .loop2 .n) (f .before .before .before .before .before .before .before .before .before .before .before .before .before .before .before .before .before .loop2 .answers) (f .before .before .before .before .before .before .before .before .before .before .before .before .before .before .before .before .before .loop2 .m)) (uses-in (f .before .before .before .before .next-walk .last .0) (f .before .before .before .before .before .before .before .before .before .before .before .before .before .before .before .before .before .loop2 .list))
+rules-at f rs S = marked-at f rs _ (f .before .before .before .before .before .before .before .before .before .before .before .before .before .before .before .before .before .loop2 .inv .closed rs _ (rows-at (f .before .before .before .before .before .before .before .before .before .before .before .before .before .before .before .before .before .before .before .before .before .before .before .before) rs S))
 
 -- and the walk, for the roots that the contract has
-going-at : (t : AtLoop3) → Going (over (t .before .before .before .before .before .before .before .before .before .before .before .before .before .before .before .before .before .before .before .before .before .before .before .before .before .before .before .before .before .before .before .before .before .before .before)) (Among (t .before .before .before .before .before .before .before .before .before .before .before .before .before .before .before .before .before .before .before .before .before .before .before .before .before .before .before .before .before .before .before .before .before .before .before .pre .1 .roots)) (in-words (t .before .before .before .before .before .next-walk .last .0) (t .before .before .before .before .before .before .before .before .before .before .before .before .before .before .before .before .before .before .loop2 .n) (t .before .before .before .before .before .before .before .before .before .before .before .before .before .before .before .before .before .before .loop2 .answers) (t .before .before .before .before .before .before .before .before .before .before .before .before .before .before .before .before .before .before .loop2 .m))
-    (t .before .before .before .before .before .before .before .before .before .before .before .before .before .before .before .before .before .before .before .before .before .before .before .before .before .before .before .before .before .before .before .before .before .before .before .args .stage .answers) (t .before .before .before .before .before .before .before .before .before .before .before .before .number-of .result) (t .before .before .before .before .before .before .before .before .before .before .before .before .before .before .before .before .before .before .before .before .before .loop .row) (t .before .before .before .before .before .next-walk .result) (before (t .before .before .before .before .before .before .before .before .before .before .before .before .before .before .before .before .before .before .before .before .before .before .before .before .before .before .before .before .before .before .before .before .before .before .before .args .first) (t .before .before .before .before .before .before .before .before .before .before .before .before .before .before .before .before .before .before .before .before .before .before .before .before .before .span-of .result .old) (t .before .before .before .before .before .before .before .before .before .before .before .before .before .before .before .before .before .before .before .before .before .before .before .before .before .before .before .before .before .before .before .before .before .before .before .args .stage .seen) (t .before .before .before .before .before .before .before .before .before .before .before .before .before .before .before .before .before .before .before .before .before .before .before .before .before .span-of .result .warm) (t .before .before .before .before .before .before .before .before .before .before .before .before .before .before .before .before .before .before .before .before .before .before .before .before .before .before .before .before .before .before .before .before .before .before .before .args .stage .round) (begin (in-words (t .before .before .before .before .before .before .before .before .before .before .before .before .before .before .before .before .before .before .before .before .before .before .round .calls) (t .before .before .before .before .before .before .before .before .before .before .before .before .before .before .before .before .before .before .before .before .before .before .round .n) (t .before .before .before .before .before .before .before .before .before .before .before .before .before .before .before .before .before .before .before .before .before .before .round .answers) (t .before .before .before .before .before .before .before .before .before .before .before .before .before .before .before .before .before .before .before .before .before .before .round .m)) (uses-in (t .before .before .before .before .before .before .before .before .before .before .before .before .before .before .before .before .before .before .before .before .before .before .round .calls) (t .before .before .before .before .before .before .before .before .before .before .before .before .before .before .before .before .before .before .before .before .before .before .round .list)))) (t .before .before .before .before .before .before .before .before .before .before .before .steps-for .result .now)
+going-at : (t : AtLoop3) → Going (over (t .before .before .before .before .before .before .before .before .before .before .before .before .before .before .before .before .before .before .before .before .before .before .before .before .before .before .before .before .before .before .before .before .before .before .before .before .before .before .before)) (Among (t .before .before .before .before .before .before .before .before .before .before .before .before .before .before .before .before .before .before .before .before .before .before .before .before .before .before .before .before .before .before .before .before .before .before .before .before .before .before .before .pre .1 .roots)) (in-words (t .before .before .before .before .before .next-walk .last .0) (t .before .before .before .before .before .before .before .before .before .before .before .before .before .before .before .before .before .before .loop2 .n) (t .before .before .before .before .before .before .before .before .before .before .before .before .before .before .before .before .before .before .loop2 .answers) (t .before .before .before .before .before .before .before .before .before .before .before .before .before .before .before .before .before .before .loop2 .m))
+    (t .before .before .before .before .before .before .before .before .before .before .before .before .before .before .before .before .before .before .before .before .before .before .before .before .before .before .before .before .before .before .before .before .before .before .before .before .before .before .before .args .stage .answers) (t .before .before .before .before .before .before .before .before .before .before .before .before .number-of .result) (t .before .before .before .before .before .before .before .before .before .before .before .before .before .before .before .before .before .before .before .before .before .before .before .before .before .loop .row) (t .before .before .before .before .before .next-walk .result) (before (t .before .before .before .before .before .before .before .before .before .before .before .before .before .before .before .before .before .before .before .before .before .before .before .before .before .before .before .before .before .before .before .before .before .before .before .before .before .before .before .args .first) (t .before .before .before .before .before .before .before .before .before .before .before .before .before .before .before .before .before .before .before .before .before .before .before .before .before .before .before .before .before .span-of .result .old) (t .before .before .before .before .before .before .before .before .before .before .before .before .before .before .before .before .before .before .before .before .before .before .before .before .before .before .before .before .before .before .before .before .before .before .before .before .before .before .before .args .stage .seen) (t .before .before .before .before .before .before .before .before .before .before .before .before .before .before .before .before .before .before .before .before .before .before .before .before .before .before .before .before .before .span-of .result .warm) (t .before .before .before .before .before .before .before .before .before .before .before .before .before .before .before .before .before .before .before .before .before .before .before .before .before .before .before .before .before .before .before .before .before .before .before .before .before .before .before .args .stage .round) (begin (in-words (t .before .before .before .before .before .before .before .before .before .before .before .before .before .before .before .before .before .before .before .before .before .before .before .before .before .before .round .calls) (t .before .before .before .before .before .before .before .before .before .before .before .before .before .before .before .before .before .before .before .before .before .before .before .before .before .before .round .n) (t .before .before .before .before .before .before .before .before .before .before .before .before .before .before .before .before .before .before .before .before .before .before .before .before .before .before .round .answers) (t .before .before .before .before .before .before .before .before .before .before .before .before .before .before .before .before .before .before .before .before .before .before .before .before .before .before .round .m)) (uses-in (t .before .before .before .before .before .before .before .before .before .before .before .before .before .before .before .before .before .before .before .before .before .before .before .before .before .before .round .calls) (t .before .before .before .before .before .before .before .before .before .before .before .before .before .before .before .before .before .before .before .before .before .before .before .before .before .before .round .list)))) (t .before .before .before .before .before .before .before .before .before .before .before .steps-for .result .now)
     (in-words (t .loop3 .calls) (t .loop3 .n) (t .loop3 .answers) (t .loop3 .m)) (mark-words (t .loop3 .calls)) (uses-in (t .loop3 .calls) (t .loop3 .list)) (t .loop3 .chosen) (t .loop3 .rest .now) (spot-of (t .loop3 .spot))
 going-at t =
-    let R = rules-at (t .before) (t .before .before .before .before .before .before .before .before .before .before .before .before .before .before .before .before .before .before .before .before .before .before .before .before .before .before .before .before .before .before .before .before .before .before .before .pre .1 .roots) (t .before .before .before .before .before .before .before .before .before .before .before .before .before .before .before .before .before .before .before .before .before .before .before .before .before .before .before .before .before .before .before .before .before .before .before .pre .1 .round) in
-    t .loop3 .inv .going (t .before .before .before .before .before .before .before .before .before .before .before .before .before .before .before .before .before .before .before .before .before .before .before .before .before .before .before .before .before .before .before .before .before .before .before .pre .1 .roots) _ (given-at (t .before) (t .before .before .before .before .before .before .before .before .before .before .before .before .before .before .before .before .before .before .before .before .before .before .before .before .before .before .before .before .before .before .before .before .before .before .before .pre .1 .roots) _ R) (R .rows-closed .noted)
+    let R = rules-at (t .before) (t .before .before .before .before .before .before .before .before .before .before .before .before .before .before .before .before .before .before .before .before .before .before .before .before .before .before .before .before .before .before .before .before .before .before .before .before .before .before .before .pre .1 .roots) (t .before .before .before .before .before .before .before .before .before .before .before .before .before .before .before .before .before .before .before .before .before .before .before .before .before .before .before .before .before .before .before .before .before .before .before .before .before .before .before .pre .1 .round) in
+    t .loop3 .inv .going (t .before .before .before .before .before .before .before .before .before .before .before .before .before .before .before .before .before .before .before .before .before .before .before .before .before .before .before .before .before .before .before .before .before .before .before .before .before .before .before .pre .1 .roots) _ (given-at (t .before) (t .before .before .before .before .before .before .before .before .before .before .before .before .before .before .before .before .before .before .before .before .before .before .before .before .before .before .before .before .before .before .before .before .before .before .before .before .before .before .before .pre .1 .roots) _ R) (R .rows-closed .noted)
 
 -- the words keep the lengths that they had at entry
-calls-at : (t : AtLoop3) → length (t .loop3 .calls) ≡ length (t .before .before .before .before .before .before .before .before .before .before .before .before .before .before .before .before .before .before .before .before .before .before .before .before .before .before .before .before .before .before .before .before .before .before .before .args .calls .now)
-calls-at t = t .loop3 .inv .words .calls-long ∙ t .before .before .before .before .before .next-walk .ensures .1 .long ∙ t .before .before .before .before .before .before .before .before .before .before .before .before .before .before .before .before .before .before .loop2 .inv .words .calls-long ∙ t .before .before .before .before .before .before .before .before .before .before .before .before .before .before .before .before .before .before .before .before .before .loop .inv .words .calls-long ∙ t .before .before .before .before .before .before .before .before .before .before .before .before .before .before .before .before .before .before .before .before .before .before .round .inv .words .calls-long
+calls-at : (t : AtLoop3) → length (t .loop3 .calls) ≡ length (t .before .before .before .before .before .before .before .before .before .before .before .before .before .before .before .before .before .before .before .before .before .before .before .before .before .before .before .before .before .before .before .before .before .before .before .before .before .before .before .args .calls .now)
+calls-at t = t .loop3 .inv .words .calls-long ∙ t .before .before .before .before .before .next-walk .ensures .1 .long ∙ t .before .before .before .before .before .before .before .before .before .before .before .before .before .before .before .before .before .before .loop2 .inv .words .calls-long ∙ t .before .before .before .before .before .before .before .before .before .before .before .before .before .before .before .before .before .before .before .before .before .before .before .before .before .loop .inv .words .calls-long ∙ t .before .before .before .before .before .before .before .before .before .before .before .before .before .before .before .before .before .before .before .before .before .before .before .before .before .before .round .inv .words .calls-long
 
-list-at : (t : AtLoop3) → length (t .loop3 .list) ≡ length (t .before .before .before .before .before .before .before .before .before .before .before .before .before .before .before .before .before .before .before .before .before .before .before .before .before .before .before .before .before .before .before .before .before .before .before .args .list .now)
-list-at t = t .loop3 .inv .words .list-long ∙ t .before .before .before .before .before .before .before .before .before .before .before .before .before .before .before .before .before .before .loop2 .inv .words .list-long ∙ t .before .before .before .before .before .before .before .before .before .before .before .before .before .before .before .before .before .before .before .before .before .loop .inv .words .list-long ∙ t .before .before .before .before .before .before .before .before .before .before .before .before .before .before .before .before .before .before .before .before .before .before .round .inv .words .list-long ∙ t .before .before .before .before .before .before .before .before .before .before .before .before .before .before .before .before .before .before .before .before .before .before .before .before .before .span-of .ensures .1 .1 .long
+list-at : (t : AtLoop3) → length (t .loop3 .list) ≡ length (t .before .before .before .before .before .before .before .before .before .before .before .before .before .before .before .before .before .before .before .before .before .before .before .before .before .before .before .before .before .before .before .before .before .before .before .before .before .before .before .args .list .now)
+list-at t = t .loop3 .inv .words .list-long ∙ t .before .before .before .before .before .before .before .before .before .before .before .before .before .before .before .before .before .before .loop2 .inv .words .list-long ∙ t .before .before .before .before .before .before .before .before .before .before .before .before .before .before .before .before .before .before .before .before .before .before .before .before .before .loop .inv .words .list-long ∙ t .before .before .before .before .before .before .before .before .before .before .before .before .before .before .before .before .before .before .before .before .before .before .before .before .before .before .round .inv .words .list-long ∙ t .before .before .before .before .before .before .before .before .before .before .before .before .before .before .before .before .before .before .before .before .before .before .before .before .before .before .before .before .before .span-of .ensures .1 .1 .long
 
-answers-at : (t : AtLoop3) → length (t .loop3 .answers) ≡ length (t .before .before .before .before .before .before .before .before .before .before .before .before .before .before .before .before .before .before .before .before .before .before .before .before .before .before .before .before .before .before .before .before .before .before .before .args .answers .now)
-answers-at t = t .loop3 .inv .words .answers-long ∙ t .before .before .before .before .before .before .before .before .before .before .before .before .before .before .before .before .before .before .loop2 .inv .words .answers-long ∙ t .before .before .before .before .before .before .before .before .before .before .before .before .before .before .before .before .before .before .before .before .before .loop .inv .words .answers-long ∙ t .before .before .before .before .before .before .before .before .before .before .before .before .before .before .before .before .before .before .before .before .before .before .round .inv .words .answers-long
+answers-at : (t : AtLoop3) → length (t .loop3 .answers) ≡ length (t .before .before .before .before .before .before .before .before .before .before .before .before .before .before .before .before .before .before .before .before .before .before .before .before .before .before .before .before .before .before .before .before .before .before .before .before .before .before .before .args .answers .now)
+answers-at t = t .loop3 .inv .words .answers-long ∙ t .before .before .before .before .before .before .before .before .before .before .before .before .before .before .before .before .before .before .loop2 .inv .words .answers-long ∙ t .before .before .before .before .before .before .before .before .before .before .before .before .before .before .before .before .before .before .before .before .before .before .before .before .before .loop .inv .words .answers-long ∙ t .before .before .before .before .before .before .before .before .before .before .before .before .before .before .before .before .before .before .before .before .before .before .before .before .before .before .round .inv .words .answers-long
 
 uses-here : (l : AtLoop) → UsesGrew (uses-in (l .before .before .before .before .before .before .before .before .before .before .before .before .before .before .args .calls .now) (l .before .before .before .before .span-of .last .1 .0)) (uses-in (l .loop .calls) (l .loop .list))
 uses-here l = uses-trans (l .before .round .inv .words .uses-more) (l .loop .inv .words .uses-more)
@@ -175,8 +181,8 @@ uses-here l = uses-trans (l .before .round .inv .words .uses-more) (l .loop .inv
 uses-walked : (t : AtLoop3) → UsesGrew (uses-in (t .before .before .before .before .before .before .before .before .before .before .before .before .before .before .before .before .before .before .loop2 .calls) (t .before .before .before .before .before .before .before .before .before .before .before .before .before .before .before .before .before .before .loop2 .list)) (uses-in (t .loop3 .calls) (t .loop3 .list))
 uses-walked t = uses-trans (uses-same (marked-uses (t .before .before .before .before .before .next-walk .ensures .1) (t .before .before .before .before .before .before .before .before .before .before .before .before .before .before .before .before .before .before .loop2 .list))) (t .loop3 .inv .words .uses-more)
 
-uses-at : (t : AtLoop3) → UsesGrew (uses-in (t .before .before .before .before .before .before .before .before .before .before .before .before .before .before .before .before .before .before .before .before .before .before .before .before .before .before .before .before .before .before .before .before .before .before .before .args .calls .now) (t .before .before .before .before .before .before .before .before .before .before .before .before .before .before .before .before .before .before .before .before .before .before .before .before .before .span-of .last .1 .0)) (uses-in (t .loop3 .calls) (t .loop3 .list))
-uses-at t = uses-trans (uses-here (t .before .before .before .before .before .before .before .before .before .before .before .before .before .before .before .before .before .before .before .before .before)) (uses-trans (t .before .before .before .before .before .before .before .before .before .before .before .before .before .before .before .before .before .before .loop2 .inv .words .uses-more) (uses-walked t))
+uses-at : (t : AtLoop3) → UsesGrew (uses-in (t .before .before .before .before .before .before .before .before .before .before .before .before .before .before .before .before .before .before .before .before .before .before .before .before .before .before .before .before .before .before .before .before .before .before .before .before .before .before .before .args .calls .now) (t .before .before .before .before .before .before .before .before .before .before .before .before .before .before .before .before .before .before .before .before .before .before .before .before .before .before .before .before .before .span-of .last .1 .0)) (uses-in (t .loop3 .calls) (t .loop3 .list))
+uses-at t = uses-trans (uses-here (t .before .before .before .before .before .before .before .before .before .before .before .before .before .before .before .before .before .before .before .before .before .before .before .before .before)) (uses-trans (t .before .before .before .before .before .before .before .before .before .before .before .before .before .before .before .before .before .before .loop2 .inv .words .uses-more) (uses-walked t))
 
 span-of-requires : tie.Need-span-of-requires Inv-loop3 μ-loop3 Inv-loop2 μ-loop2 Inv-loop μ-loop Inv-round μ-round
 span-of-requires c κs =
@@ -246,26 +252,32 @@ loop-again c =
       closed = λ roots S W. rows-passed _ _ (l .closed roots S W) (c .before .if1 .taken) (c .if2 .taken);
     }
 
-add-rule-end : tie.Need-add-rule-end Inv-loop3 μ-loop3 Inv-loop2 μ-loop2 Inv-loop μ-loop Inv-round μ-round
-add-rule-end c = omega arith
+action-of-requires : tie.Need-action-of-requires Inv-loop3 μ-loop3 Inv-loop2 μ-loop2 Inv-loop μ-loop Inv-round μ-round
+action-of-requires c κs = omega (arith, c .before .before .before .loop .inv .words .kept .calls-open .stored .fits, c .before .before .before .loop .inv .rows-in, c .before .before .loop-test .taken, c .before .before .before .before .before .before .before .span-of .ensures .0 .top-in)
+
+first-body-requires : tie.Need-first-body-requires Inv-loop3 μ-loop3 Inv-loop2 μ-loop2 Inv-loop μ-loop Inv-round μ-round
+first-body-requires c κs = c .before .before .before .before .before .before .before .before .before .before .before .before .before .before .before .before .before .before .pre .0 .2 .few-rules
+
+past-body-requires : tie.Need-past-body-requires Inv-loop3 μ-loop3 Inv-loop2 μ-loop2 Inv-loop μ-loop Inv-round μ-round
+past-body-requires c κs = c .before .before .before .before .before .before .before .before .before .before .before .before .before .before .before .before .before .before .before .pre .0 .2 .few-rules
 
 loop2-holds : tie.Need-loop2-holds Inv-loop3 μ-loop3 Inv-loop2 μ-loop2 Inv-loop μ-loop Inv-round μ-round
 loop2-holds c =
-    let l = c .before .before .loop .inv in
+    let l = c .before .before .before .before .before .before .loop .inv in
     record {
       words = record { calls-long = refl; list-long = refl; answers-long = refl; kept = l .words .kept; indexed = l .words .indexed; uses-more = uses-refl _ };
       stamped = l .stamped;
-      rule-in = omega arith;
+      rule-in = c .before .first-body .ensures .0;
       rows-in = l .rows-in;
       known-in = l .known-in;
-      closed = λ roots begun R. rules-start _ _ _ R;
+      closed = λ roots begun R. rules-past _ _ _ (rules-start _ _ _ R) (λ k h l e. true-not-false (sym (rw (← c .before .before .action-of .ensures) at e) ∙ c .before .first-body .ensures .1 k l));
     }
 
-action-of-requires : tie.Need-action-of-requires Inv-loop3 μ-loop3 Inv-loop2 μ-loop2 Inv-loop μ-loop Inv-round μ-round
-action-of-requires c κs = omega (arith, c .before .before .loop2 .inv .words .kept .calls-open .stored .fits, c .before .before .loop2 .inv .rows-in, c .before .before .before .before .loop-test .taken, c .before .before .before .before .before .before .before .before .before .span-of .ensures .0 .top-in)
+action-of-requires-2 : tie.Need-action-of-requires-2 Inv-loop3 μ-loop3 Inv-loop2 μ-loop2 Inv-loop μ-loop Inv-round μ-round
+action-of-requires-2 c κs = omega (arith, c .before .before .loop2 .inv .words .kept .calls-open .stored .fits, c .before .before .loop2 .inv .rows-in, c .before .before .before .before .before .before .before .before .loop-test .taken, c .before .before .before .before .before .before .before .before .before .before .before .before .before .span-of .ensures .0 .top-in)
 
 add-rule : tie.Need-add-rule Inv-loop3 μ-loop3 Inv-loop2 μ-loop2 Inv-loop μ-loop Inv-round μ-round
-add-rule c = omega (arith, c .before .before .before .before .loop2-test .taken, c .before .before .before .before .before .loop2 .inv .rule-in, c .before .before .before .before .before .before .before .before .before .before .before .before .before .before .before .before .before .before .before .before .before .before .pre .0 .2 .few-rules)
+add-rule c = omega (arith, c .before .before .before .before .loop2-test .taken, c .before .before .before .before .before .loop2 .inv .rule-in, c .before .before .before .before .before .before .before .before .before .before .before .before .before .before .before .before .before .before .before .before .before .before .before .before .before .before .pre .0 .2 .few-rules)
 
 loop2-less : tie.Need-loop2-less Inv-loop3 μ-loop3 Inv-loop2 μ-loop2 Inv-loop μ-loop Inv-round μ-round
 loop2-less c = omega (arith, c .before .before .before .before .loop2-test .taken)
@@ -278,27 +290,27 @@ loop2-again c =
     record {
       words = l .words;
       stamped = l .stamped;
-      rule-in = omega (arith, at-loop2-test .loop2-test .taken);
+      rule-in = omega (arith, at-loop2-test .loop2-test .taken, c .before .before .before .before .before .before .past-body .ensures .0);
       rows-in = l .rows-in;
       known-in = l .known-in;
-      closed = λ roots begun R. rules-skip _ _ _ (l .closed roots begun R) (λ e. true-not-false (sym (rw (← c .before .before .action-of .ensures) at e) ∙ sym (c .before .is-at .ensures) ∙ not-true _ (c .if3 .taken)));
+      closed = λ roots begun R. rules-skip _ _ _ (l .closed roots begun R) (λ e. true-not-false (sym (rw (← c .before .before .action-of2 .ensures) at e) ∙ sym (c .before .is-at .ensures) ∙ not-true _ (c .if3 .taken)));
     }
 
 is-at-requires : tie.Need-is-at-requires Inv-loop3 μ-loop3 Inv-loop2 μ-loop2 Inv-loop μ-loop Inv-round μ-round
-is-at-requires c κs = omega (arith, c .before .before .before .before .before .before .before .before .before .before .before .before .before .before .before .before .before .before .before .before .pre .0 .2 .few-rules)
+is-at-requires c κs = omega (arith, c .before .before .before .before .before .before .before .before .before .before .before .before .before .before .before .before .before .before .before .before .before .before .before .before .pre .0 .2 .few-rules)
 
 steps-for-requires : tie.Need-steps-for-requires Inv-loop3 μ-loop3 Inv-loop2 μ-loop2 Inv-loop μ-loop Inv-round μ-round
 steps-for-requires c κs =
     let at-if3 = c .before in
     let at-is-at = c .before .before in
-    let entry = c .before .before .before .before .before .before .before .before .before .before .before .before .before .before .before .before .before .before .before .before .before .before .before in
-    (short-of _ _ (entry .pre .0 .2), short-of _ _ (entry .pre .0 .3), (c .before .before .before .action-of .result, rw (c .number-of .ensures) (sym (at-is-at .is-at .ensures) ∙ not-false _ (at-if3 .if3 .left))))
+    let entry = c .before .before .before .before .before .before .before .before .before .before .before .before .before .before .before .before .before .before .before .before .before .before .before .before .before .before .before in
+    (short-of _ _ (entry .pre .0 .2), short-of _ _ (entry .pre .0 .3), (c .before .before .before .action-of2 .result, rw (c .number-of .ensures) (sym (at-is-at .is-at .ensures) ∙ not-false _ (at-if3 .if3 .left))))
 
 state-of-requires : tie.Need-state-of-requires Inv-loop3 μ-loop3 Inv-loop2 μ-loop2 Inv-loop μ-loop Inv-round μ-round
-state-of-requires c κs = omega (arith, c .before .before .before .before .before .before .before .before .loop2 .inv .words .kept .calls-open .stored .fits, c .before .before .before .before .before .before .before .before .loop2 .inv .rows-in, c .before .before .before .before .before .before .before .before .before .before .loop-test .taken, c .before .before .before .before .before .before .before .before .before .before .before .before .before .before .before .span-of .ensures .0 .top-in)
+state-of-requires c κs = omega (arith, c .before .before .before .before .before .before .before .before .loop2 .inv .words .kept .calls-open .stored .fits, c .before .before .before .before .before .before .before .before .loop2 .inv .rows-in, c .before .before .before .before .before .before .before .before .before .before .before .before .before .before .loop-test .taken, c .before .before .before .before .before .before .before .before .before .before .before .before .before .before .before .before .before .before .before .span-of .ensures .0 .top-in)
 
 add-rule-2 : tie.Need-add-rule-2 Inv-loop3 μ-loop3 Inv-loop2 μ-loop2 Inv-loop μ-loop Inv-round μ-round
-add-rule-2 c = omega (arith, c .before .before .before .before .before .before .before .before .before .before .loop2-test .taken, c .before .before .before .before .before .before .before .before .before .before .before .loop2 .inv .rule-in, c .before .before .before .before .before .before .before .before .before .before .before .before .before .before .before .before .before .before .before .before .before .before .before .before .before .before .before .before .pre .0 .2 .few-rules)
+add-rule-2 c = omega (arith, c .before .before .before .before .before .before .before .before .before .before .loop2-test .taken, c .before .before .before .before .before .before .before .before .before .before .before .loop2 .inv .rule-in, c .before .before .before .before .before .before .before .before .before .before .before .before .before .before .before .before .before .before .before .before .before .before .before .before .before .before .before .before .before .before .before .before .pre .0 .2 .few-rules)
 
 loop2-less-2 : tie.Need-loop2-less-2 Inv-loop3 μ-loop3 Inv-loop2 μ-loop2 Inv-loop μ-loop Inv-round μ-round
 loop2-less-2 c = omega (arith, c .before .before .before .before .before .before .before .before .before .before .loop2-test .taken)
@@ -311,10 +323,10 @@ loop2-again-2 c =
     record {
       words = l .words;
       stamped = l .stamped;
-      rule-in = omega (arith, at-loop2-test .loop2-test .taken);
+      rule-in = omega (arith, at-loop2-test .loop2-test .taken, c .before .before .before .before .before .before .before .before .before .before .before .before .past-body .ensures .0);
       rows-in = l .rows-in;
       known-in = l .known-in;
-      closed = λ roots begun R. rules-stopped _ _ _ (l .closed roots begun R) (λ _. rw (c .before .before .before .before .steps-for .ensures .0, c .before .before .before .before .before .number-of .ensures, c .before .before .before .before .before .before .before .before .action-of .ensures, c .before .before .state-of .ensures) at (c .before .goes-on .ensures (not-true _ (c .if4 .taken))));
+      closed = λ roots begun R. rules-stopped _ _ _ (l .closed roots begun R) (λ _. rw (c .before .before .before .before .steps-for .ensures .0, c .before .before .before .before .before .number-of .ensures, c .before .before .before .before .before .before .before .before .action-of2 .ensures, c .before .before .state-of .ensures) at (c .before .goes-on .ensures (not-true _ (c .if4 .taken))));
     }
 
 next-walk-requires : tie.Need-next-walk-requires Inv-loop3 μ-loop3 Inv-loop2 μ-loop2 Inv-loop μ-loop Inv-round μ-round
@@ -323,7 +335,7 @@ next-walk-requires c κs =
     (at-loop2 .loop2 .inv .stamped, at-loop2 .loop2 .inv .words .kept .calls-open .stored)
 
 state-of-requires-2 : tie.Need-state-of-requires-2 Inv-loop3 μ-loop3 Inv-loop2 μ-loop2 Inv-loop μ-loop Inv-round μ-round
-state-of-requires-2 c κs = omega (arith, c .before .before .before .next-walk .ensures .1 .long, c .before .before .before .before .before .before .before .before .before .before .before .before .before .before .before .before .loop2 .inv .words .kept .calls-open .stored .fits, c .before .before .before .before .before .before .before .before .before .before .before .before .before .before .before .before .loop2 .inv .rows-in, c .before .before .before .before .before .before .before .before .before .before .before .before .before .before .before .before .before .before .loop-test .taken, c .before .before .before .before .before .before .before .before .before .before .before .before .before .before .before .before .before .before .before .before .before .before .before .span-of .ensures .0 .top-in)
+state-of-requires-2 c κs = omega (arith, c .before .before .before .next-walk .ensures .1 .long, c .before .before .before .before .before .before .before .before .before .before .before .before .before .before .before .before .loop2 .inv .words .kept .calls-open .stored .fits, c .before .before .before .before .before .before .before .before .before .before .before .before .before .before .before .before .loop2 .inv .rows-in, c .before .before .before .before .before .before .before .before .before .before .before .before .before .before .before .before .before .before .before .before .before .before .loop-test .taken, c .before .before .before .before .before .before .before .before .before .before .before .before .before .before .before .before .before .before .before .before .before .before .before .before .before .before .before .span-of .ensures .0 .top-in)
 
 loop3-holds : tie.Need-loop3-holds Inv-loop3 μ-loop3 Inv-loop2 μ-loop2 Inv-loop μ-loop Inv-round μ-round
 loop3-holds c =
@@ -340,8 +352,8 @@ loop3-holds c =
 turn-requires : tie.Need-turn-requires Inv-loop3 μ-loop3 Inv-loop2 μ-loop2 Inv-loop μ-loop Inv-round μ-round
 turn-requires c κs =
     let place = c .before .before .before .before in
-    let at-span-of = c .before .before .before .before .before .before .before .before .before .before .before .before .before .before .before .before .before .before .before .before .before .before .before .before .before .before .before .before .before in
-    let entry = c .before .before .before .before .before .before .before .before .before .before .before .before .before .before .before .before .before .before .before .before .before .before .before .before .before .before .before .before .before .before .before .before .before .before .before .before .before .before .before in
+    let at-span-of = c .before .before .before .before .before .before .before .before .before .before .before .before .before .before .before .before .before .before .before .before .before .before .before .before .before .before .before .before .before .before .before .before .before in
+    let entry = c .before .before .before .before .before .before .before .before .before .before .before .before .before .before .before .before .before .before .before .before .before .before .before .before .before .before .before .before .before .before .before .before .before .before .before .before .before .before .before .before .before .before .before in
     let t = place in
     ((t .loop3 .inv .words .kept, t .loop3 .inv .words .indexed, entry .pre .1 .early), (_, entry .pre .1 .roots, _, _, going-at t))
 
@@ -403,7 +415,7 @@ loop3-again-2 c =
     }
 
 add-rule-3 : tie.Need-add-rule-3 Inv-loop3 μ-loop3 Inv-loop2 μ-loop2 Inv-loop μ-loop Inv-round μ-round
-add-rule-3 c = omega (arith, c .before .before .before .before .before .before .before .before .before .before .before .before .before .before .before .before .before .before .before .before .before .before .before .before .before .before .before .before .before .before .loop2-test .taken, c .before .before .before .before .before .before .before .before .before .before .before .before .before .before .before .before .before .before .before .before .before .before .before .before .before .before .before .before .before .before .before .loop2 .inv .rule-in, c .before .before .before .before .before .before .before .before .before .before .before .before .before .before .before .before .before .before .before .before .before .before .before .before .before .before .before .before .before .before .before .before .before .before .before .before .before .before .before .before .before .before .before .before .before .before .before .before .pre .0 .2 .few-rules)
+add-rule-3 c = omega (arith, c .before .before .before .before .before .before .before .before .before .before .before .before .before .before .before .before .before .before .before .before .before .before .before .before .before .before .before .before .before .before .loop2-test .taken, c .before .before .before .before .before .before .before .before .before .before .before .before .before .before .before .before .before .before .before .before .before .before .before .before .before .before .before .before .before .before .before .loop2 .inv .rule-in, c .before .before .before .before .before .before .before .before .before .before .before .before .before .before .before .before .before .before .before .before .before .before .before .before .before .before .before .before .before .before .before .before .before .before .before .before .before .before .before .before .before .before .before .before .before .before .before .before .before .before .before .before .pre .0 .2 .few-rules)
 
 loop2-less-3 : tie.Need-loop2-less-3 Inv-loop3 μ-loop3 Inv-loop2 μ-loop2 Inv-loop μ-loop Inv-round μ-round
 loop2-less-3 c = omega (arith, c .before .before .before .before .before .before .before .before .before .before .before .before .before .before .before .before .before .before .before .before .before .before .before .before .before .before .before .before .before .before .loop2-test .taken)
@@ -416,8 +428,8 @@ loop2-again-3 c =
     let at-number-of = c .before .before .before .before .before .before .before .before .before .before .before .before .before .before .before .before .before .before .before .before .before .before .before .before .before in
     let at-loop2-test = c .before .before .before .before .before .before .before .before .before .before .before .before .before .before .before .before .before .before .before .before .before .before .before .before .before .before .before .before .before .before in
     let at-loop2 = c .before .before .before .before .before .before .before .before .before .before .before .before .before .before .before .before .before .before .before .before .before .before .before .before .before .before .before .before .before .before .before in
-    let at-loop-test = c .before .before .before .before .before .before .before .before .before .before .before .before .before .before .before .before .before .before .before .before .before .before .before .before .before .before .before .before .before .before .before .before .before in
-    let at-span-of = c .before .before .before .before .before .before .before .before .before .before .before .before .before .before .before .before .before .before .before .before .before .before .before .before .before .before .before .before .before .before .before .before .before .before .before .before .before .before in
+    let at-loop-test = c .before .before .before .before .before .before .before .before .before .before .before .before .before .before .before .before .before .before .before .before .before .before .before .before .before .before .before .before .before .before .before .before .before .before .before .before .before in
+    let at-span-of = c .before .before .before .before .before .before .before .before .before .before .before .before .before .before .before .before .before .before .before .before .before .before .before .before .before .before .before .before .before .before .before .before .before .before .before .before .before .before .before .before .before .before in
     let s = at-turn .turn .ensures .0 in
     let w = at-loop3 .loop3 .inv in
     let f = place23 in
@@ -435,7 +447,7 @@ loop2-again-3 c =
         uses-more = uses-trans (l .words .uses-more) (uses-trans (uses-walked at-loop3) (s .uses-more));
       };
       stamped = O .stamped;
-      rule-in = omega (arith, at-loop2-test .loop2-test .taken);
+      rule-in = omega (arith, at-loop2-test .loop2-test .taken, c .before .before .before .before .before .before .before .before .before .before .before .before .before .before .before .before .before .before .before .before .before .before .before .before .before .before .before .before .before .before .before .before .past-body .ensures .0);
       rows-in = omega (arith, l .rows-in, O .grew .calls-more);
       known-in = omega (arith, l .known-in, O .grew .answers-more);
       closed = λ roots begun R.
@@ -445,17 +457,17 @@ loop2-again-3 c =
     }
 
 add-row-2 : tie.Need-add-row-2 Inv-loop3 μ-loop3 Inv-loop2 μ-loop2 Inv-loop μ-loop Inv-round μ-round
-add-row-2 c = omega (arith, c .before .before .before .loop-test .taken)
+add-row-2 c = omega (arith, c .before .before .before .before .before .before .before .loop-test .taken)
 
 loop-less-2 : tie.Need-loop-less-2 Inv-loop3 μ-loop3 Inv-loop2 μ-loop2 Inv-loop μ-loop Inv-round μ-round
-loop-less-2 c = omega (arith, c .before .before .before .loop-test .taken)
+loop-less-2 c = omega (arith, c .before .before .before .before .before .before .before .loop-test .taken)
 
 loop-again-2 : tie.Need-loop-again-2 Inv-loop3 μ-loop3 Inv-loop2 μ-loop2 Inv-loop μ-loop Inv-round μ-round
 loop-again-2 c =
-    let at-loop-test = c .before .before .before in
-    let at-loop = c .before .before .before .before in
-    let at-span-of = c .before .before .before .before .before .before .before .before in
-    let place19 = c .before .before .before .before .before .before .before .before .before .before .before .before .before .before .before .before .before .before in
+    let at-loop-test = c .before .before .before .before .before .before .before in
+    let at-loop = c .before .before .before .before .before .before .before .before in
+    let at-span-of = c .before .before .before .before .before .before .before .before .before .before .before .before in
+    let place19 = c .before .before .before .before .before .before .before .before .before .before .before .before .before .before .before .before .before .before .before .before .before .before in
     let l = c .before .loop2 .inv in
     let w = at-loop .loop .inv in
     let i = place19 in
@@ -472,7 +484,12 @@ loop-again-2 c =
       row-in = omega (arith, at-loop-test .loop-test .taken, at-span-of .span-of .ensures .0 .top-in);
       rows-in = l .rows-in;
       known-in = l .known-in;
-      closed = λ roots S W. rows-next _ _ _ (λ k a e. (let (j, h, z) = numbers-all (i .args .rules .now) (i .args .goals .first) (i .args .goals .second) (i .args .goal .now) (i .args .second .now) k a e in (j, omega (arith, c .loop2-test .left), z))) (l .closed roots _ (w .closed roots S W));
+      closed = λ roots S W.
+          (let R₀ = w .closed roots S W in
+          let R = l .closed roots _ R₀ in
+          let same = R .rows-closed .since .made .grew .action-same {i = at-loop .loop .row} (omega (arith, at-loop-test .loop-test .taken, at-span-of .span-of .ensures .0 .top-in, R₀ .base-rows)) ∙ sym (R₀ .since .made .grew .action-same {i = at-loop .loop .row} (omega (arith, at-loop-test .loop-test .taken, at-span-of .span-of .ensures .0 .top-in, R₀ .base-rows))) in
+          rows-next _ _ _ (λ k a e. numbers-all (i .args .rules .now) (i .args .goals .first) (i .args .goals .second) (i .args .goal .now) (i .args .second .now) k a e)
+          (rules-past _ _ _ R (λ k h m e. true-not-false (sym (rw (same, ← c .before .before .before .before .action-of .ensures) at e) ∙ c .before .before .past-body .ensures .1 k (omega (arith, c .loop2-test .left)) m))));
     }
 
 same-length : tie.Need-same-length Inv-loop3 μ-loop3 Inv-loop2 μ-loop2 Inv-loop μ-loop Inv-round μ-round
@@ -522,7 +539,7 @@ returns-2 c =
     let at-turn = c .before .before .before .before .before .before .before .before in
     let at-loop3 = c .before .before .before .before .before .before .before .before .before .before .before .before .before in
     let place23 = at-loop3 .before in
-    let at-span-of = c .before .before .before .before .before .before .before .before .before .before .before .before .before .before .before .before .before .before .before .before .before .before .before .before .before .before .before .before .before .before .before .before .before .before .before .before .before .before in
+    let at-span-of = c .before .before .before .before .before .before .before .before .before .before .before .before .before .before .before .before .before .before .before .before .before .before .before .before .before .before .before .before .before .before .before .before .before .before .before .before .before .before .before .before .before .before in
     let s = at-turn .turn .ensures .0 in
     let t = at-loop3 in
     let f = place23 in
@@ -565,9 +582,11 @@ round-spec =
     add-row
     loop-less
     loop-again
-    add-rule-end
-    loop2-holds
     action-of-requires
+    first-body-requires
+    past-body-requires
+    loop2-holds
+    action-of-requires-2
     is-at-requires
     add-rule
     loop2-less

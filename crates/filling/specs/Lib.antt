@@ -1,0 +1,2 @@
+-- Others: the bodies of other actions.
+pub mod Others
