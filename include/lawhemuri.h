@@ -1,7 +1,8 @@
 /* Rehearsal sheets in ground Transaction Logic: read a sheet, write it as its one
  * fixed text, evaluate its goal, from one start or from a whole class of them, list the
  * path of an answer, find a call; merge two sheets into one; store states by fluent, and
- * restore them; take the figures of a class run; mark what a trainee did.
+ * restore them; take the figures of a class run; mark what a trainee did; run the goals of
+ * two instructors in one pair of tables.
  *
  * The host lends all memory; nothing is allocated, kept between calls, printed or
  * locked, so calls may run in any number of threads. Every call returns, whatever
@@ -12,18 +13,20 @@
  * written may not overlap another one of the same call.
  *
  * Stack: lawhemuri_evaluate and lawhemuri_class need LAWHEMURI_STACK_EVALUATE bytes of it,
- * lawhemuri_path LAWHEMURI_STACK_PATH, lawhemuri_store and lawhemuri_restore
- * LAWHEMURI_STACK_ARCHIVE, lawhemuri_report LAWHEMURI_STACK_REPORT, lawhemuri_mark
- * LAWHEMURI_STACK_MARK, lawhemuri_lookup hardly any, the others LAWHEMURI_STACK_READ. A
- * main thread has 8 MiB on most systems, a thread of Rust's 2 MiB, one of musl's only
- * 128 KiB, which is enough for all but lawhemuri_path.
+ * lawhemuri_path and lawhemuri_share_path LAWHEMURI_STACK_PATH, lawhemuri_share
+ * LAWHEMURI_STACK_SHARE, lawhemuri_store and lawhemuri_restore LAWHEMURI_STACK_ARCHIVE,
+ * lawhemuri_report LAWHEMURI_STACK_REPORT, lawhemuri_mark LAWHEMURI_STACK_MARK,
+ * lawhemuri_lookup hardly any, the others LAWHEMURI_STACK_READ. A main thread has 8 MiB on
+ * most systems, a thread of Rust's 2 MiB, one of musl's only 128 KiB, which is enough for
+ * all but lawhemuri_share and the two paths.
  *
- * While lawhemuri_evaluate or lawhemuri_class runs, the tables and the list of calls hold
- * notes of the run: they are to be read when it has returned.
+ * While lawhemuri_evaluate, lawhemuri_class or lawhemuri_share runs, the tables and the list
+ * of calls hold notes of the run: they are to be read when it has returned.
  */
 #ifndef LAWHEMURI_H
 #define LAWHEMURI_H
 
+#include <stdbool.h>
 #include <stddef.h>
 #include <stdint.h>
 
@@ -104,9 +107,20 @@ extern "C" {
  *      starts whose ends do not add up to the ends lent, or
  *      an end with a bit at or above the fluent count        output unchanged
  *  27  fewer than 2 words for each fluent and 4 more         output unchanged
+ * Tables of two parties (lawhemuri_open: 90; lawhemuri_share: 20 to 22, 91, 23, 24, 30, 31,
+ * with 30 by the party's own limits; lawhemuri_share_path: 20 to 22, 23 of either goal that
+ * is kept, 40 to 43, with 42 for an action 64 or 65 whose goal is not kept):
+ *  90  the limits of both add up to more than a table's
+ *      room                                                  tables unchanged, nothing is kept
+ *  91  what is kept is not 44 words or meets 23, 24, 40 or
+ *      90, or the tables, counted as kept, do not hold just
+ *      that, within the limits                               unchanged, and what is kept too
+ * 20 to 22 change nothing either. After 23, 24 and 30 of lawhemuri_share the party holds no
+ * rows, and the tables hold the other's alone, 0 past them; after 31 it holds its new ones.
  *
- * A result with a refusal has 0 in every other field, but for three: the line of 13
- * to 17, the counts of 31, and which of two sheets has a fault of its own.
+ * A result with a refusal has 0 in every other field, but for four: the line of 13 to 17,
+ * the counts of 31, which of two sheets has a fault of its own, and the words kept from a
+ * run of lawhemuri_share on.
  */
 #define LAWHEMURI_OK 0u
 #define LAWHEMURI_TOO_LONG 10u
@@ -143,6 +157,8 @@ extern "C" {
 #define LAWHEMURI_OUTPUT_SHORT 80u
 #define LAWHEMURI_BAD_WORD_COUNT 81u
 #define LAWHEMURI_BIT_PAST_END 82u
+#define LAWHEMURI_OVER_LIMITS 90u
+#define LAWHEMURI_NOT_AS_KEPT 91u
 
 /* ---- Words ----
  *
@@ -180,6 +196,18 @@ extern "C" {
  *   from the state that the steps before place i leave, carries out just the steps from
  *   place i up to but not including place j. A word is 0 for an action at or above the
  *   count, for a place past the record's end, and for a place after a step that cannot run.
+ * Tables of two parties: call records have 2 words, action and state; answer records 19, as
+ *   above, without a round. The first party's goal is action 64, the second's 65, and both
+ *   are rule number 256. Rows that both need are stored once. Order, record numbers and
+ *   which justification is kept are not said, and may depend on both; the number of evidence
+ *   is smaller than the record's own. The room is the length divided by 2 or 19, rounded
+ *   down, at most 65,536.
+ * Kept beside them: 44 words. 21 for the first party: its limits of calls and of answers, 1 if
+ *   it holds rows and else 0, the start and the count of steps of the goal that it holds them
+ *   for, and 16 step words, unused ones 0; 21 for the second; the count of call records and
+ *   that of answer records. Of a party without rows start, count and steps are 0. Where they
+ *   are handed back any word but 0 says that a party holds rows, and start and goal of one
+ *   that holds none, and unused step words, are not looked at.
  */
 #define LAWHEMURI_RULE_WORDS 18u
 #define LAWHEMURI_CALL_WORDS 3u
@@ -197,6 +225,12 @@ extern "C" {
 #define LAWHEMURI_MARK_WORDS 4096u
 #define LAWHEMURI_GOAL_ACTION 64u
 #define LAWHEMURI_GOAL_RULE 256u
+#define LAWHEMURI_SECOND_GOAL_ACTION 65u
+#define LAWHEMURI_SHARED_CALL_WORDS 2u
+#define LAWHEMURI_SHARED_ANSWER_WORDS 19u
+#define LAWHEMURI_KEPT_WORDS 44u
+#define LAWHEMURI_KEPT_CALLS 42u   /* where the count of call records stands */
+#define LAWHEMURI_KEPT_ANSWERS 43u /* and that of answer records */
 #define LAWHEMURI_REPORT_WORDS(fluents) (2u * (fluents) + 4u)
 
 /* Bytes of stack that a call needs, with some to spare. */
@@ -206,6 +240,11 @@ extern "C" {
 #define LAWHEMURI_STACK_ARCHIVE 1024u
 #define LAWHEMURI_STACK_REPORT 8192u
 #define LAWHEMURI_STACK_MARK 65536u
+#define LAWHEMURI_STACK_SHARE 1835008u
+
+/* The two parties that share a pair of tables. */
+#define LAWHEMURI_FIRST false
+#define LAWHEMURI_SECOND true
 
 /* What a sheet says beside its rule words. */
 typedef struct lawhemuri_sheet {
@@ -280,6 +319,26 @@ typedef struct lawhemuri_marked {
     uint64_t refusal; /* 0: the record is marked */
     uint64_t yes;     /* 1 for a yes, else 0 */
 } lawhemuri_marked;
+
+/* What is kept beside the tables that two parties share. */
+typedef struct lawhemuri_kept {
+    uint64_t words[LAWHEMURI_KEPT_WORDS];
+} lawhemuri_kept;
+
+/* What an opening gives. */
+typedef struct lawhemuri_opened {
+    uint64_t refusal;    /* 0: both tables are emptied */
+    lawhemuri_kept kept; /* the limits; 0 throughout where refused */
+} lawhemuri_opened;
+
+/* What a party's run gives. */
+typedef struct lawhemuri_shared {
+    uint64_t refusal;    /* 0: the ends are listed */
+    uint64_t ends;
+    uint64_t calls;      /* of the party alone: those of the tables stand in kept */
+    uint64_t answers;
+    lawhemuri_kept kept; /* from then on, whatever the refusal */
+} lawhemuri_shared;
 
 /* The version of the library that is linked: LAWHEMURI_VERSION_NUMBER of its own header. */
 uint64_t lawhemuri_version(void);
@@ -464,6 +523,63 @@ lawhemuri_marked lawhemuri_mark(uint64_t fluents, uint64_t actions,
                                 uint64_t start,
                                 const uint16_t *recorded, size_t recorded_len,
                                 uint64_t *table, size_t table_len);
+
+/* Opens one pair of tables for two parties (90, or 0), each with a limit of calls and of
+ * answers. The limits of both together must be within the room of each table.
+ *
+ * No refusal: both tables are 0 throughout, and result.kept has the limits.
+ * 90: both tables unchanged, result.kept 0 throughout.
+ */
+lawhemuri_opened lawhemuri_open(uint64_t first_calls, uint64_t first_answers,
+                                uint64_t second_calls, uint64_t second_answers,
+                                uint64_t *calls, size_t calls_len,
+                                uint64_t *answers, size_t answers_len);
+
+/* Runs the goal of one of two parties from a start, in tables that both share (refusals 20 to
+ * 22, 91, 23, 24, 30, 31). First the party gives up its earlier rows that the other does not
+ * need. Its refusal, ends and counts are those of a run alone, in tables of its limits,
+ * whatever the other party does; only 91 may depend on both.
+ *
+ * second: LAWHEMURI_FIRST or LAWHEMURI_SECOND.
+ * kept: the words that the last lawhemuri_open or lawhemuri_share of these tables gave;
+ *   result.kept has those to hand over next time. They, and the tables, may come from
+ *   anybody: with 91 they are refused. What an opening that was not refused left, or a run
+ *   that was refused with none of 20 to 22 and 91, is not, under the same book.
+ * No refusal:
+ *   calls, answers: exactly the calls and answers of the goals that are kept, each once, every
+ *     answer justified; 0 past them. How many there are stands in result.kept.
+ *   ends: the party's final states, result.ends of them in rising order; unchanged past them.
+ * 20 to 22, 91: all three unchanged, result.kept as it was handed over (0 throughout where it
+ *   was not 44 words).
+ * 23, 24, 30: calls and answers as with no refusal, where the party has no rows and no goal;
+ *   ends unchanged.
+ * 31: calls and answers as with no refusal, all counts given, ends unchanged.
+ */
+lawhemuri_shared lawhemuri_share(bool second,
+                                 uint64_t fluents, uint64_t actions,
+                                 const uint16_t *rules, size_t rules_len,
+                                 const uint16_t *goal, size_t goal_len,
+                                 uint64_t start,
+                                 const uint64_t *kept, size_t kept_len,
+                                 uint64_t *calls, size_t calls_len,
+                                 uint64_t *answers, size_t answers_len,
+                                 uint64_t *ends, size_t ends_len);
+
+/* Lists the path of an answer record of tables that two parties share (refusals 20 to 22, 23
+ * of either goal that is kept, then 40 to 43), as lawhemuri_path does for one: goals and
+ * record counts are those of the words kept. Words that are not 44 keep no records: 41. The
+ * tables and the words may come from anybody; 90 and 91 are not looked for.
+ *
+ * states: no refusal, the first result.states words are the states and the list past
+ *   them is unchanged; refused, it is unchanged. The tables are only read.
+ */
+lawhemuri_states lawhemuri_share_path(uint64_t fluents, uint64_t actions,
+                                      const uint16_t *rules, size_t rules_len,
+                                      const uint64_t *kept, size_t kept_len,
+                                      const uint64_t *calls, size_t calls_len,
+                                      const uint64_t *answers, size_t answers_len,
+                                      uint64_t record,
+                                      uint64_t *states, size_t states_len);
 
 #ifdef __cplusplus
 }

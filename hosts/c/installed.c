@@ -1,5 +1,5 @@
-/* Built by pkg-config from an installed library, without this repository: drill D1 is read, evaluated, its path listed and a call found,
- * and the header's version is the library's. */
+/* Built by pkg-config from an installed library, without this repository: drill D1 is read, evaluated, its path listed and a call found, then
+ * run for the second of two parties; and the header's version is the library's. */
 #include <lawhemuri.h>
 #include <stdio.h>
 #include <string.h>
@@ -34,6 +34,12 @@ int main(void) {
     lawhemuri_found light = lawhemuri_lookup(calls, sizeof calls / sizeof *calls, run.calls, list, 8, 1, 0);
     if (light.refusal != LAWHEMURI_OK || light.found != 1 || light.row != 1)
         return failed("the call is not found");
+    lawhemuri_opened opened = lawhemuri_open(4, 4, 4, 4, calls, sizeof calls / sizeof *calls, answers, sizeof answers / sizeof *answers);
+    lawhemuri_shared shared = lawhemuri_share(LAWHEMURI_SECOND, sheet.fluents, sheet.actions, rules, words, sheet.goal, sheet.goal_len, sheet.start,
+                                              opened.kept.words, LAWHEMURI_KEPT_WORDS, calls, sizeof calls / sizeof *calls, answers,
+                                              sizeof answers / sizeof *answers, ends, 4);
+    if (opened.refusal != LAWHEMURI_OK || shared.refusal != LAWHEMURI_OK || shared.ends != 1 || ends[0] != 2 || shared.calls != 3)
+        return failed("the second party's ends are others");
     printf("lawhemuri %s: ok\n", LAWHEMURI_VERSION);
     return 0;
 }

@@ -1,4 +1,5 @@
-/* The operations as a C host meets them: results, refusals, what each buffer holds afterwards, and the stack of a run and of a path. */
+/* The operations as a C host meets them: results, refusals, what each buffer holds afterwards, and the stack of a run, of a path and of a party's
+ * run. */
 #define _POSIX_C_SOURCE 200809L
 #include "lawhemuri.h"
 
@@ -365,16 +366,20 @@ static void *list_path(void *asked) {
     return NULL;
 }
 
-/* Lists it with so many bytes of stack, rounded up to pages, and frees the list; whether the states are 0, 1, 0, 1 and so on. */
-static int listed_with(size_t stack, struct asked *a) {
+/* Whether the work is done in a thread with so many bytes of stack, rounded up to pages. The thread's own data take some of them. */
+static int done_with(size_t stack, void *(*work)(void *), void *lent) {
     size_t page = (size_t)sysconf(_SC_PAGESIZE);
     pthread_attr_t attributes;
     pthread_t thread;
+    return pthread_attr_init(&attributes) == 0 && pthread_attr_setstacksize(&attributes, (stack + page - 1) / page * page) == 0 &&
+           pthread_create(&thread, &attributes, work, lent) == 0 && pthread_join(thread, NULL) == 0 &&
+           pthread_attr_destroy(&attributes) == 0;
+}
+
+/* Lists it with so many bytes of stack, and frees the list; whether the states are 0, 1, 0, 1 and so on. */
+static int listed_with(size_t stack, struct asked *a) {
     a->states = malloc(a->places * sizeof *a->states);
-    int holds = a->states != NULL && pthread_attr_init(&attributes) == 0 &&
-                pthread_attr_setstacksize(&attributes, (stack + page - 1) / page * page) == 0 &&
-                pthread_create(&thread, &attributes, list_path, a) == 0 && pthread_join(thread, NULL) == 0 &&
-                a->listed.states <= a->places;
+    int holds = a->states != NULL && done_with(stack, list_path, a) && a->listed.states <= a->places;
     for (uint64_t i = 0; holds && i < a->listed.states; i++)
         holds = a->states[i] == i % 2;
     free(a->states);
@@ -515,17 +520,13 @@ static void *run_choices(void *lent) {
     return NULL;
 }
 
-/* Whether a run in a thread with 128 KiB of stack gives what it gives here, in every word. */
+/* Whether a run in a thread with the stack that the header asks for gives what it gives here, in every word. */
 static int same_in_small_thread(void *(*run)(void *), run_of *here) {
     static run_of there;
-    pthread_attr_t small;
-    pthread_t thread;
     memset(&there, 0x55, sizeof there);
     memset(here, 0x55, sizeof *here);
     run(here);
-    return pthread_attr_init(&small) == 0 && pthread_attr_setstacksize(&small, 131072) == 0 &&
-           pthread_create(&thread, &small, run, &there) == 0 && pthread_join(thread, NULL) == 0 && pthread_attr_destroy(&small) == 0 &&
-           memcmp(here, &there, sizeof there) == 0;
+    return done_with(LAWHEMURI_STACK_EVALUATE, run, &there) && memcmp(here, &there, sizeof there) == 0;
 }
 
 static void test_small_stack(void) {
@@ -746,6 +747,258 @@ static void test_refused_marks(void) {
     EXPECT(m.refusal == LAWHEMURI_BAD_RECORDED_STEP && m.yes == 0 && all(table, WORDS(table), MARK));
 }
 
+/* ---- two parties: drill D2's book in tables for 4 calls and 10 answers, with some words more ---- */
+
+struct tables {
+    uint64_t calls[LAWHEMURI_SHARED_CALL_WORDS * 4 + 1], answers[LAWHEMURI_SHARED_ANSWER_WORDS * 10 + 7];
+};
+
+static struct tables panel;
+
+static lawhemuri_opened opened_for(uint64_t first_calls, uint64_t first_answers, uint64_t second_calls, uint64_t second_answers) {
+    fill(panel.calls, WORDS(panel.calls));
+    fill(panel.answers, WORDS(panel.answers));
+    return lawhemuri_open(first_calls, first_answers, second_calls, second_answers, panel.calls, WORDS(panel.calls), panel.answers,
+                          WORDS(panel.answers));
+}
+
+static void test_open(void) {
+    static const uint64_t limits[LAWHEMURI_KEPT_WORDS] = {2, 4, [21] = 2, 6};
+    lawhemuri_opened o = opened_for(2, 4, 2, 6);
+    EXPECT(o.refusal == LAWHEMURI_OK && memcmp(o.kept.words, limits, sizeof limits) == 0);
+    EXPECT(all(panel.calls, WORDS(panel.calls), 0) && all(panel.answers, WORDS(panel.answers), 0));
+    static const uint64_t over[5][4] = {{3, 4, 2, 4}, {2, 4, 2, 7}, {0, 0, 5, 0}, {1, 0, UINT64_MAX, 0}, {0, UINT64_MAX, 0, UINT64_MAX}};
+    for (size_t i = 0; i < WORDS(over); i++) {
+        o = opened_for(over[i][0], over[i][1], over[i][2], over[i][3]);
+        EXPECT(o.refusal == LAWHEMURI_OVER_LIMITS && all(o.kept.words, LAWHEMURI_KEPT_WORDS, 0));
+        EXPECT(all(panel.calls, WORDS(panel.calls), MARK) && all(panel.answers, WORDS(panel.answers), MARK));
+    }
+    o = lawhemuri_open(0, 0, 0, 0, NULL, 0, NULL, 0);
+    EXPECT(o.refusal == LAWHEMURI_OK && all(o.kept.words, LAWHEMURI_KEPT_WORDS, 0));
+}
+
+/* A party's run: what it asks, and what it is told; then the counts of the tables and their calls. */
+struct party_run {
+    bool second;
+    uint16_t goal[2];
+    size_t goal_len, places;
+    uint64_t start, told[4], ends[2], counts[2], calls[4][2];
+};
+
+/* The run with these words kept; the list of ends is filled before. */
+static lawhemuri_shared shared_with(const struct party_run *p, uint64_t fluents, const uint64_t *kept, size_t kept_len) {
+    fill(ends, WORDS(ends));
+    return lawhemuri_share(p->second, fluents, 1, RULES, 36, p->goal, p->goal_len, p->start, kept, kept_len, panel.calls, WORDS(panel.calls),
+                           panel.answers, WORDS(panel.answers), ends, p->places);
+}
+
+/* The record of an answer in the shared tables, or their count. */
+static uint64_t answer_of(const lawhemuri_kept *kept, uint64_t action, uint64_t state, uint64_t final) {
+    uint64_t x = 0;
+    for (; x < kept->words[LAWHEMURI_KEPT_ANSWERS]; x++) {
+        const uint64_t *record = panel.answers + LAWHEMURI_SHARED_ANSWER_WORDS * x, *call = panel.calls + LAWHEMURI_SHARED_CALL_WORDS * record[0];
+        if (call[0] == action && call[1] == state && record[1] == final)
+            break;
+    }
+    return x;
+}
+
+/* Whether the tables have these calls, each once, and 0 past both tables' records. */
+static int hold_calls(const lawhemuri_kept *kept, const uint64_t wanted[4][2]) {
+    uint64_t n = kept->words[LAWHEMURI_KEPT_CALLS], m = kept->words[LAWHEMURI_KEPT_ANSWERS];
+    for (uint64_t i = 0; i < n; i++) {
+        uint64_t found = 0;
+        for (uint64_t row = 0; row < n; row++)
+            found += memcmp(panel.calls + LAWHEMURI_SHARED_CALL_WORDS * row, wanted[i], sizeof wanted[i]) == 0;
+        if (found != 1)
+            return 0;
+    }
+    return all(panel.calls + LAWHEMURI_SHARED_CALL_WORDS * n, WORDS(panel.calls) - LAWHEMURI_SHARED_CALL_WORDS * n, 0) &&
+           all(panel.answers + LAWHEMURI_SHARED_ANSWER_WORDS * m, WORDS(panel.answers) - LAWHEMURI_SHARED_ANSWER_WORDS * m, 0);
+}
+
+/* What is kept after a run: a party refused with 23, 24 or 30 holds no rows, one with 31 or no refusal those of its goal. */
+static void enter(uint64_t *kept, const struct party_run *p) {
+    uint64_t *account = kept + (p->second ? 21 : 0);
+    memset(account + 2, 0, 19 * sizeof *account);
+    if (p->told[0] == LAWHEMURI_OK || p->told[0] == LAWHEMURI_LIST_SHORT) {
+        account[2] = 1;
+        account[3] = p->start;
+        account[4] = p->goal_len;
+        for (size_t i = 0; i < p->goal_len; i++)
+            account[5 + i] = p->goal[i];
+    }
+    memcpy(kept + LAWHEMURI_KEPT_CALLS, p->counts, sizeof p->counts);
+}
+
+/* Seven runs in a row, each over what the one before left. */
+static lawhemuri_kept runs_in_a_row(void) {
+    static const struct party_run row[] = {
+        {LAWHEMURI_FIRST, {768}, 1, 2, 0, {0, 2, 2, 4}, {1, 3}, {2, 4}, {{64, 0}, {0, 0}}},
+        {LAWHEMURI_SECOND, {768}, 1, 1, 0, {31, 2, 2, 4}, {0}, {3, 6}, {{64, 0}, {65, 0}, {0, 0}}},
+        {LAWHEMURI_SECOND, {768, 1}, 2, 4, 0, {0, 1, 2, 3}, {3}, {3, 5}, {{64, 0}, {65, 0}, {0, 0}}},
+        {LAWHEMURI_FIRST, {768}, 1, 4, 2, {0, 1, 2, 2}, {3}, {4, 5}, {{64, 2}, {0, 2}, {65, 0}, {0, 0}}},
+        {LAWHEMURI_FIRST, {769}, 1, 4, 0, {23}, {0}, {2, 3}, {{65, 0}, {0, 0}}},
+        {LAWHEMURI_FIRST, {768, 768}, 2, 4, 0, {30}, {0}, {2, 3}, {{65, 0}, {0, 0}}},
+        {LAWHEMURI_FIRST, {768}, 1, 4, 4, {24}, {0}, {2, 3}, {{65, 0}, {0, 0}}},
+    };
+    lawhemuri_kept kept = opened_for(2, 4, 2, 4).kept;
+    uint64_t wanted[LAWHEMURI_KEPT_WORDS];
+    memcpy(wanted, kept.words, sizeof wanted);
+    for (size_t i = 0; i < WORDS(row); i++) {
+        const struct party_run *p = row + i;
+        lawhemuri_shared s = shared_with(p, 2, kept.words, LAWHEMURI_KEPT_WORDS);
+        uint64_t listed = s.refusal == LAWHEMURI_OK ? s.ends : 0;
+        EXPECT(s.refusal == p->told[0] && s.ends == p->told[1] && s.calls == p->told[2] && s.answers == p->told[3]);
+        EXPECT(memcmp(ends, p->ends, listed * sizeof *ends) == 0 && all(ends + listed, WORDS(ends) - listed, MARK));
+        enter(wanted, p);
+        EXPECT(memcmp(s.kept.words, wanted, sizeof wanted) == 0 && hold_calls(&s.kept, p->calls));
+        kept = s.kept;
+    }
+    return kept;
+}
+
+/* After the row the second party's rows are left: the path of each, and what the path refuses. */
+static void test_share(void) {
+    static const struct {
+        uint64_t action, final, count, states[3];
+    } paths[3] = {{0, 1, 2, {0, 1}}, {0, 3, 3, {0, 1, 3}}, {65, 3, 3, {0, 1, 3}}};
+    lawhemuri_kept kept = runs_in_a_row();
+    uint64_t states[4];
+#define TRACE(fluents, words, len, record, places) \
+    lawhemuri_share_path(fluents, 1, RULES, 36, words, len, panel.calls, WORDS(panel.calls), panel.answers, WORDS(panel.answers), record, states, \
+                         places)
+    for (size_t i = 0; i < WORDS(paths); i++) {
+        fill(states, WORDS(states));
+        lawhemuri_states p = TRACE(2, kept.words, LAWHEMURI_KEPT_WORDS, answer_of(&kept, paths[i].action, 0, paths[i].final), WORDS(states));
+        EXPECT(p.refusal == LAWHEMURI_OK && p.states == paths[i].count);
+        EXPECT(memcmp(states, paths[i].states, p.states * sizeof *states) == 0 && all(states + p.states, WORDS(states) - p.states, MARK));
+    }
+    uint64_t goal = answer_of(&kept, 65, 0, 3);
+    fill(states, WORDS(states));
+    EXPECT(TRACE(65, kept.words, LAWHEMURI_KEPT_WORDS, goal, 4).refusal == LAWHEMURI_BAD_COUNTS);
+    EXPECT(TRACE(2, kept.words, LAWHEMURI_KEPT_WORDS, 3, 4).refusal == LAWHEMURI_NO_RECORD);
+    EXPECT(TRACE(2, kept.words, LAWHEMURI_KEPT_WORDS - 1, goal, 4).refusal == LAWHEMURI_NO_RECORD);
+    EXPECT(TRACE(2, kept.words, LAWHEMURI_KEPT_WORDS, goal, 2).refusal == LAWHEMURI_STATES_SHORT);
+    static const struct {
+        size_t word;
+        uint64_t value, refusal;
+    } wrong[] = {{26, 769, 23}, {25, 17, 23}, {42, 5, 40}, {43, 11, 40}, {23, 0, 42}, {43, 4, 42}};
+    for (size_t i = 0; i < WORDS(wrong); i++) {
+        lawhemuri_kept other = kept;
+        other.words[wrong[i].word] = wrong[i].value;
+        lawhemuri_states p = TRACE(2, other.words, LAWHEMURI_KEPT_WORDS, goal, 4);
+        EXPECT(p.refusal == wrong[i].refusal && p.states == 0);
+    }
+    EXPECT(all(states, WORDS(states), MARK));
+}
+
+/* Whether a run was refused with this number, gave no counts and these words, and left the tables as they are here, and the list. */
+static int changed_nothing(uint64_t number, const lawhemuri_shared *s, const uint64_t *kept, const struct tables *before) {
+    return s->refusal == number && s->ends == 0 && s->calls == 0 && s->answers == 0 && memcmp(s->kept.words, kept, sizeof s->kept.words) == 0 &&
+           memcmp(&panel, before, sizeof panel) == 0 && all(ends, WORDS(ends), MARK);
+}
+
+/* 20 comes before 91, and 91 before 23 and 24; neither changes anything. */
+static void test_not_as_kept(void) {
+    static const struct party_run plain = {LAWHEMURI_FIRST, {768}, 1, 4, 0, {0}, {0}, {0}, {{0}}};
+    static const struct party_run bad = {LAWHEMURI_FIRST, {769}, 1, 4, 4, {0}, {0}, {0}, {{0}}};
+    static const struct {
+        size_t word;
+        uint64_t value;
+    } wrong[] = {
+        {23, 0}, {2, 1}, {26, 769}, {25, 17}, {24, 4}, {24, 1}, {21, 1}, {22, 2}, /* what is held, and limits that are too low */
+        {21, 3}, {0, 3}, {1, 7},    {42, 3},  {42, 1}, {43, 2}, {43, 4}, {42, UINT64_MAX},
+    };
+    static const uint64_t none[LAWHEMURI_KEPT_WORDS + 1];
+    lawhemuri_kept kept = runs_in_a_row();
+    struct tables before = panel;
+    lawhemuri_shared s = shared_with(&plain, 65, kept.words, LAWHEMURI_KEPT_WORDS);
+    EXPECT(changed_nothing(LAWHEMURI_BAD_COUNTS, &s, kept.words, &before));
+    for (size_t i = 0; i < WORDS(wrong); i++) {
+        lawhemuri_kept other = kept;
+        other.words[wrong[i].word] = wrong[i].value;
+        s = shared_with(&bad, 2, other.words, LAWHEMURI_KEPT_WORDS);
+        EXPECT(changed_nothing(LAWHEMURI_NOT_AS_KEPT, &s, other.words, &before));
+    }
+    for (size_t len = LAWHEMURI_KEPT_WORDS - 1; len <= LAWHEMURI_KEPT_WORDS + 1; len += 2) {
+        s = shared_with(&plain, 2, none, len);
+        EXPECT(changed_nothing(LAWHEMURI_NOT_AS_KEPT, &s, none, &before));
+        s = shared_with(&plain, 65, none, len);
+        EXPECT(changed_nothing(LAWHEMURI_BAD_COUNTS, &s, none, &before));
+    }
+    uint64_t *changed[] = {panel.calls,       panel.calls + 1,   panel.calls + WORDS(panel.calls) - 1,    panel.answers,
+                           panel.answers + 1, panel.answers + 2, panel.answers + WORDS(panel.answers) - 1, panel.answers + 3};
+    for (size_t i = 0; i < WORDS(changed); i++) {
+        uint64_t word = *changed[i];
+        *changed[i] = word + 63;
+        before = panel;
+        s = shared_with(&plain, 2, kept.words, LAWHEMURI_KEPT_WORDS);
+        EXPECT(changed_nothing(LAWHEMURI_NOT_AS_KEPT, &s, kept.words, &before));
+        *changed[i] = word;
+    }
+    s = shared_with(&plain, 2, kept.words, LAWHEMURI_KEPT_WORDS);
+    EXPECT(s.refusal == LAWHEMURI_OK && s.ends == 2 && ends[0] == 1 && ends[1] == 3);
+}
+
+/* Two runs in tables for 65,536 records: 13 actions in a row, each of which inserts its fluent or does nothing. */
+struct panel_of {
+    uint64_t *calls, *answers, *ends;
+    lawhemuri_shared first, second;
+};
+
+enum { CALL_TABLE = LAWHEMURI_SHARED_CALL_WORDS * LAWHEMURI_MOST_RECORDS, ANSWER_TABLE = LAWHEMURI_SHARED_ANSWER_WORDS * LAWHEMURI_MOST_RECORDS };
+
+static void *run_both(void *lent) {
+    enum { ACTIONS = 13 };
+    struct panel_of *p = lent;
+    uint16_t rules[36 * ACTIONS] = {0}, goal[ACTIONS];
+    for (uint16_t i = 0; i < ACTIONS; i++) {
+        uint16_t *inserts = rules + 36 * i;
+        inserts[0] = inserts[18] = i;
+        inserts[1] = 1;
+        inserts[2] = 256 + i;
+        goal[i] = 768 + i;
+    }
+    lawhemuri_kept kept = lawhemuri_open(32768, 32768, 32768, 32768, p->calls, CALL_TABLE, p->answers, ANSWER_TABLE).kept;
+#define BOTH(second, start) \
+    lawhemuri_share(second, ACTIONS + 1, ACTIONS, rules, WORDS(rules), goal, ACTIONS, start, kept.words, LAWHEMURI_KEPT_WORDS, p->calls, CALL_TABLE, \
+                    p->answers, ANSWER_TABLE, p->ends, 8192)
+    p->first = BOTH(LAWHEMURI_FIRST, 0);
+    kept = p->first.kept;
+    p->second = BOTH(LAWHEMURI_SECOND, 8192);
+    return NULL;
+}
+
+/* With the stack that the header asks for they give what they give here, in every word; that is no more than a thread of Rust's has. */
+static void test_stack_of_share(void) {
+    struct panel_of here = {0}, there = {0}, *both[2] = {&here, &there};
+    int lent = 1;
+    for (size_t i = 0; i < 2; i++) {
+        both[i]->calls = malloc(CALL_TABLE * sizeof(uint64_t));
+        both[i]->answers = malloc(ANSWER_TABLE * sizeof(uint64_t));
+        both[i]->ends = malloc(8192 * sizeof(uint64_t));
+        lent = lent && both[i]->calls != NULL && both[i]->answers != NULL && both[i]->ends != NULL;
+    }
+    EXPECT(lent && LAWHEMURI_STACK_SHARE <= 2097152);
+    if (lent) {
+        run_both(&here);
+        EXPECT(done_with(LAWHEMURI_STACK_SHARE, run_both, &there));
+        EXPECT(here.second.refusal == LAWHEMURI_OK && here.second.ends == 8192 && here.ends[8191] == 16383);
+        EXPECT(here.first.calls == 8192 && here.first.answers == 24574 && here.second.calls == 8192 && here.second.answers == 24574);
+        EXPECT(here.second.kept.words[LAWHEMURI_KEPT_CALLS] == 16384 && here.second.kept.words[LAWHEMURI_KEPT_ANSWERS] == 49148);
+        EXPECT(memcmp(&here.first, &there.first, sizeof here.first) == 0 && memcmp(&here.second, &there.second, sizeof here.second) == 0);
+        EXPECT(memcmp(here.calls, there.calls, CALL_TABLE * sizeof(uint64_t)) == 0);
+        EXPECT(memcmp(here.answers, there.answers, ANSWER_TABLE * sizeof(uint64_t)) == 0);
+        EXPECT(memcmp(here.ends, there.ends, 8192 * sizeof(uint64_t)) == 0);
+    }
+    for (size_t i = 0; i < 2; i++) {
+        free(both[i]->calls);
+        free(both[i]->answers);
+        free(both[i]->ends);
+    }
+}
+
 int main(void) {
     test_example();
     test_names();
@@ -778,6 +1031,10 @@ int main(void) {
     test_refused_reports();
     test_mark();
     test_refused_marks();
+    test_open();
+    test_share();
+    test_not_as_kept();
+    test_stack_of_share();
     printf("hosts/c: %s\n", failures == 0 ? "ok" : "failed");
     return failures != 0;
 }

@@ -7,6 +7,7 @@ after each end a line with a path to it: `path` and the states, or `path`, `refu
 from __future__ import annotations
 
 import ctypes
+import enum
 import os
 import sys
 from collections.abc import Sequence
@@ -23,6 +24,10 @@ Words = ctypes.Array[ctypes.c_uint64]
 
 # A call record: action, state, round. An answer record: call record number, final state, rule number, 16 evidence words, round.
 CALL_WORDS, ANSWER_WORDS = 3, 20
+# The same in tables that two parties share, without rounds; and the words kept beside them.
+SHARED_CALL_WORDS, SHARED_ANSWER_WORDS, KEPT_WORDS = 2, 19, 44
+# Records that a table has at most, whatever is lent.
+MOST_RECORDS = 65536
 
 # What each refusal means, in the words of the Rust host.
 MEANINGS = {
@@ -60,7 +65,16 @@ MEANINGS = {
     80: "the output has fewer places than there are words or states",
     81: "words that are not one per fluent for each block of 64 states",
     82: "a bit set past the last state",
+    90: "the limits of both parties are more than the tables have room for",
+    91: "the tables of two parties, or what is kept beside them, are not as they were left",
 }
+
+
+class Party(enum.IntEnum):
+    """One of two parties with the same book, by the number of its goal among the actions of call records."""
+
+    FIRST = 64
+    SECOND = 65
 
 
 def bytes_of(text: Text) -> bytes:
@@ -148,9 +162,21 @@ class Marked(Shown):
     _fields_ = [(name, U64) for name in ("refusal", "yes")]
 
 
+class Opened(Shown):
+    """The refusal, 0 for none, and the words kept from then on."""
+
+    _fields_ = [("refusal", U64), ("kept", U64 * KEPT_WORDS)]
+
+
+class Shared(Shown):
+    """The refusal, 0 for none, a party's own counts, and the words kept from then on."""
+
+    _fields_ = [(name, U64) for name in ("refusal", "ends", "calls", "answers")] + [("kept", U64 * KEPT_WORDS)]
+
+
 class Refused(Exception):
     """A numbered refusal and what it means, with its line for 13 to 17, and of a merge the sheet at fault. With 31 `finished` has the
-    run's counts, its calls, its answers and its list of calls."""
+    run's counts, its calls, its answers and its list of calls; of a party's run the counts alone."""
 
     def __init__(self, number: int, line: int = 0, finished: tuple | None = None, sheet: int = 0):
         self.number, self.line, self.finished, self.sheet = number, line, finished, sheet
@@ -193,6 +219,12 @@ class Library:
         self._report.argtypes = [U64] + [longs, SIZE] * 3
         self._mark, self._mark.restype = lib.lawhemuri_mark, Marked
         self._mark.argtypes = [U64, U64, words, SIZE, words, SIZE, U64, words, SIZE, longs, SIZE]
+        self._open, self._open.restype = lib.lawhemuri_open, Opened
+        self._open.argtypes = [U64] * 4 + [longs, SIZE] * 2
+        self._share, self._share.restype = lib.lawhemuri_share, Shared
+        self._share.argtypes = [ctypes.c_bool, U64, U64, words, SIZE, words, SIZE, U64] + [longs, SIZE] * 4
+        self._share_path, self._share_path.restype = lib.lawhemuri_share_path, States
+        self._share_path.argtypes = [U64, U64, words, SIZE] + [longs, SIZE] * 3 + [U64, longs, SIZE]
 
     def read(self, text: Text) -> tuple[Sheet, Rules]:
         """The sheet and its rule words."""
@@ -333,6 +365,69 @@ class Library:
         if marked.refusal:
             raise Refused(marked.refusal)
         return bool(marked.yes), table
+
+    def panel(self, first: tuple[int, int], second: tuple[int, int], rooms: tuple[int, int] | None = None) -> Panel:
+        """One pair of tables opened for two parties, each with a limit of calls and of answers (90); `rooms` are those of calls and
+        answers, just enough for both if none are given."""
+        return Panel(self, first, second, rooms)
+
+
+class Panel:
+    """One pair of tables that two parties with the same book share. `calls` and `answers` have 2 and 19 words for a record, 0 past them;
+    `kept` are the words kept beside them, the counts of records last. All three may be stored and put back: a run refuses with 91 what no
+    opening and no run under its book left."""
+
+    def __init__(self, library: Library, first: tuple[int, int], second: tuple[int, int], rooms: tuple[int, int] | None = None):
+        if not all(0 <= limit < 2**64 for limit in (*first, *second)):
+            raise ValueError("a limit is a number of 64 bits")
+        rooms = tuple(min(sum(both), MOST_RECORDS) for both in zip(first, second)) if rooms is None else rooms
+        self._library = library
+        self.calls, self.answers = (U64 * (SHARED_CALL_WORDS * rooms[0]))(), (U64 * (SHARED_ANSWER_WORDS * rooms[1]))()
+        opened = library._open(*first, *second, self.calls, len(self.calls), self.answers, len(self.answers))
+        if opened.refusal:
+            raise Refused(opened.refusal)
+        self.kept: Words = opened.kept
+
+    def share(
+        self, party: Party, sheet: Sheet, rules: Rules, start: int | None = None, goal: Sequence[int] | None = None, room: int | None = None
+    ) -> tuple[Shared, list[int]]:
+        """The party's own counts and its ends in rising order. Goal and start are the sheet's where none are given; `room` is that of the
+        list of ends, else one that is long enough. The party's earlier rows that the other does not need are given up; the other's stay.
+        """
+        party = Party(party)
+        start, goal = sheet.start if start is None else start, sheet.goal[: sheet.goal_len] if goal is None else goal
+        if not 0 <= start < 2**64 or not all(0 <= word < 2**16 for word in goal):
+            raise ValueError("a start is a number of 64 bits, a step word one of 16")
+        limit = self.kept[22 if party is Party.SECOND else 1]
+        ends = (U64 * (min(limit, MOST_RECORDS) // 2 + 1 if room is None else room))()
+        shared = self._library._share(
+            party is Party.SECOND, sheet.fluents, sheet.actions, rules, 18 * sheet.rules, (U16 * len(goal))(*goal), len(goal), start,
+            self.kept, len(self.kept), self.calls, len(self.calls), self.answers, len(self.answers), ends, len(ends),
+        )
+        if len(self.kept) == KEPT_WORDS:
+            self.kept = shared.kept
+        if shared.refusal:
+            raise Refused(shared.refusal, finished=(shared,) if shared.refusal == 31 else None)
+        return shared, ends[: shared.ends]
+
+    def record(self, party: Party, end: int) -> int | None:
+        """The answer record for an end of the goal that a party holds rows for."""
+        for record in range(self.kept[43]):
+            call, final = self.answers[SHARED_ANSWER_WORDS * record : SHARED_ANSWER_WORDS * record + 2]
+            if final == end and self.calls[SHARED_CALL_WORDS * call] == party:
+                return record
+        return None
+
+    def path(self, sheet: Sheet, rules: Rules, record: int, room: int = 65536) -> list[int]:
+        """The states of the execution that an answer record's evidence unfolds to; of the sheet the goal and the start are not used."""
+        states = (U64 * room)()
+        path = self._library._share_path(
+            sheet.fluents, sheet.actions, rules, 18 * sheet.rules, self.kept, len(self.kept), self.calls, len(self.calls),
+            self.answers, len(self.answers), record, states, len(states),
+        )
+        if path.refusal:
+            raise Refused(path.refusal)
+        return states[: path.states]
 
 
 def goal_records(run: Run, calls: Words, answers: Words) -> dict[int, int]:

@@ -549,5 +549,172 @@ class Marks(unittest.TestCase):
             self.assertEqual((refusal.exception.number, list(table)), (number, [7] * room))
 
 
+class TwoParties(unittest.TestCase):
+    """Drill D2's book on one panel, with rooms of 4 calls and 10 answers and limits of 2 calls and 4 answers for each party."""
+
+    FIRST, SECOND = lawhemuri.Party
+
+    def setUp(self):
+        self.sheet, self.rules = LIBRARY.read(content(os.path.join(SHEETS, "left_recursion.sheet")))
+        self.panel = LIBRARY.panel((2, 4), (2, 4), rooms=(4, 10))
+
+    def told(self, party, goal, start, room=None):
+        """Refusal and counts, and the ends; then what the tables hold."""
+        try:
+            shared, ends = self.panel.share(party, self.sheet, self.rules, start, goal, room)
+        except lawhemuri.Refused as refused:
+            [shared], ends = refused.finished or [lawhemuri.Shared(refused.number)], []
+        return (shared.refusal, shared.ends, shared.calls, shared.answers), ends, self.held()
+
+    def held(self):
+        """The calls in rising order, and the answers by call and final state; past the records both tables are 0."""
+        calls, answers, (n, m) = list(self.panel.calls), list(self.panel.answers), self.panel.kept[42:]
+        self.assertFalse(any(calls[2 * n :]) or any(answers[19 * m :]))
+        rows = [tuple(calls[2 * i : 2 * i + 2]) for i in range(n)]
+        return sorted(rows), sorted((*rows[answers[19 * i]], answers[19 * i + 1]) for i in range(m))
+
+    def words(self):
+        return [list(words) for words in (self.panel.calls, self.panel.answers, self.panel.kept)]
+
+    def row_of_runs(self):
+        g = [(0, 0, 1), (0, 0, 3)]
+        for party, goal, start, room, counts, ends, calls, answers in (
+            (self.FIRST, [768], 0, 2, (0, 2, 2, 4), [1, 3], [(0, 0), (64, 0)], g + [(64, 0, 1), (64, 0, 3)]),
+            (
+                self.SECOND, [768], 0, 1, (31, 2, 2, 4), [], [(0, 0), (64, 0), (65, 0)],
+                g + [(64, 0, 1), (64, 0, 3), (65, 0, 1), (65, 0, 3)],
+            ),
+            (self.SECOND, [768, 1], 0, 1, (0, 1, 2, 3), [3], [(0, 0), (64, 0), (65, 0)], g + [(64, 0, 1), (64, 0, 3), (65, 0, 3)]),
+            (
+                self.FIRST, [768], 2, None, (0, 1, 2, 2), [3], [(0, 0), (0, 2), (64, 2), (65, 0)],
+                g + [(0, 2, 3), (64, 2, 3), (65, 0, 3)],
+            ),
+            (self.FIRST, [769], 0, None, (23, 0, 0, 0), [], [(0, 0), (65, 0)], g + [(65, 0, 3)]),
+            (self.FIRST, [768, 768], 0, None, (30, 0, 0, 0), [], [(0, 0), (65, 0)], g + [(65, 0, 3)]),
+            (self.FIRST, [768], 4, None, (24, 0, 0, 0), [], [(0, 0), (65, 0)], g + [(65, 0, 3)]),
+        ):
+            self.assertEqual(self.told(party, goal, start, room), (counts, ends, (calls, answers)))
+
+    def test_row_of_runs(self):
+        self.row_of_runs()
+        kept = [2, 4] + [0] * 19 + [2, 4, 1, 0, 2, 768, 1] + [0] * 14 + [2, 3]
+        self.assertEqual(list(self.panel.kept), kept)
+        calls, records = list(self.panel.calls), [self.panel.answers[19 * i : 19 * i + 2] for i in range(3)]
+        paths = {(*calls[2 * call : 2 * call + 2], end): self.panel.path(self.sheet, self.rules, i) for i, (call, end) in enumerate(records)}
+        self.assertEqual(paths, {(0, 0, 1): [0, 1], (0, 0, 3): [0, 1, 3], (65, 0, 3): [0, 1, 3]})
+        self.assertEqual(paths[65, 0, 3], self.panel.path(self.sheet, self.rules, self.panel.record(self.SECOND, 3)))
+        self.assertIsNone(self.panel.record(self.FIRST, 3))
+
+    def refused(self, asked):
+        with self.assertRaises(lawhemuri.Refused) as refused:
+            asked()
+        return refused.exception.number
+
+    def test_refused_paths(self):
+        self.row_of_runs()
+        record = self.panel.record(self.SECOND, 3)
+        path = lambda record, room=4: self.refused(lambda: self.panel.path(self.sheet, self.rules, record, room))
+        self.assertEqual((path(3), path(record, 2)), (41, 43))
+        for word, value, number in (26, 769, 23), (25, 17, 23), (42, 5, 40), (43, 11, 40), (23, 0, 42), (43, 4, 42):
+            before, self.panel.kept[word] = self.panel.kept[word], value
+            self.assertEqual(path(record), number)
+            self.panel.kept[word] = before
+
+    def test_not_as_kept(self):
+        """20 to 22 and 91 change nothing; 91 comes before 23 and 24."""
+        self.row_of_runs()
+        many, self.sheet.fluents = self.sheet.fluents, 65
+        before = self.words()
+        self.assertEqual(self.told(self.FIRST, [768], 0)[0], (20, 0, 0, 0))
+        self.assertEqual(self.words(), before)
+        self.sheet.fluents = many
+        for table, word, value in (
+            *(("calls", word, 63) for word in (0, 1, 7)),
+            *(("answers", word, 63) for word in (0, 1, 2, 3, 189)),
+            *(("kept", *put) for put in ((23, 0), (2, 1), (26, 769), (25, 17), (24, 4), (24, 1), (21, 1), (22, 2), (0, 3), (43, 4))),
+        ):
+            was = getattr(self.panel, table)[word]
+            getattr(self.panel, table)[word] = value
+            before = self.words()
+            asked = lambda: self.panel.share(self.FIRST, self.sheet, self.rules, 4, [769])
+            self.assertEqual((self.refused(asked), self.words()), (91, before))
+            getattr(self.panel, table)[word] = was
+        self.panel.kept = (lawhemuri.U64 * 43)(*self.panel.kept[:43])
+        self.assertEqual(self.refused(lambda: self.panel.share(self.FIRST, self.sheet, self.rules)), 91)
+        self.assertEqual(self.refused(lambda: self.panel.path(self.sheet, self.rules, 0)), 41)
+
+    def test_openings(self):
+        for first, second in ((3, 4), (2, 4)), ((2, 4), (2, 7)), ((2**64 - 1, 0),) * 2, ((0, 1), (0, 2**64 - 1)):
+            self.assertEqual(self.refused(lambda: LIBRARY.panel(first, second, rooms=(4, 10))), 90)
+        self.assertEqual(self.refused(lambda: LIBRARY.panel((65536, 1), (1, 1))), 90)
+        self.assertEqual(list(LIBRARY.panel((4, 3), (0, 7), rooms=(4, 10)).kept[21:23]), [0, 7])
+        with self.assertRaises(ValueError):
+            LIBRARY.panel((-1, 0), (0, 0))
+        for start, goal in (2**64, []), (-1, []), (0, [65536]):
+            with self.assertRaises(ValueError):
+                self.panel.share(self.FIRST, self.sheet, self.rules, start, goal)
+
+    def test_as_alone(self):
+        """Whatever the other does, a party is told what it is told in tables of its own limits, and the tables hold the rows of both."""
+        random = Random(14)
+        seen = set()
+        for _ in range(60):
+            names = "".join(f"{word}\t{word[0]}{i}\n" for word in ("fluent", "action") for i in range(3))
+            steps = lambda most: "".join(
+                "\t" + random.choice(["!a", "!a", "+f", "-f", "?f", "~f"]) + str(random.randrange(3)) for _ in range(random.randrange(most))
+            )
+            book = names + "".join(f"rule\ta{random.randrange(3)}{steps(4)}\n" for _ in range(6)) + "start\ngoal\n"
+            self.sheet, self.rules = LIBRARY.read(book)
+            limits = [(random.randrange(1, 12), random.randrange(1, 16)) for _ in range(2)]
+            self.panel = LIBRARY.panel(*limits)
+            rows = [([], []), ([], [])]
+            for _ in range(8):
+                which, start = random.randrange(2), random.randrange(9)
+                asked, _ = LIBRARY.read(names + f"start\ngoal{steps(4)}\n")
+                asked.rules, asked.start = self.sheet.rules, start
+                rows[which] = self.hold_to_alone(which, asked, limits[which], rows)
+                seen.add(self.last)
+        self.assertEqual(seen, {0, 24, 30})
+
+    def hold_to_alone(self, which, asked, limits, rows):
+        """Runs the party and holds it to a run alone; gives the rows that it holds then."""
+        action, other = (64, 65)[which], rows[1 - which]
+        try:
+            run, wanted, calls, answers, _ = LIBRARY.evaluate(asked, self.rules, (*limits, 16))
+            number = lambda i: action if calls[3 * i] == 64 else calls[3 * i]
+            counts = (0, run.ends, run.calls, run.answers)
+            records = [answers[20 * i : 20 * i + 2] for i in range(run.answers)]
+            mine = [(number(i), calls[3 * i + 1]) for i in range(run.calls)], [(number(c), calls[3 * c + 1], end) for c, end in records]
+        except lawhemuri.Refused as refused:
+            counts, wanted, mine = (refused.number, 0, 0, 0), [], ([], [])
+        self.last = counts[0]
+        held = tuple(sorted({*mine[i], *other[i]}) for i in range(2))
+        self.assertEqual(self.told(lawhemuri.Party(action), asked.goal[: asked.goal_len], asked.start), (counts, wanted, held))
+        for record in range(self.panel.kept[43]):
+            self.panel.path(self.sheet, self.rules, record)
+        return mine
+
+    def test_stack(self):
+        """In a thread with the stack that the header asks for, and some for Python, a run in tables for 65,536 records gives the same."""
+        header = content(os.path.join(TOP, "include", "lawhemuri.h")).decode()
+        [stack] = re.findall(r"#define LAWHEMURI_STACK_SHARE (\d+)u", header)
+        before = threading.stack_size(int(stack) + 131072)
+        self.addCleanup(threading.stack_size, before)
+        sheet, rules = LIBRARY.read(SmallStack.CHOICES)
+        runs = []
+
+        def run():
+            panel = LIBRARY.panel((32768, 32768), (32768, 32768))
+            given = [panel.share(party, sheet, rules, start) for party, start in ((self.FIRST, 0), (self.SECOND, 1))]
+            runs.append([(shared.ends, shared.calls, shared.answers, ends) for shared, ends in given] + [bytes(panel.calls), bytes(panel.answers)])
+
+        run()
+        thread = threading.Thread(target=run)
+        thread.start()
+        thread.join()
+        self.assertEqual([counts[:3] for counts in runs[0][:2]], [(2048, 2048, 6142), (1024, 1025, 3071)])
+        self.assertTrue(len(runs) == 2 and runs[0] == runs[1])
+
+
 if __name__ == "__main__":
     unittest.main(verbosity=0)

@@ -1,7 +1,8 @@
 -- A goal judged word by word. Assumes nothing.
 use Prim.Native.Nat.{ℕ, _/_, _<_, _≤_}
 use native.Mathlib.Omega.{arith}
-use mathlib.Core.Path.{_≡_, refl}
+use native.Mathlib.Decide.{decLt}
+use mathlib.Core.Path.{_≡_, refl, sym, _∙_}
 use mathlib.Core.Bool.{Bool, true, false, _||_}
 use mathlib.Core.List.{List}
 use lib.ListN.{length, getD}
@@ -9,6 +10,7 @@ use lib.Dec.{ltb}
 use borrow.Author.Tests.{lt-ltb, le-ltb, ltb-false}
 use Rattle.steps.specs.Acceptance.{each-below, good-step, bad-goal}
 use Rattle.steps.proofs.EachBelow.{true-not-false, each-not}
+use Rattle.accounts.specs.Accounts.{GoalRead}
 
 -- A word of more than 16 bits is no good step.
 pub word-bad : (fluents actions w : ℕ) → 65535 < w → good-step fluents actions w ≡ false
@@ -39,3 +41,7 @@ module _ (fluents actions : ℕ) (goal : List ℕ) where
   pub goal-short : bad-goal fluents actions goal ≡ false → length goal ≤ 16
   unfolding bad-goal
   goal-short h = omega (arith, ltb-false 16 (length goal) (left-false (ltb 16 (length goal)) _ h))
+
+-- A goal that is read and not bad has at most 16 steps.
+pub read-few : (fluents actions : ℕ) {goal places places′ : List ℕ} {r : ℕ} → GoalRead goal places places′ r → bad-goal fluents actions goal ≡ false → r ≤ 16
+read-few fluents actions {r = r} g b = elim (decLt 16 r) [ yes l ↦ absurd (true-not-false (sym (g .none l fluents actions) ∙ b)) | no l ↦ omega arith ]

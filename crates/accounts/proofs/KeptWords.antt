@@ -9,13 +9,13 @@ use lib.ListN.{length, getD, set, length-set, length-append, List·getD-append}
 use lib.Seq.{getD-set-same, getD-set-other, getD-append-add, ext-getD}
 use lib.Dec.{ltb}
 use borrow.Author.Count.{below-none, below-more}
-use borrow.Author.Tests.{lt-ltb, le-ltb, eq-eqb}
+use borrow.Author.Tests.{lt-ltb, le-ltb, ltb-false, eq-eqb}
 use Rattle.steps.specs.Acceptance.{bad-goal, bad-state}
-use Rattle.sharing.specs.Parties.{Party, first, second, Account, opened, account-of, entered, account-words, ledger-words, account-at, ledger-width, ledger-of}
+use Rattle.sharing.specs.Parties.{Party, first, second, Account, Ledger, opened, account-of, entered, account-words, ledger-words, account-at, ledger-width, ledger-of, party-of}
 use Rattle.records.specs.Records.{room}
 use Rattle.sharing.specs.Charged.{plain-call-width, plain-answer-width, Balanced, over-limits, over-rooms, run-held, Exceeds, AsKept}
 use Rattle.sharing.specs.Shared.{takes-up}
-use Rattle.accounts.specs.Accounts.{account-width, party-of, place-of, took-up, Sound, ShortGoals}
+use Rattle.accounts.specs.Accounts.{account-width, place-of, took-up, Sound, ShortGoals}
 use Rattle.accounts.proofs.GoalWords.{left-false, right-false, goal-short}
 
 -- ---- where what stands
@@ -159,6 +159,27 @@ over-sum room a b l = elim (decLt (room - a) b) [
   | yes h ↦ lt-ltb (room - a) b h ∙ sym (lt-ltb room (a + b) (omega arith))
   | no h ↦ le-ltb (room - a) b (omega arith) ∙ sym (le-ltb room (a + b) (omega arith))
 ]
+
+module _ (l : Ledger) (calls answers : List ℕ) (h : over-limits l calls answers ≡ false) where
+  abbrev both-calls : ℕ
+  both-calls = l .first .call-limit + l .second .call-limit
+
+  abbrev both-answers : ℕ
+  both-answers = l .first .answer-limit + l .second .answer-limit
+
+  -- Limits that do not meet 90: both parties' together are within the rooms,
+  pub limits-fit : (both-calls ≤ room plain-call-width (length calls)) × (both-answers ≤ room plain-answer-width (length answers))
+  unfolding over-limits
+  limits-fit =
+      let f : ltb (room plain-call-width (length calls)) both-calls ≡ false = left-false _ _ h in
+      let g : ltb (room plain-answer-width (length answers)) both-answers ≡ false = right-false (ltb (room plain-call-width (length calls)) both-calls) _ h in
+      (ltb-false _ _ f, ltb-false _ _ g)
+
+  -- and so are either's.
+  pub limits-within : (p : Party) → (account-of l p .call-limit ≤ room plain-call-width (length calls)) × (account-of l p .answer-limit ≤ room plain-answer-width (length answers))
+  unfolding account-of
+  limits-within first = let (c, a) = limits-fit in (omega arith, omega arith)
+  limits-within second = let (c, a) = limits-fit in (omega arith, omega arith)
 
 -- ---- sound
 

@@ -2,7 +2,7 @@
 -- Assumes nothing.
 use Prim.Native.Nat.{ℕ, _<_, _≤_}
 use mathlib.Core.Path.{_≡_}
-use mathlib.Core.Bool.{Bool, true, false}
+use mathlib.Core.Bool.{true, false}
 use mathlib.Core.List.{List}
 use lib.ListN.{getD, length, take}
 use Rattle.steps.specs.State.{State}
@@ -46,11 +46,7 @@ pub record ShortGoals (words : List ℕ) : Type 0 where
   pub long : length words ≡ ledger-width
   pub short : (p : Party) → length (account-of (ledger-of words) p .goal) ≤ 16
 
--- The party by whether it is the second, and where its account begins.
-unfoldable pub party-of : Bool → Party
-party-of false = first
-party-of true = second
-
+-- Where a party's account begins.
 unfoldable pub place-of : Party → ℕ
 place-of first = 0
 place-of second = account-width

@@ -6,10 +6,10 @@ ghost use mathlib.Core.Bool.{cond};
 ghost use mathlib.Core.List.{[], _∷_, _++_};
 ghost use Prim.Native.Nat.{_+_, _≤_};
 ghost use lib.ListN.{length};
-ghost use Rattle.sharing.specs.Parties.{Account, vacant, opened, account-of, entered, account-words, ledger-words};
+ghost use Rattle.sharing.specs.Parties.{Account, vacant, opened, account-of, entered, account-words, ledger-words, party-of};
 ghost use Rattle.sharing.specs.Parties.{account-at, ledger-width, ledger-of};
 ghost use Rattle.sharing.specs.Shared.{gives-up, handed-back};
-ghost use Rattle.accounts.specs.Accounts.{account-width, party-of, place-of, holding, took-up, ShortGoals};
+ghost use Rattle.accounts.specs.Accounts.{account-width, place-of, holding, took-up, ShortGoals};
 
 // What is kept beside the tables: of each party the limits of calls and of answers, 1 if it holds rows, the start, the count of goal steps and
 // 16 step words; then the counts of call records and of answer records.
@@ -34,7 +34,7 @@ fn flag(holds: bool) -> u64
 }
 
 // Where a party's account begins.
-fn place(second: bool) -> usize
+pub fn place(second: bool) -> usize
     ensures { λ r. ⌜ r ≡ place-of (party-of second) ⌝ }
 {
     if second {

@@ -1,4 +1,4 @@
--- Laws for this crate's proofs.
+-- Laws for this crate's proofs; Finishing serves crate `alone` too.
 pub mod Finishing
 pub mod CallNumbers
 pub mod Given

@@ -1,15 +1,13 @@
 -- How an evaluation comes out, from what filling the tables leaves. Assumes nothing.
 use Prim.Native.Nat.{ℕ, _+_, _<_, _≤_}
 use native.Mathlib.Omega.{arith}
-use native.Mathlib.Decide.{decLt}
 use mathlib.Core.Path.{_≡_, refl, sym, ap, _∙_}
 use mathlib.Core.Bool.{Bool, true, false}
-use mathlib.Core.List.{List, [], _∷_, _++_, List·Memᴰ·head}
-use lib.ListN.{length, getD, drop, replicate, length-replicate}
+use mathlib.Core.List.{List, [], _∷_}
+use lib.ListN.{length}
 use Rattle.refusals.specs.Run.{run-refusals}
 use Rattle.steps.specs.Run.{Goal, End}
 use Rattle.steps.specs.Counting.{Exactly}
-use Rattle.steps.proofs.Counting.{exactly-map, exactly-long, rising-distinct}
 use Rattle.steps.proofs.AcceptanceLaws.{AcceptedWords, start-accepted}
 use Rattle.steps.specs.State.{State}
 use Rattle.steps.proofs.EachBelow.{true-not-false}
@@ -20,7 +18,7 @@ use Rattle.records.proofs.Growth.{Tables, tables}
 use Rattle.tabling.proofs.Evidence.{Among}
 use Rattle.tabling.proofs.Closed.{Whole}
 use Rattle.tabling.proofs.RunTables.{outgrown-run}
-use Rattle.invariants.proofs.Tabulated.{Tabulated, KeptTables, in-tables}
+use Rattle.invariants.proofs.Tabulated.{Tabulated, in-tables}
 use Rattle.canonical.specs.Rows.{call-words, answer-words, filled}
 use Rattle.canonical.proofs.Beginning.{Begins}
 use Rattle.canonical.proofs.Words.{Worded, over-words}
@@ -28,11 +26,11 @@ use Rattle.canonical.proofs.AfterRounds.{calls-once}
 use Rattle.canonical.proofs.CodeRounds.{over-rows}
 use Rattle.canonical.specs.CallList.{call-list}
 use Rattle.records.proofs.Numbers.{proper-of}
-use Rattle.finals.specs.Finals.{finals-below, CallFinals}
+use Rattle.finals.specs.Finals.{CallFinals}
 use Rattle.listing.specs.Listing.{CallsListed}
 use Rattle.evaluator.specs.Evaluated.{Asked, Lent, lent, told, refused-with, run-asked, CallListShort, rows-asked, buffers-after, Tabled, Evaluated, short-list, ends-listed}
 use Rattle.evaluator.proofs.CallNumbers.{listed-is}
-use Rattle.evaluator.proofs.Finishing.{finished, not-full, goal-ends, ends-exactly}
+use Rattle.evaluator.proofs.Finishing.{finished, not-full, found-ends, listed-ends, listed-many, listed-words}
 
 -- the goal's call, put into empty tables, stands alone
 pub first-begins : {start : State} (places : ℕ) (calls calls′ : Calls) (answers : Answers) (row : ℕ) (full : Bool) → CallPut places calls Goal start 0 calls′ row full → full ≡ false
@@ -102,24 +100,12 @@ module _ (q : Asked) (before : Lent) (ok : refused-with q ≡ 0) (long : ¬ Call
     }
 
     module _ {k : ℕ} {ends : List ℕ} (found : CallFinals (call-table calls n) (answer-table answers m) Goal (q .start) k (before .ends) ends) where
-      abbrev row : ℕ
-      row = found .row
-
-      -- the record found is the goal's
-      goal-row : (row < n) × CallAt (call-table calls n) row Goal (q .start)
-      goal-row =
-          let (i, l, c) = whole .valid .roots Goal (q .start) (List·Memᴰ·head refl) in
-          elim (decLt row n) [ yes h ↦ (h, found .sought .found h) | no j ↦ absurd (found .sought .absent (omega arith) i l c) ]
-
-      abbrev finals : List ℕ
-      finals = finals-below (answer-table answers m) row m
-
-      exactly : Exactly (End (run-asked q)) finals
-      exactly = ends-exactly (q .rules) (q .goal) (q .start) acc calls n answers m (F .kept e) whole row (goal-row .0) (goal-row .1)
+      abbrev t : Tables
+      t = in-tables calls n answers m
 
       -- 31
       pub is-short : length (before .ends) < k → Evaluated q before (lent calls answers ends list) (told (run-refusals .list-short) k n m rounds)
-      is-short l = short-list refl (ran ends finals (run-refusals .list-short) k exactly (sym (found .counted))) l
+      is-short l = short-list refl (ran ends _ (run-refusals .list-short) k (found-ends (q .rules) (q .goal) (q .start) acc t whole found) (sym (found .counted))) l
           (words-are ends ∙ ap (buffers-after q rounds before) (found .short l))
 
       -- no refusal
@@ -127,8 +113,7 @@ module _ (q : Asked) (before : Lent) (ok : refused-with q ≡ 0) (long : ¬ Call
       unfolding ran
       is-listed l =
           let L = found .listed l in
-          let held = goal-ends (q .rules) (q .goal) (q .start) acc calls n answers m (F .kept e) whole row (goal-row .0) (goal-row .1) in
-          let x : Exactly (End (run-asked q)) (L .finals) = exactly-map held (record { once = rising-distinct (L .rising); members = L .members }) in
-          let c : length (L .finals) ≡ k = exactly-long x exactly ∙ sym (found .counted) in
+          let x = listed-ends (q .rules) (q .goal) (q .start) acc t whole found L in
+          let c = listed-many (q .rules) (q .goal) (q .start) acc t whole found L in
           ends-listed refl (ran ends (L .finals) 0 k x c) l (L .rising)
-          (words-are ends ∙ ap (buffers-after q rounds before) (L .is ∙ ap (λ (j : ℕ). L .finals ++ drop j (before .ends)) c))
+          (words-are ends ∙ ap (buffers-after q rounds before) (listed-words (q .rules) (q .goal) (q .start) acc t whole found L))

@@ -89,7 +89,7 @@ fn tabulate<'a>(
         × (r .full ≡ false → CallFinals (call-table (now (calls .exit)) (r .calls)) (answer-table (now (answers .exit)) (r .answers)) Goal start
         (r .ends) (now (ends .entry)) (now (ends .exit))) ⌝ }
 {
-    let put = index::add_call(calls, 0, list, Call::goal(start), 0);
+    let put = index::add_new(calls, 0, list, Call::goal(start), 0);
     let count = put.count;
     if put.full {
         return Outcome {

@@ -13,7 +13,7 @@ ghost use mathlib.Core.List.{List};
 ghost use Prim.Native.Nat.{ℕ, _+_, _*_, _/_, _<_, _≤_};
 ghost use lib.ListN.{length, getD};
 ghost use Rattle.records.specs.Records.{room, call-width};
-ghost use Rattle.records.specs.Storage.{FindCall, FindAnswer, NextAnswer, CallPut, AnswerPut};
+ghost use Rattle.records.specs.Storage.{NoCall, FindCall, FindAnswer, NextAnswer, CallPut, AnswerPut};
 ghost use Rattle.desk.specs.Desk.{CallsOpen, AnswersOpen, open-calls, packed-answers, packed-width, round-top};
 ghost use Rattle.index.specs.Index.{buckets, bucket, Keyed, keys-in, OfRow, CallIndex, AnswerIndex, answer-notes};
 ghost use Rattle.index.specs.Index.{Noted, Forgotten, LastOf, Joined, CallsKept, AnswersKept, AnswerNoted, Rechained, AnswersKeyed};
@@ -137,6 +137,32 @@ pub fn find_call(calls: &[u64], n: usize, list: &[u64], call: Call) -> usize
     )
 }
 
+// One call record more, with its round, of a call that has none yet; it is noted in the index. Or the table is full.
+pub fn add_new(calls: &mut [u64], n: usize, list: &mut [u64], call: Call, round: u64) -> Put
+    requires { ⌜ CallsOpen (now calls) (now list) n × CallIndex (now calls) (now list) n × (call .action < 256) × (round < round-top) ⌝ }
+    requires { ⌜ NoCall (open-calls (now calls) n) (call .action) (call .state .0) ⌝ }
+    ensures { λ r. ⌜ CallPut (room call-width (length (now (calls .entry)))) (open-calls (now (calls .entry)) n) (call .action) (call .state .0) round
+        (open-calls (now (calls .exit)) (r .count)) (r .row) (r .full) ⌝ }
+    ensures { λ r. ⌜ CallsOpen (now (calls .exit)) (now (list .exit)) (r .count) × CallIndex (now (calls .exit)) (now (list .exit)) (r .count) ⌝ }
+    ensures { λ _. ⌜ CallsKept (now (calls .entry)) (now (list .entry)) (now (calls .exit)) (now (list .exit)) ⌝ }
+{
+    let most = tables::room_of(calls.len(), tables::CALL_WORDS);
+    if n < most {
+        note(list, 0, bucket(most, call.action, call.state.0), n);
+        desk::put_call(calls, n, call, round);
+        return Put {
+            row: n,
+            count: n + 1,
+            full: false,
+        };
+    }
+    Put {
+        row: 0,
+        count: n,
+        full: true,
+    }
+}
+
 // The record of the call, which is added to the table with its round and noted in the index if there is none.
 pub fn add_call(calls: &mut [u64], n: usize, list: &mut [u64], call: Call, round: u64) -> Put
     requires { ⌜ CallsOpen (now calls) (now list) n × CallIndex (now calls) (now list) n × (call .action < 256) × (round < round-top) ⌝ }
@@ -153,21 +179,7 @@ pub fn add_call(calls: &mut [u64], n: usize, list: &mut [u64], call: Call, round
             full: false,
         };
     }
-    let most = tables::room_of(calls.len(), tables::CALL_WORDS);
-    if n < most {
-        note(list, 0, bucket(most, call.action, call.state.0), n);
-        desk::put_call(calls, n, call, round);
-        return Put {
-            row: n,
-            count: n + 1,
-            full: false,
-        };
-    }
-    Put {
-        row: 0,
-        count: n,
-        full: true,
-    }
+    add_new(calls, n, list, call, round)
 }
 
 // Takes the call records from n0 up to n out of heads and links, the latest first. The rest of the list stays.

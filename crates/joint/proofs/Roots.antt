@@ -111,3 +111,14 @@ module _ {bodies : Bodies} (proper : Proper bodies) {roots : List (ℕ × State)
   pub root-full : (stands : Bool) (m : ℕ) → RootPut stands places calls a D calls′ row full → full ≡ true → Outgrown bodies (Among (roots ++ root-if stands a D)) places m
   root-full true m p e = call-over m (p .put refl) e
   root-full false m p e = absurd (true-not-false (sym e ∙ p .spared refl .0))
+
+-- Where the first root alone is put in, no other call has a record.
+module _ {places : ℕ} {calls : Calls} (none : calls .count ≡ 0) {a : ℕ} {D : State} {calls′ : Calls} {row : ℕ} {full : Bool} (b : ℕ) (E : State) (other : b ≡ a → ⊥) where
+  call-alone : CallPut places calls a D 0 calls′ row full → NoCall calls′ b E
+  call-alone (call-stood f l k z) = absurd (omega (arith, l, none))
+  call-alone (call-added f i l n p) = λ x h k. (let z : x ≡ calls .count = omega (arith, h, p .count, none) in other (sym (k .has-action) ∙ rw z (p .new .has-action)))
+  call-alone (call-no-room f i n z) = rw z (λ x h k. absurd (omega (arith, h, none)))
+
+  pub root-alone : (stands : Bool) → RootPut stands places calls a D calls′ row full → NoCall calls′ b E
+  root-alone true p = call-alone (p .put refl)
+  root-alone false p = rw (p .spared refl .1) (λ x h k. absurd (omega (arith, h, none)))

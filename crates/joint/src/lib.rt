@@ -11,6 +11,7 @@ use steps::state::State;
 ghost use Prim.Native.Nat.{_*_, _<_, _≤_};
 ghost use lib.ListN.{length};
 ghost use Rattle.records.specs.Records.{room, call-width};
+ghost use Rattle.records.specs.Storage.{NoCall};
 ghost use Rattle.records.specs.Bodies.{bodies-with};
 ghost use Rattle.desk.specs.Desk.{open-calls, open-width, CallsOpen};
 ghost use Rattle.index.specs.Index.{CallIndex, CallsKept};
@@ -24,16 +25,17 @@ pub struct Rows {
     pub answers: usize,
 }
 
-// Puts the call in as a root, if its goal stands. A root has come in no round.
+// Puts the call in as a root, if its goal stands: no record is one of it yet. A root has come in no round.
 fn add_root(stands: bool, call: Call, calls: &mut [u64], n: usize, list: &mut [u64]) -> Put
     requires { ⌜ CallsOpen (now calls) (now list) n × CallIndex (now calls) (now list) n × (call .action < 256) ⌝ }
+    requires { ⌜ NoCall (open-calls (now calls) n) (call .action) (call .state .0) ⌝ }
     ensures { λ r. ⌜ RootPut stands (room call-width (length (now (calls .entry)))) (open-calls (now (calls .entry)) n)
         (call .action) (call .state .0) (open-calls (now (calls .exit)) (r .count)) (r .row) (r .full) ⌝ }
     ensures { λ r. ⌜ CallsOpen (now (calls .exit)) (now (list .exit)) (r .count) × CallIndex (now (calls .exit)) (now (list .exit)) (r .count) ⌝ }
     ensures { λ _. ⌜ CallsKept (now (calls .entry)) (now (list .entry)) (now (calls .exit)) (now (list .exit)) ⌝ }
 {
     if stands {
-        return index::add_call(calls, n, list, call, 0);
+        return index::add_new(calls, n, list, call, 0);
     }
     Put {
         row: 0,

@@ -1,7 +1,7 @@
 -- The path's answer by its cases, and what no fault means. Assumes nothing.
 use Prim.Native.Nat.{ℕ, _+_, _<_, _≤_}
 use native.Mathlib.Omega.{arith}
-use mathlib.Core.Path.{_≡_, refl, sym, _∙_}
+use mathlib.Core.Path.{_≡_, refl, sym, subst}
 use mathlib.Core.Bool.{Bool, true, false, cond, not}
 use mathlib.Core.List.{List, _∷_}
 use mathlib.Core.Logic.{_≢_}
@@ -15,12 +15,14 @@ use Rattle.steps.proofs.EachBelow.{each-at}
 use Rattle.steps.proofs.AcceptanceLaws.{accepted}
 use Rattle.records.specs.Records.{justified}
 use Rattle.checks.specs.Checks.{over-room, all-justified, bad-records}
+use Rattle.checks.proofs.RoomLaws.{within, short}
 use Rattle.checks.proofs.RecordLaws.{Proper, never-bad}
-use Rattle.unfolding.proofs.Walk.{Checked, start-at, added-by}
+use Rattle.unfolding.proofs.Walk.{Lent, lent, Checked, start-at, added-by}
 use Rattle.unfolding.proofs.Writing.{PathListed}
-use Rattle.unfolding.proofs.Checking.{checked, records-justified, path-added}
+use Rattle.unfolding.proofs.Checking.{checked-by, records-justified, path-added}
 use Rattle.unfolding.proofs.Soundness.{Executed, executed}
 use Rattle.path.specs.Answered.{Handed, call-records, answer-records, bodies, states-of, fault, too-short, path-refusal, state-count, list-after, Answered}
+use Rattle.path.proofs.Told.{Told, told-fault, told-short, told-listed}
 
 words-not-42 : (fluents actions : ℕ) (rules goal : List ℕ) → words-refusal fluents actions rules goal ≢ path-refusals .bad-record
 unfolding words-refusal
@@ -82,10 +84,17 @@ module _ (l : Handed) (x : ℕ) where
       by true false true true p q r s z = absurd (omega arith)
       by true false true false p q r s z = record { good-words = eqb-true words 0 p; in-room = q; in-table = ltb-true x (l .answer-count) r; right = s }
 
-  pub walkable : fault l x ≡ 0 → Checked (l .rules) (l .goal) (l .calls) (l .answers) (x + 1)
+  -- What is lent to be walked: a run alone has no second goal, and its own stands for it.
+  abbrev pub it : Lent
+  it = lent false (l .rules) (l .goal) (l .goal) (l .calls) (l .answers)
+
+  pub walkable : fault l x ≡ 0 → Checked it (x + 1)
   walkable e =
       let s = sane e in
-      checked (l .fluents) (l .actions) (l .rules) (l .goal) (l .calls) (l .call-count) (l .answers) (l .answer-count) x (s .good-words) (s .in-room) (s .right) (s .in-table)
+      let w = within (l .calls) (l .call-count) (l .answers) (l .answer-count) (s .in-room) in
+      let g = short (l .fluents) (l .actions) (l .rules) (l .goal) (s .good-words) in
+      checked-by it (l .call-count) (l .answer-count) (bodies l) (λ i a. refl) x (λ i a h. (a, h)) g g (w .calls-fit) (w .answers-most) (w .answers-fit)
+      (records-justified (l .fluents) (l .actions) (bodies l) (call-records l) (answer-records l) (s .right)) (s .in-table)
 
   -- where there is no fault the path is an execution of the logic
   pub path-executed : fault l x ≡ 0 → Executed (l .rules) (l .goal) (call-records l) (answer-records l) x
@@ -99,49 +108,31 @@ module _ (l : Handed) (x : ℕ) where
   -- ---- the answer
 
   module _ (list : List ℕ) where
+    answered : {refusal states : ℕ} {list′ : List ℕ} → Told (fault l x) (states-of l x) list refusal states list′ → Answered l x list refusal states list′
+    unfolding path-refusal too-short state-count list-after
+    answered t = record { the-refusal = t .the-refusal; the-count = t .the-count; the-list = t .the-list }
+
     pub refused : (f : ℕ) → f ≡ fault l x → f ≢ 0 → Answered l x list f 0 list
-    unfolding path-refusal state-count list-after
-    refused f e n =
-        let z : eqb (fault l x) 0 ≡ false = ne-eqb (fault l x) 0 (λ h. n (e ∙ h)) in
-        record { the-refusal = rw z e; the-count = rw (z, z) refl; the-list = rw (z, z) refl }
+    refused f e n = answered (told-fault f (fault l x) (states-of l x) list e n)
 
     abbrev path : List ℕ
-    path = start-at (l .calls) (l .answers) x ∷ added-by (l .rules) (l .goal) (l .calls) (l .answers) x
+    path = start-at it x ∷ added-by it x
 
     same : states-of l x ≡ path
-    same = path-added (l .rules) (l .goal) (l .calls) (l .call-count) (l .answers) (l .answer-count) x
+    same = path-added it (l .call-count) (l .answer-count) (bodies l) (λ i a. refl) x
+
+    some : 0 < length (states-of l x)
+    some = rw same (omega arith)
 
     module _ (none : fault l x ≡ 0) (count : ℕ) (list′ : List ℕ) (listed : PathListed path (length list) list count list′) where
-      abbrev short : Bool
-      short = ltb (length list) (length path)
-
-      short-is : too-short l x list ≡ short
-      unfolding too-short
-      short-is = rw same refl
-
-      refusal-is : (b : Bool) → short ≡ b → path-refusal l x list ≡ cond b (path-refusals .states-short) 0
-      unfolding path-refusal
-      refusal-is b e = rw (eq-eqb (fault l x) 0 none, short-is, e) refl
+      there : PathListed (states-of l x) (length list) list count list′
+      there = subst (λ (p : List ℕ). PathListed p (length list) list count list′) (sym same) listed
 
       pub too-few : count ≡ 0 → Answered l x list (path-refusals .states-short) 0 list′
-      unfolding state-count list-after
-      too-few z = by short refl
-        where
-          by : (b : Bool) → short ≡ b → Answered l x list (path-refusals .states-short) 0 list′
-          by true e = record { the-refusal = sym (refusal-is true e); the-count = rw (refusal-is true e) refl; the-list = rw (refusal-is true e) (rw e at (listed .the-list)) }
-          by false e = let n : count ≡ length path = rw e at (listed .the-count) in absurd (omega arith)
+      too-few z = answered (told-short (fault l x) (states-of l x) list none some there z)
 
       pub listed-all : count ≢ 0 → Answered l x list 0 count list′
-      unfolding state-count list-after
-      listed-all n = by short refl
-        where
-          by : (b : Bool) → short ≡ b → Answered l x list 0 count list′
-          by true e = let z : count ≡ 0 = rw e at (listed .the-count) in absurd (n z)
-          by false e = record {
-            the-refusal = sym (refusal-is false e);
-            the-count = rw (refusal-is false e, same) (rw e at (listed .the-count));
-            the-list = rw (refusal-is false e, same) (rw e at (listed .the-list));
-          }
+      listed-all n = answered (told-listed (fault l x) (states-of l x) list none some there n)
 
     -- what an evaluation leaves is never refused with 42
     pub never-42 : ((i : ℕ) → i < l .call-count → Proper (l .fluents) (l .actions) (call-records l) i)

@@ -1,9 +1,9 @@
 // How many states a record with a long path adds: down the evidence, a record whose size is below the cap at once.
 use crate::frames::Stop;
 use crate::frames::turn;
+use crate::walk::evidence_of;
 use crate::walk::shown;
 use crate::walk::steps_of;
-use records::tables;
 use steps::word::is_call;
 ghost use mathlib.Core.Path.{_≡_};
 ghost use mathlib.Core.Bool.{true};
@@ -11,7 +11,7 @@ ghost use Prim.Native.Nat.{ℕ, _+_, _≤_, _<_, _^_};
 ghost use lib.ListN.{length};
 ghost use Rattle.cells.specs.Numbers.{numbers};
 ghost use Rattle.steps.specs.Inner.{is-call};
-ghost use Rattle.unfolding.proofs.Walk.{Checked, added-by, words-at};
+ghost use Rattle.unfolding.proofs.Walk.{lent, Checked, added-by, words-at};
 ghost use Rattle.unfolding.proofs.Sizes.{Sized, size-of};
 ghost use Rattle.unfolding.proofs.Frames.{Stopped, Tallied};
 
@@ -28,8 +28,10 @@ fn size_by(step: u16, used: u64, sizes: &[u8]) -> usize
 
 // Counts from a step of record n on to the next call of a record whose size is at the cap, or to its end.
 fn tally<'a>(
+    plain: bool,
     rules: &'a [u16],
     goal: &'a [u16],
+    second: &'a [u16],
     calls: &[u64],
     answers: &[u64],
     n: usize,
@@ -38,17 +40,17 @@ fn tally<'a>(
     sizes: &[u8],
     cap: usize,
 ) -> Stop
-    requires { ⌜ Checked (now rules) (now goal) (now calls) (now answers) (n + 1) × (n ≤ length (numbers (now sizes)))
-        × (1 < cap) × (cap < 2 ^ 24) × Sized (added-by (now rules) (now goal) (now calls) (now answers)) (numbers (now sizes)) n cap
-        × (step ≤ length (words-at (now rules) (now goal) (now answers) n)) × (found < 2 ^ 61) ⌝ }
-    ensures { λ r. ⌜ Stopped (now (rules .entry)) (now (goal .entry)) (now (calls .entry)) (now (answers .entry)) n step (r .step) (r .to)
-        × Tallied (now (rules .entry)) (now (goal .entry)) (now (calls .entry)) (now (answers .entry)) n step found (r .step) (r .found) ⌝ }
+    requires { let it = lent plain (now rules) (now goal) (now second) (now calls) (now answers) in
+        ⌜ Checked it (n + 1) × (n ≤ length (numbers (now sizes))) × (1 < cap) × (cap < 2 ^ 24) × Sized (added-by it) (numbers (now sizes)) n cap
+        × (step ≤ length (words-at it n)) × (found < 2 ^ 61) ⌝ }
+    ensures { λ r. let it = lent plain (now (rules .entry)) (now (goal .entry)) (now (second .entry)) (now (calls .entry)) (now (answers .entry)) in
+        ⌜ Stopped it n step (r .step) (r .to) × Tallied it n step found (r .step) (r .found) ⌝ }
 {
-    let steps = steps_of(rules, goal, answers, n);
+    let steps = steps_of(plain, rules, goal, second, calls, answers, n);
     let mut q = step;
     let mut sum = found;
     while q < steps.len() {
-        let used = tables::evidence_of(answers, tables::ANSWER_WORDS, n, q);
+        let used = evidence_of(plain, answers, n, q);
         let size = size_by(steps[q], used, sizes);
         if cap <= size {
             return Stop {
@@ -69,8 +71,10 @@ fn tally<'a>(
 
 // How many states the asked record adds; where they are `most` or more, some number from `most` on that is not over.
 pub fn count<'a>(
+    plain: bool,
     rules: &'a [u16],
     goal: &'a [u16],
+    second: &'a [u16],
     calls: &[u64],
     answers: &[u64],
     asked: usize,
@@ -79,19 +83,31 @@ pub fn count<'a>(
     cap: usize,
     frames: &mut [u8],
 ) -> usize
-    requires { ⌜ Checked (now rules) (now goal) (now calls) (now answers) (asked + 1) × (asked < length (numbers (now sizes)))
-        × (asked < length (numbers (now frames))) × (0 < most) × (most < 2 ^ 61) × (1 < cap) × (cap < 2 ^ 24)
-        × Sized (added-by (now rules) (now goal) (now calls) (now answers)) (numbers (now sizes)) (asked + 1) cap ⌝ }
-    ensures { λ r. ⌜ (length (numbers (now (frames .exit))) ≡ length (numbers (now (frames .entry))))
-        × (r ≤ length (added-by (now (rules .entry)) (now (goal .entry)) (now (calls .entry)) (now (answers .entry)) asked))
-        × (r < most → r ≡ length (added-by (now (rules .entry)) (now (goal .entry)) (now (calls .entry)) (now (answers .entry)) asked)) ⌝ }
+    requires { let it = lent plain (now rules) (now goal) (now second) (now calls) (now answers) in
+        ⌜ Checked it (asked + 1) × (asked < length (numbers (now sizes))) × (asked < length (numbers (now frames))) × (0 < most)
+        × (most < 2 ^ 61) × (1 < cap) × (cap < 2 ^ 24) × Sized (added-by it) (numbers (now sizes)) (asked + 1) cap ⌝ }
+    ensures { λ r. let it = lent plain (now (rules .entry)) (now (goal .entry)) (now (second .entry)) (now (calls .entry)) (now (answers .entry)) in
+        ⌜ (length (numbers (now (frames .exit))) ≡ length (numbers (now (frames .entry)))) × (r ≤ length (added-by it asked))
+        × (r < most → r ≡ length (added-by it asked)) ⌝ }
 {
     let mut n = asked;
     let mut step = 0;
     let mut depth = 0;
     let mut found = 0;
     loop {
-        let stop = tally(rules, goal, calls, answers, n, step, found, sizes, cap);
+        let stop = tally(
+            plain,
+            rules,
+            goal,
+            second,
+            calls,
+            answers,
+            n,
+            step,
+            found,
+            sizes,
+            cap,
+        );
         found = stop.found;
         if most <= found {
             return found;

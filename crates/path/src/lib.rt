@@ -6,7 +6,7 @@
 mod count;
 mod frames;
 mod link;
-mod list;
+pub mod list;
 pub mod outcome;
 mod place;
 mod size;
@@ -97,7 +97,17 @@ pub fn path<'a>(
         };
     }
     let most = states.len();
-    let listed = list::list_states(rules, goal, calls, answers, record as usize, most, states);
+    let listed = list::list_states(
+        false,
+        rules,
+        goal,
+        goal,
+        calls,
+        answers,
+        record as usize,
+        most,
+        states,
+    );
     if listed == 0 {
         return Path {
             refusal: refusals::STATES_SHORT,

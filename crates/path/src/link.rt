@@ -1,8 +1,8 @@
 // What each record stands for in a long path: a record that adds no state is passed over, and one whose states are all those of a record that it
 // uses, by one call, stands for that one. So a walk down the evidence takes no way at which it writes nothing.
+use crate::walk::evidence_of;
 use crate::walk::shown;
 use crate::walk::steps_of;
-use records::tables;
 use steps::word::is_call;
 ghost use mathlib.Core.Path.{_≡_};
 ghost use mathlib.Core.Bool.{true};
@@ -10,7 +10,7 @@ ghost use Prim.Native.Nat.{_+_, _≤_, _<_};
 ghost use lib.ListN.{length};
 ghost use Rattle.cells.specs.Numbers.{numbers};
 ghost use Rattle.steps.specs.Inner.{is-call};
-ghost use Rattle.unfolding.proofs.Walk.{Checked, added-by};
+ghost use Rattle.unfolding.proofs.Walk.{lent, Checked, added-by};
 ghost use Rattle.unfolding.proofs.Leads.{Lead, Led, StepLead, Together};
 
 // What a step stands for: 0 if it adds nothing, one more than a record that adds the same, or `own` if it is an update.
@@ -42,22 +42,25 @@ fn together(first: usize, second: usize, own: usize) -> usize
 
 // What record n stands for: 0 if it adds nothing, or one more than the record.
 fn lead<'a>(
+    plain: bool,
     rules: &'a [u16],
     goal: &'a [u16],
+    second: &'a [u16],
     calls: &[u64],
     answers: &[u64],
     n: usize,
     leads: &[u8],
 ) -> usize
-    requires { ⌜ Checked (now rules) (now goal) (now calls) (now answers) (n + 1) × (n ≤ length (numbers (now leads)))
-        × Led (added-by (now rules) (now goal) (now calls) (now answers)) (numbers (now leads)) n ⌝ }
-    ensures { λ r. ⌜ Lead (added-by (now (rules .entry)) (now (goal .entry)) (now (calls .entry)) (now (answers .entry))) n r ⌝ }
+    requires { let it = lent plain (now rules) (now goal) (now second) (now calls) (now answers) in
+        ⌜ Checked it (n + 1) × (n ≤ length (numbers (now leads))) × Led (added-by it) (numbers (now leads)) n ⌝ }
+    ensures { λ r. let it = lent plain (now (rules .entry)) (now (goal .entry)) (now (second .entry)) (now (calls .entry)) (now (answers .entry)) in
+        ⌜ Lead (added-by it) n r ⌝ }
 {
-    let steps = steps_of(rules, goal, answers, n);
+    let steps = steps_of(plain, rules, goal, second, calls, answers, n);
     let mut to = 0;
     let mut q = 0;
     while q < steps.len() {
-        let used = tables::evidence_of(answers, tables::ANSWER_WORDS, n, q);
+        let used = evidence_of(plain, answers, n, q);
         let next = step_lead(steps[q], used, n + 1, leads);
         to = together(to, next, n + 1);
         q += 1;
@@ -67,21 +70,23 @@ fn lead<'a>(
 
 // Fills `leads` with what each of the first `count` records stands for.
 pub fn lead_all<'a>(
+    plain: bool,
     rules: &'a [u16],
     goal: &'a [u16],
+    second: &'a [u16],
     calls: &[u64],
     answers: &[u64],
     count: usize,
     leads: &mut [u8],
 )
-    requires { ⌜ Checked (now rules) (now goal) (now calls) (now answers) count × (count ≤ length (numbers (now leads))) ⌝ }
-    ensures { λ _. ⌜ (length (numbers (now (leads .exit))) ≡ length (numbers (now (leads .entry))))
-        × Led (added-by (now (rules .entry)) (now (goal .entry)) (now (calls .entry)) (now (answers .entry)))
-        (numbers (now (leads .exit))) count ⌝ }
+    requires { let it = lent plain (now rules) (now goal) (now second) (now calls) (now answers) in
+        ⌜ Checked it count × (count ≤ length (numbers (now leads))) ⌝ }
+    ensures { λ _. let it = lent plain (now (rules .entry)) (now (goal .entry)) (now (second .entry)) (now (calls .entry)) (now (answers .entry)) in
+        ⌜ (length (numbers (now (leads .exit))) ≡ length (numbers (now (leads .entry)))) × Led (added-by it) (numbers (now (leads .exit))) count ⌝ }
 {
     let mut n = 0;
     while n < count {
-        let to = lead(rules, goal, calls, answers, n, leads);
+        let to = lead(plain, rules, goal, second, calls, answers, n, leads);
         cells::put(leads, n, to);
         n += 1;
     }

@@ -2,6 +2,7 @@
 use crate::frames::Stop;
 use crate::frames::turn;
 use crate::walk::after;
+use crate::walk::evidence_of;
 use crate::walk::shown;
 use crate::walk::start;
 use crate::walk::steps_of;
@@ -15,7 +16,7 @@ ghost use Rattle.cells.specs.Numbers.{numbers};
 ghost use Rattle.steps.specs.Inner.{is-call};
 ghost use Rattle.steps.specs.Words.{step-of};
 ghost use Rattle.unfolding.specs.Path.{shown};
-ghost use Rattle.unfolding.proofs.Walk.{Checked, added-by, words-at};
+ghost use Rattle.unfolding.proofs.Walk.{lent, Checked, added-by, words-at};
 ghost use Rattle.unfolding.proofs.Rests.{Fresh, rest, state-at};
 ghost use Rattle.unfolding.proofs.Frames.{Stopped};
 ghost use Rattle.unfolding.proofs.Leads.{Led, CallLead};
@@ -23,22 +24,25 @@ ghost use Rattle.unfolding.proofs.Unrolling.{Put, Ran};
 
 // The state of record n before step q: its call's, or what the call before that step ended in.
 fn state_before(
+    plain: bool,
     rules: &[u16],
     goal: &[u16],
+    second: &[u16],
     calls: &[u64],
     answers: &[u64],
     n: usize,
     q: usize,
 ) -> u64
-    requires { ⌜ Checked (now rules) (now goal) (now calls) (now answers) (n + 1) × Fresh (now rules) (now goal) (now answers) n q
-        × (q ≤ 16) ⌝ }
-    ensures { λ s. ⌜ s ≡ state-at (now (rules .entry)) (now (goal .entry)) (now (calls .entry)) (now (answers .entry)) n q ⌝ }
+    requires { let it = lent plain (now rules) (now goal) (now second) (now calls) (now answers) in
+        ⌜ Checked it (n + 1) × Fresh it n q × (q ≤ 16) ⌝ }
+    ensures { λ s. let it = lent plain (now (rules .entry)) (now (goal .entry)) (now (second .entry)) (now (calls .entry)) (now (answers .entry)) in
+        ⌜ s ≡ state-at it n q ⌝ }
 {
     if q == 0 {
-        return start(calls, answers, n);
+        return start(plain, calls, answers, n);
     }
-    let used = tables::evidence_of(answers, tables::ANSWER_WORDS, n, q - 1);
-    tables::final_of(answers, tables::ANSWER_WORDS, used as usize).0
+    let used = evidence_of(plain, answers, n, q - 1);
+    tables::final_of(answers, tables::answer_width(plain), used as usize).0
 }
 
 // What a call stands for; 0 for any other step.
@@ -67,8 +71,10 @@ fn show(step: u16, state: u64, at: usize, list: &mut [u64]) -> usize
 
 // Writes from a step of record n on, to the next call that adds states or to its end.
 fn run<'a>(
+    plain: bool,
     rules: &'a [u16],
     goal: &'a [u16],
+    second: &'a [u16],
     calls: &[u64],
     answers: &[u64],
     n: usize,
@@ -77,21 +83,19 @@ fn run<'a>(
     leads: &[u8],
     list: &mut [u64],
 ) -> Stop
-    requires { ⌜ Checked (now rules) (now goal) (now calls) (now answers) (n + 1) × (n ≤ length (numbers (now leads)))
-        × Led (added-by (now rules) (now goal) (now calls) (now answers)) (numbers (now leads)) n
-        × Fresh (now rules) (now goal) (now answers) n step × (step ≤ length (words-at (now rules) (now goal) (now answers) n))
-        × (found + length (rest (now rules) (now goal) (now calls) (now answers) n step) ≤ length (now list)) ⌝ }
-    ensures { λ r. ⌜ Stopped (now (rules .entry)) (now (goal .entry)) (now (calls .entry)) (now (answers .entry)) n step (r .step) (r .to)
-        × Ran (now (rules .entry)) (now (goal .entry)) (now (calls .entry)) (now (answers .entry)) n step found (r .step) (r .found)
-        (now (list .entry)) (now (list .exit)) ⌝ }
+    requires { let it = lent plain (now rules) (now goal) (now second) (now calls) (now answers) in
+        ⌜ Checked it (n + 1) × (n ≤ length (numbers (now leads))) × Led (added-by it) (numbers (now leads)) n × Fresh it n step
+        × (step ≤ length (words-at it n)) × (found + length (rest it n step) ≤ length (now list)) ⌝ }
+    ensures { λ r. let it = lent plain (now (rules .entry)) (now (goal .entry)) (now (second .entry)) (now (calls .entry)) (now (answers .entry)) in
+        ⌜ Stopped it n step (r .step) (r .to) × Ran it n step found (r .step) (r .found) (now (list .entry)) (now (list .exit)) ⌝ }
 {
-    let steps = steps_of(rules, goal, answers, n);
-    let mut state = state_before(rules, goal, calls, answers, n, step);
+    let steps = steps_of(plain, rules, goal, second, calls, answers, n);
+    let mut state = state_before(plain, rules, goal, second, calls, answers, n, step);
     let mut q = step;
     let mut at = found;
     while q < steps.len() {
         let word = steps[q];
-        let used = tables::evidence_of(answers, tables::ANSWER_WORDS, n, q);
+        let used = evidence_of(plain, answers, n, q);
         let to = call_lead(word, used, leads);
         if to != 0 {
             return Stop {
@@ -100,7 +104,7 @@ fn run<'a>(
                 to: to,
             };
         }
-        state = after(word, state, used, n, calls, answers);
+        state = after(plain, word, state, used, n, calls, answers);
         at = show(word, state, at, list);
         q += 1;
     }
@@ -113,8 +117,10 @@ fn run<'a>(
 
 // Writes what the asked record adds behind the first state.
 pub fn unroll<'a>(
+    plain: bool,
     rules: &'a [u16],
     goal: &'a [u16],
+    second: &'a [u16],
     calls: &[u64],
     answers: &[u64],
     asked: usize,
@@ -122,19 +128,30 @@ pub fn unroll<'a>(
     frames: &mut [u8],
     list: &mut [u64],
 )
-    requires { ⌜ Checked (now rules) (now goal) (now calls) (now answers) (asked + 1) × (asked < length (numbers (now leads)))
-        × (asked < length (numbers (now frames)))
-        × Led (added-by (now rules) (now goal) (now calls) (now answers)) (numbers (now leads)) (asked + 1)
-        × (length (added-by (now rules) (now goal) (now calls) (now answers) asked) < length (now list)) ⌝ }
-    ensures { λ _. ⌜ Put (added-by (now (rules .entry)) (now (goal .entry)) (now (calls .entry)) (now (answers .entry)) asked) 1
-        (now (list .entry)) (now (list .exit)) ⌝ }
+    requires { let it = lent plain (now rules) (now goal) (now second) (now calls) (now answers) in
+        ⌜ Checked it (asked + 1) × (asked < length (numbers (now leads))) × (asked < length (numbers (now frames)))
+        × Led (added-by it) (numbers (now leads)) (asked + 1) × (length (added-by it asked) < length (now list)) ⌝ }
+    ensures { λ _. let it = lent plain (now (rules .entry)) (now (goal .entry)) (now (second .entry)) (now (calls .entry)) (now (answers .entry)) in
+        ⌜ Put (added-by it asked) 1 (now (list .entry)) (now (list .exit)) ⌝ }
 {
     let mut n = asked;
     let mut step = 0;
     let mut depth = 0;
     let mut found = 1;
     loop {
-        let stop = run(rules, goal, calls, answers, n, step, found, leads, list);
+        let stop = run(
+            plain,
+            rules,
+            goal,
+            second,
+            calls,
+            answers,
+            n,
+            step,
+            found,
+            leads,
+            list,
+        );
         found = stop.found;
         if stop.to + depth == 0 {
             return;

@@ -1,8 +1,8 @@
 // The states of the records that have places, from the first record up: a call's states are copied from the place of the record that it uses.
+use crate::walk::evidence_of;
 use crate::walk::start;
 use crate::walk::steps_of;
 use crate::walk::take_step;
-use records::tables;
 use steps::word::is_call;
 ghost use mathlib.Core.Path.{_≡_};
 ghost use mathlib.Core.Bool.{true};
@@ -10,7 +10,7 @@ ghost use Prim.Native.Nat.{_+_, _≤_, _<_};
 ghost use lib.ListN.{length, getD};
 ghost use Rattle.cells.specs.Numbers.{numbers};
 ghost use Rattle.steps.specs.Inner.{is-call};
-ghost use Rattle.unfolding.proofs.Walk.{added-by};
+ghost use Rattle.unfolding.proofs.Walk.{lent, added-by};
 ghost use Rattle.unfolding.proofs.Lies.{Copied};
 ghost use Rattle.unfolding.proofs.Writing.{Stepped, Ready, Wrote, Written, Writable};
 
@@ -44,8 +44,10 @@ fn write_step(step: u16, from: usize, at: usize, size: usize, state: u64, list: 
 
 // Writes what record n adds at its place; the records below it are written.
 fn write<'a>(
+    plain: bool,
     rules: &'a [u16],
     goal: &'a [u16],
+    second: &'a [u16],
     calls: &[u64],
     answers: &[u64],
     n: usize,
@@ -53,20 +55,20 @@ fn write<'a>(
     offsets: &[u8],
     list: &mut [u64],
 )
-    requires { ⌜ Ready (now rules) (now goal) (now calls) (now answers) (numbers (now sizes)) (numbers (now offsets)) n (now list) ⌝ }
-    ensures { λ _. ⌜ Wrote (now (rules .entry)) (now (goal .entry)) (now (calls .entry)) (now (answers .entry))
-        (numbers (now (offsets .entry))) n (getD (numbers (now (offsets .entry))) n 0
-        + length (added-by (now (rules .entry)) (now (goal .entry)) (now (calls .entry)) (now (answers .entry)) n))
+    requires { let it = lent plain (now rules) (now goal) (now second) (now calls) (now answers) in
+        ⌜ Ready it (numbers (now sizes)) (numbers (now offsets)) n (now list) ⌝ }
+    ensures { λ _. let it = lent plain (now (rules .entry)) (now (goal .entry)) (now (second .entry)) (now (calls .entry)) (now (answers .entry)) in
+        ⌜ Wrote it (numbers (now (offsets .entry))) n (getD (numbers (now (offsets .entry))) n 0 + length (added-by it n))
         (now (list .entry)) (now (list .exit)) ⌝ }
 {
-    let steps = steps_of(rules, goal, answers, n);
-    let mut state = start(calls, answers, n);
+    let steps = steps_of(plain, rules, goal, second, calls, answers, n);
+    let mut state = start(plain, calls, answers, n);
     let mut at = cells::get(offsets, n);
     let mut q = 0;
     while q < steps.len() {
         let step = steps[q];
-        let used = tables::evidence_of(answers, tables::ANSWER_WORDS, n, q);
-        let t = take_step(step, state, used, n, calls, answers, sizes);
+        let used = evidence_of(plain, answers, n, q);
+        let t = take_step(plain, step, state, used, n, calls, answers, sizes);
         let from = cells::get(offsets, used as usize);
         write_step(step, from, at, t.size, t.state, list);
         at += t.size;
@@ -77,8 +79,10 @@ fn write<'a>(
 
 // Writes what the records up to the asked one add, each that has a place.
 pub fn write_all<'a>(
+    plain: bool,
     rules: &'a [u16],
     goal: &'a [u16],
+    second: &'a [u16],
     calls: &[u64],
     answers: &[u64],
     asked: usize,
@@ -86,15 +90,26 @@ pub fn write_all<'a>(
     offsets: &[u8],
     list: &mut [u64],
 )
-    requires { ⌜ Writable (now rules) (now goal) (now calls) (now answers) (numbers (now sizes)) (numbers (now offsets)) asked
-        (now list) ⌝ }
-    ensures { λ _. ⌜ Written (now (rules .entry)) (now (goal .entry)) (now (calls .entry)) (now (answers .entry))
-        (numbers (now (offsets .entry))) (asked + 1) (now (list .entry)) (now (list .exit)) ⌝ }
+    requires { let it = lent plain (now rules) (now goal) (now second) (now calls) (now answers) in
+        ⌜ Writable it (numbers (now sizes)) (numbers (now offsets)) asked (now list) ⌝ }
+    ensures { λ _. let it = lent plain (now (rules .entry)) (now (goal .entry)) (now (second .entry)) (now (calls .entry)) (now (answers .entry)) in
+        ⌜ Written it (numbers (now (offsets .entry))) (asked + 1) (now (list .entry)) (now (list .exit)) ⌝ }
 {
     let mut n = 0;
     while n <= asked {
         if cells::get(offsets, n) != 0 {
-            write(rules, goal, calls, answers, n, sizes, offsets, list);
+            write(
+                plain,
+                rules,
+                goal,
+                second,
+                calls,
+                answers,
+                n,
+                sizes,
+                offsets,
+                list,
+            );
         }
         n += 1;
     }

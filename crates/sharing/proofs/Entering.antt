@@ -16,7 +16,7 @@ use Rattle.steps.specs.Counting.{Exactly, Outnumbers}
 use Rattle.records.specs.Records.{room}
 use Rattle.evaluator.specs.Evaluated.{Asked, refused-with, run-asked}
 use Rattle.sharing.specs.Parties.{Party, first, second, Account, Ledger, account-of, entered, ledger-words, ledger-of}
-use Rattle.sharing.specs.Charged.{plain-call-width, plain-answer-width, CallAs, AnswerAs, run-held, Balanced, over-limits, over-rooms, Exceeds, AsKept}
+use Rattle.sharing.specs.Charged.{plain-call-width, plain-answer-width, CallAs, AnswerAs, run-held, Balanced, over-limits, over-rooms, Exceeds}
 use Rattle.sharing.specs.Shared.{Panel, Reply, book-refusal, gives-up, takes-up, AsKeptUnder, Entered, Alone, account}
 use Rattle.sharing.proofs.Ledgers.{ProperAccount, entered-proper, ledger-length, ledger-read}
 use Rattle.sharing.proofs.AsKept.{as-kept-by, vacant-goal, vacant-start}
@@ -27,7 +27,7 @@ use Rattle.sharing.proofs.Runs.{kept-proper, gives-up-proper, takes-up-
 -- ---- tables
 
 -- What holds of the account and of every account of the ledger holds of every account of the ledger with it.
-entered-all : (P : Account → Type 0) (l : Ledger) (p : Party) (a : Account) (n m : ℕ) → P a → ((p′ : Party) → P (account-of l p′)) → (p′ : Party) → P (account-of (entered l p a n m) p′)
+pub entered-all : (P : Account → Type 0) (l : Ledger) (p : Party) (a : Account) (n m : ℕ) → P a → ((p′ : Party) → P (account-of l p′)) → (p′ : Party) → P (account-of (entered l p a n m) p′)
 unfolding account-of entered
 entered-all P l first a n m h all first = h
 entered-all P l first a n m h all second = all second
@@ -35,22 +35,45 @@ entered-all P l second a n m h all first = all first
 entered-all P l second a n m h all second = h
 
 -- The limits stay.
-abbrev SameLimits : Account → Account → Type 0
+abbrev pub SameLimits : Account → Account → Type 0
 SameLimits a b = (a .call-limit ≡ b .call-limit) × (a .answer-limit ≡ b .answer-limit)
 
-limits-stay : (l : Ledger) (p : Party) (a : Account) (n m : ℕ) (calls answers calls′ answers′ : List ℕ) → SameLimits a (account-of l p) → length calls′ ≡ length calls → length answers′ ≡ length answers
+pub limits-stay : (l : Ledger) (p : Party) (a : Account) (n m : ℕ) (calls answers calls′ answers′ : List ℕ) → SameLimits a (account-of l p) → length calls′ ≡ length calls → length answers′ ≡ length answers
     → over-limits l calls answers ≡ false → over-limits (entered l p a n m) calls′ answers′ ≡ false
 unfolding account-of entered over-limits
 limits-stay l first a n m calls answers calls′ answers′ (c, d) e f h = rw (c, d, e, f) h
 limits-stay l second a n m calls answers calls′ answers′ (c, d) e f h = rw (c, d, e, f) h
 
 -- An account that may be entered: proper, with the limits it had, no bad goal or start, and within its limits if it holds rows.
-record Enterable (q : Asked) (was a : Account) : Type 0 where
+pub record Enterable (q : Asked) (was a : Account) : Type 0 where
   pub proper : ProperAccount a
   pub limits : SameLimits a was
   pub goal : bad-goal (q .fluents) (q .actions) (a .goal) ≡ false
   pub start : bad-state (q .fluents) (a .start) ≡ false
   pub within : a .holds ≡ true → ¬ Exceeds (run-held (q .rules) a) a
+
+-- 23, 24 and 30: the account with its limits alone.
+pub gives-up-enterable : (q : Asked) (a : Account) → Enterable q a (gives-up a)
+gives-up-enterable q a = record {
+  proper = gives-up-proper a;
+  limits = (refl, refl);
+  goal = vacant-goal (q .fluents) (q .actions);
+  start = vacant-start (q .fluents);
+  within = λ e. absurd (not-held e);
+}
+  where
+    not-held : false ≡ true → ⊥
+    not-held e = let z : _≡_ {A = ℕ} 0 1 = cc in omega arith
+
+-- 31 and 0: the rows of this run, within the limits.
+pub takes-up-enterable : (q : Asked) (a : Account) → refused-with q ≡ 0 → ¬ Exceeds (run-asked q) a → Enterable q a (takes-up a q)
+takes-up-enterable q a h f = record {
+  proper = takes-up-proper a q h;
+  limits = (refl, refl);
+  goal = good-goal (q .fluents) (q .actions) (q .rules) (q .goal) (q .start) h;
+  start = good-start (q .fluents) (q .actions) (q .rules) (q .goal) (q .start) h;
+  within = λ e. f;
+}
 
 module _ (p : Party) (q : Asked) (words : List ℕ) (before after : Panel) (ok : book-refusal q ≡ 0) (stood : AsKeptUnder q words before) (n m : ℕ)
     (calls-fit : n ≤ room plain-call-width (length (after .calls))) (answers-fit : m ≤ room plain-answer-width (length (after .answers)))
@@ -68,7 +91,7 @@ module _ (p : Party) (q : Asked) (words : List ℕ) (before after : Panel) (ok :
         by second = rw (le-ltb (room plain-call-width (length (after .calls))) n calls-fit, le-ltb (room plain-answer-width (length (after .answers))) m answers-fit) refl
 
     -- Balanced tables with this account are what a run may leave.
-    enters : Balanced (q .rules) now (after .calls) (after .answers) → Entered p q words before after a (ledger-words now)
+    pub enters : Balanced (q .rules) now (after .calls) (after .answers) → Entered p q words before after a (ledger-words now)
     enters b = record {
       accepted-book = ok;
       stood = stood;
@@ -92,28 +115,13 @@ module _ (p : Party) (q : Asked) (words : List ℕ) (before after : Panel) (ok :
   -- 23, 24 and 30: the other's rows alone.
   pub gives-up-enters : Balanced (q .rules) (entered (ledger-of words) p (gives-up (account p q words)) n m) (after .calls) (after .answers)
       → Entered p q words before after (gives-up (account p q words)) (ledger-words (entered (ledger-of words) p (gives-up (account p q words)) n m))
-  gives-up-enters b = enters (gives-up (account p q words)) (record {
-    proper = gives-up-proper (account p q words);
-    limits = (refl, refl);
-    goal = vacant-goal (q .fluents) (q .actions);
-    start = vacant-start (q .fluents);
-    within = λ e. absurd (not-held e);
-  }) b
-    where
-      not-held : false ≡ true → ⊥
-      not-held e = let z : _≡_ {A = ℕ} 0 1 = cc in omega arith
+  gives-up-enters b = enters (gives-up (account p q words)) (gives-up-enterable q (account p q words)) b
 
   -- 31 and 0: the rows of both.
   pub takes-up-enters : refused-with q ≡ 0 → ¬ Exceeds (run-asked q) (account p q words)
       → Balanced (q .rules) (entered (ledger-of words) p (takes-up (account p q words) q) n m) (after .calls) (after .answers)
       → Entered p q words before after (takes-up (account p q words) q) (ledger-words (entered (ledger-of words) p (takes-up (account p q words) q) n m))
-  takes-up-enters h f b = enters (takes-up (account p q words) q) (record {
-    proper = takes-up-proper (account p q words) q h;
-    limits = (refl, refl);
-    goal = good-goal (q .fluents) (q .actions) (q .rules) (q .goal) (q .start) h;
-    start = good-start (q .fluents) (q .actions) (q .rules) (q .goal) (q .start) h;
-    within = λ e. f;
-  }) b
+  takes-up-enters h f b = enters (takes-up (account p q words) q) (takes-up-enterable q (account p q words) h f) b
 
 -- ---- counts
 

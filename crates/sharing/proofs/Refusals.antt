@@ -7,6 +7,7 @@ use mathlib.Core.List.{List, []}
 use mathlib.Core.Logic.{_≢_}
 use lib.Dec.{eqb}
 use borrow.Author.Tests.{eq-eqb, ne-eqb}
+use Rattle.refusals.specs.Run.{run-refusals}
 use Rattle.steps.proofs.AcceptanceLaws.{words-accepted}
 use Rattle.steps.specs.Acceptance.{each-below, bad-counts, bad-length, bad-rules, bad-goal, bad-state, words-refusal, refusal-of}
 
@@ -45,14 +46,28 @@ module _ (fluents actions : ℕ) (rules goal : List ℕ) where
       accepted-too (bad-counts fluents actions) (bad-length rules) (bad-rules fluents actions rules) (sym book-of-none ∙ h) g in
       rw (eq-eqb _ 0 z, s) refl
 
-  -- A book that is refused is refused with any goal and start.
-  pub refused-with-any : (start : ℕ) → words-refusal fluents actions rules [] ≢ 0 → refusal-of fluents actions rules goal start ≡ words-refusal fluents actions rules []
-  unfolding words-refusal refusal-of
-  refused-with-any start h =
+  -- A book that is refused is refused with any goal,
+  pub refused-any : words-refusal fluents actions rules [] ≢ 0 → words-refusal fluents actions rules goal ≡ words-refusal fluents actions rules []
+  unfolding words-refusal
+  refused-any h =
       let n : first-of (bad-counts fluents actions) (bad-length rules) (bad-rules fluents actions rules) false ≢ 0 = λ e. h (book-of-none ∙ e) in
-      let z : words-refusal fluents actions rules goal ≡ words-refusal fluents actions rules [] =
-      refused-too (bad-counts fluents actions) (bad-length rules) (bad-rules fluents actions rules) (bad-goal fluents actions goal) n ∙ sym book-of-none in
-      rw (ne-eqb (words-refusal fluents actions rules goal) 0 (λ e. h (sym z ∙ e))) z
+      refused-too (bad-counts fluents actions) (bad-length rules) (bad-rules fluents actions rules) (bad-goal fluents actions goal) n ∙ sym book-of-none
+
+  -- and any start.
+  pub refused-with-any : (start : ℕ) → words-refusal fluents actions rules [] ≢ 0 → refusal-of fluents actions rules goal start ≡ words-refusal fluents actions rules []
+  unfolding refusal-of
+  refused-with-any start h = rw (ne-eqb (words-refusal fluents actions rules goal) 0 (λ e. h (sym (refused-any h) ∙ e))) (refused-any h)
+
+  -- An accepted book with a bad goal is refused.
+  goal-refused : (b c d : Bool) {e : Bool} → first-of b c d false ≡ 0 → e ≡ true → first-of b c d e ≡ 23
+  goal-refused true c d h f = absurd (omega (arith, h))
+  goal-refused false true d h f = absurd (omega (arith, h))
+  goal-refused false false true h f = absurd (omega (arith, h))
+  goal-refused false false false h f = rw f refl
+
+  pub refused-goal : words-refusal fluents actions rules [] ≡ 0 → bad-goal fluents actions goal ≡ true → words-refusal fluents actions rules goal ≡ run-refusals .bad-goal
+  unfolding words-refusal
+  refused-goal h g = goal-refused (bad-counts fluents actions) (bad-length rules) (bad-rules fluents actions rules) (sym book-of-none ∙ h) g
 
   -- What is accepted has a good goal,
   last-passed : (b c d e : Bool) → first-of b c d e ≡ 0 → e ≡ false

@@ -1,14 +1,13 @@
 -- What a run leaves, the next takes: under the same book it does not meet 91, and the other's account and both parties' limits stay. Assumes nothing.
-use Prim.Native.Nat.{ℕ, _+_, _≤_, _<_}
+use Prim.Native.Nat.{ℕ, _≤_}
 use native.Mathlib.Omega.{arith}
-use mathlib.Core.Path.{_≡_, refl, sym, ap, _∙_}
+use mathlib.Core.Path.{_≡_, refl, ap, _∙_}
 use mathlib.Core.Bool.{Bool, true, false, cond, _||_}
-use mathlib.Core.List.{List, []}
+use mathlib.Core.List.{List}
 use mathlib.Core.Logic.{_≢_}
 use lib.ListN.{length}
 use lib.Dec.{eqb, ltb}
 use borrow.Author.Tests.{ltb-false, eq-eqb}
-use Rattle.refusals.specs.Run.{run-refusals}
 use Rattle.refusals.specs.Sharing.{sharing-refusals}
 use Rattle.steps.specs.Acceptance.{bad-counts, bad-length, bad-rules, bad-goal, bad-state, words-refusal, refusal-of}
 use Rattle.steps.proofs.AcceptanceLaws.{start-accepted}
@@ -16,7 +15,7 @@ use Rattle.steps.proofs.EachBelow.{true-not-false}
 use Rattle.evaluator.specs.Evaluated.{Asked, refused-with}
 use Rattle.sharing.specs.Parties.{Party, first, second, Account, Ledger, account-of, entered, account-at, ledger-width, ledger-of}
 use Rattle.sharing.specs.Charged.{AsKept}
-use Rattle.sharing.specs.Shared.{Panel, Reply, book-refusal, gives-up, takes-up, Entered, Alone, account, Shared, refused-book, refused-kept, refused-goal, refused-full, refused-list, listed}
+use Rattle.sharing.specs.Shared.{Panel, Reply, gives-up, takes-up, Entered, Shared, refused-book, refused-kept, refused-goal, refused-full, refused-list, listed}
 use Rattle.sharing.proofs.Ledgers.{ProperAccount, ProperLedger, vacant-proper, entered-proper, ledger-read}
 
 -- ---- accounts that are read
@@ -33,14 +32,19 @@ account-proper : (words : List ℕ) (i : ℕ) → length (account-at words i .go
 unfolding account-at
 account-proper words i short = record { short = short; goal-none = λ e. rw e refl; start-none = λ e. rw e refl }
 
--- Words that are as kept say a proper ledger.
-pub kept-proper : {fluents actions : ℕ} {rules words calls answers : List ℕ} → AsKept fluents actions rules words calls answers → ProperLedger (ledger-of words)
+-- Words with good goals say a proper ledger.
+pub words-proper : (fluents actions : ℕ) (words : List ℕ) → length words ≡ ledger-width
+    → ((p : Party) → bad-goal fluents actions (account-of (ledger-of words) p .goal) ≡ false) → ProperLedger (ledger-of words)
 unfolding ledger-of account-of
-kept-proper {fluents} {actions} {words = words} k p = by p (goal-short fluents actions _ (k .goals p))
+words-proper fluents actions words long goals p = by p (goal-short fluents actions _ (goals p))
   where
     by : (p : Party) → length (account-of (ledger-of words) p .goal) ≤ 16 → ProperAccount (account-of (ledger-of words) p)
-    by first = rw (eq-eqb (length words) ledger-width (k .long)) (account-proper words 0)
-    by second = rw (eq-eqb (length words) ledger-width (k .long)) (account-proper words 21)
+    by first = rw (eq-eqb (length words) ledger-width long) (account-proper words 0)
+    by second = rw (eq-eqb (length words) ledger-width long) (account-proper words 21)
+
+-- So do those that are as kept.
+pub kept-proper : {fluents actions : ℕ} {rules words calls answers : List ℕ} → AsKept fluents actions rules words calls answers → ProperLedger (ledger-of words)
+kept-proper {fluents} {actions} {words = words} k = words-proper fluents actions words (k .long) (k .goals)
 
 -- ---- what is kept after a run
 
@@ -86,7 +90,7 @@ takes-up-proper a q h = record {
 
 -- ---- 91
 
-refusal-few : (fluents actions : ℕ) (rules goal : List ℕ) (start : ℕ) → refusal-of fluents actions rules goal start ≤ 24
+pub refusal-few : (fluents actions : ℕ) (rules goal : List ℕ) (start : ℕ) → refusal-of fluents actions rules goal start ≤ 24
 unfolding refusal-of words-refusal
 refusal-few fluents actions rules goal start = by (bad-counts fluents actions) (bad-length rules) (bad-rules fluents actions rules) (bad-goal fluents actions goal) (bad-state fluents start)
   where

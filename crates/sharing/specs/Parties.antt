@@ -1,6 +1,6 @@
 -- Two parties with one book, and what is kept beside their tables: a ledger, also as words (request R-14). Assumes nothing.
 use Prim.Native.Nat.{ℕ, _+_, _-_}
-use mathlib.Core.Bool.{Bool, false, cond, not}
+use mathlib.Core.Bool.{Bool, true, false, cond, not}
 use mathlib.Core.List.{List, [], _∷_, _++_}
 use lib.ListN.{getD, length, take, drop, replicate}
 use lib.Dec.{eqb}
@@ -15,6 +15,11 @@ pub data Party : Type 0 where
 unfoldable pub goal-number : Party → ℕ
 goal-number first = Goal
 goal-number second = 65
+
+-- The party by whether it is the second.
+unfoldable pub party-of : Bool → Party
+party-of false = first
+party-of true = second
 
 -- One party's account: "a limit of calls and of answers", whether it holds rows, and the goal words and the start that it holds them for.
 abbrev pub Account : Type 0
@@ -55,7 +60,7 @@ unfoldable pub ledger-words : Ledger → List ℕ
 ledger-words l = account-words (l .first) ++ (account-words (l .second) ++ (l .calls ∷ l .answers ∷ []))
 
 -- The account whose words begin at place i. Any word but 0 says that it holds rows; the start and the goal of one that holds none are not looked at.
--- Its goal are as many words as are counted: more than 16 are no goal (23).
+-- Its goal is as many words as are counted: more than 16 are no goal (23).
 unfoldable pub account-at : List ℕ → ℕ → Account
 account-at words i = let holds = not (eqb (getD words (i + 2) 0) 0) in record {
   call-limit = getD words i 0;

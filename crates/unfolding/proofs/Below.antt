@@ -11,8 +11,9 @@ use Rattle.steps.specs.Step.{Step, query, insert, delete, call, deny, Body}
 use Rattle.steps.specs.Words.{body-of}
 use Rattle.steps.specs.Elementary.{Onward, on, stuck}
 use Rattle.steps.proofs.EachBelow.{both}
-use Rattle.steps.proofs.WordLaws.{not-on}
-use Rattle.records.specs.Records.{Calls, Answers, Bodies, earlier, follow, follows, call-table, answer-table}
+use Rattle.steps.proofs.WordLaws.{not-on, on-same}
+use Rattle.records.specs.Records.{Calls, Answers, Bodies, earlier, follow, follows}
+use Rattle.records.specs.Storage.{calls-in, answers-in}
 use Rattle.checks.proofs.FollowLaws.{earlier-below}
 use Rattle.unfolding.specs.Path.{adds, walked, below, states-added, path-of}
 
@@ -25,6 +26,15 @@ call-below calls answers n a s t e h =
     by : (b : Bool) → (earlier calls answers n e && (eqb (calls .action (answers .call e)) a && eqb (calls .state (answers .call e)) s)) ≡ b → cond b (on (answers .final e)) stuck ≡ on t → e < n
     by true z k = earlier-below calls answers n e (both (earlier calls answers n e) _ z .0)
     by false z k = absurd (not-on k)
+
+-- and leads to that record's final state
+pub call-final : (calls : Calls) (answers : Answers) (n a : ℕ) (s t : State) (e : ℕ) → follow calls answers n (call a) s e ≡ on t → t ≡ answers .final e
+unfolding follow
+call-final calls answers n a s t e h = by (earlier calls answers n e && (eqb (calls .action (answers .call e)) a && eqb (calls .state (answers .call e)) s)) h
+  where
+    by : (b : Bool) → cond b (on (answers .final e)) stuck ≡ on t → t ≡ answers .final e
+    by true k = sym (on-same k)
+    by false k = absurd (not-on k)
 
 module _ (calls : Calls) (answers : Answers) (n : ℕ) (f g : ℕ → List State) (same : (e : ℕ) → e < n → f e ≡ g e) where
   adds-same : (x : Step) (s t : State) (e : ℕ) → follow calls answers n x s e ≡ on t → adds f x t e ≡ adds g x t e
@@ -75,19 +85,19 @@ module _ (calls : Calls) (answers : Answers) (bodies : Bodies) where
 
 -- ---- however many records are counted
 
-module _ (calls answers : List ℕ) (k m k′ m′ : ℕ) where
-  -- the two views
+module _ (w v : ℕ) (calls answers : List ℕ) (k m k′ m′ : ℕ) where
+  -- the two views, by the widths of records
   abbrev C : Calls
-  C = call-table calls k
+  C = calls-in w calls k
 
   abbrev C′ : Calls
-  C′ = call-table calls k′
+  C′ = calls-in w calls k′
 
   abbrev A : Answers
-  A = answer-table answers m
+  A = answers-in v answers m
 
   abbrev A′ : Answers
-  A′ = answer-table answers m′
+  A′ = answers-in v answers m′
 
   follow-uncounted : (n : ℕ) (x : Step) (s : State) (e : ℕ) → follow C A n x s e ≡ follow C′ A′ n x s e
   unfolding follow
@@ -122,20 +132,22 @@ module _ (calls answers : List ℕ) (k m k′ m′ : ℕ) where
       by (on t) later = rw (later t) refl
       by stuck later = refl
 
-  below-uncounted : (bodies : Bodies) (n x : ℕ) → below C A bodies n x ≡ below C′ A′ bodies n x
-  unfolding below
-  below-uncounted bodies zero x = refl
-  below-uncounted bodies (suc n) x = by (eqb x n) (below-uncounted bodies n)
-    where
-      words : Body
-      words = body-of (bodies .words (A .rule n) (C .action (A .call n)))
+  -- the same for bodies that have the same words
+  module _ (bodies bodies′ : Bodies) (same : (i a : ℕ) → bodies .words i a ≡ bodies′ .words i a) where
+    below-uncounted : (n x : ℕ) → below C A bodies n x ≡ below C′ A′ bodies′ n x
+    unfolding below
+    below-uncounted zero x = refl
+    below-uncounted (suc n) x = rw (← same (A .rule n) (C .action (A .call n))) (by (eqb x n) (below-uncounted n))
+      where
+        words : Body
+        words = body-of (bodies .words (A .rule n) (C .action (A .call n)))
 
-      by : (b : Bool) → ((e : ℕ) → below C A bodies n e ≡ below C′ A′ bodies n e)
-          → cond b (walked C A n (below C A bodies n) words 0 (C .state (A .call n))) (below C A bodies n x)
-          ≡ cond b (walked C′ A′ n (below C′ A′ bodies n) words 0 (C .state (A .call n))) (below C′ A′ bodies n x)
-      by true same = walked-uncounted n (below C A bodies n) words 0 _ ∙ walked-same C′ A′ n (below C A bodies n) (below C′ A′ bodies n) (λ e l. same e) words 0 _
-      by false same = same x
+        by : (b : Bool) → ((e : ℕ) → below C A bodies n e ≡ below C′ A′ bodies′ n e)
+            → cond b (walked C A n (below C A bodies n) words 0 (C .state (A .call n))) (below C A bodies n x)
+            ≡ cond b (walked C′ A′ n (below C′ A′ bodies′ n) words 0 (C .state (A .call n))) (below C′ A′ bodies′ n x)
+        by true e = walked-uncounted n (below C A bodies n) words 0 _ ∙ walked-same C′ A′ n (below C A bodies n) (below C′ A′ bodies′ n) (λ y l. e y) words 0 _
+        by false e = e x
 
-  pub path-uncounted : (bodies : Bodies) (x : ℕ) → path-of C A bodies x ≡ path-of C′ A′ bodies x
-  unfolding path-of
-  path-uncounted bodies x = ap (λ (l : List State). C .state (A .call x) ∷ l) (below-uncounted bodies (suc x) x)
+    pub path-uncounted : (x : ℕ) → path-of C A bodies x ≡ path-of C′ A′ bodies′ x
+    unfolding path-of
+    path-uncounted x = ap (λ (l : List State). C .state (A .call x) ∷ l) (below-uncounted (suc x) x)

@@ -14,7 +14,7 @@ use Rattle.steps.specs.State.{State}
 use Rattle.steps.specs.Words.{step-of}
 use Rattle.steps.specs.Inner.{is-call}
 use Rattle.unfolding.specs.Path.{shown, adds}
-use Rattle.unfolding.proofs.Walk.{Checked, adds-call, shown-small, words-at, step-at, evidence-at, added-by}
+use Rattle.unfolding.proofs.Walk.{Lent, Checked, adds-call, shown-small, words-at, step-at, evidence-at, added-by}
 use Rattle.unfolding.proofs.Sizes.{Sized, Turned, size-of, turned-size}
 use Rattle.unfolding.proofs.Rests.{state-at, rest, rest-first, rest-end, rest-next, goes-at, Fresh, begins, returns}
 
@@ -79,15 +79,15 @@ pub moved-long : {n q d to : ℕ} {frames : List ℕ} {n′ q′ d′ : ℕ} {fr
 moved-long {n} {q} {d} {frames = frames} (down t z e f) = ap length f ∙ length-set frames d (n + 65536 * q)
 moved-long (up t e m o f) = ap length f
 
-module _ (rules goal calls answers : List ℕ) where
+module _ (it : Lent) where
   -- What the frames add after their calls.
   unfoldable pub behind : ℕ → List ℕ → List State
   behind zero frames = []
-  behind (suc d) frames = rest rules goal calls answers (getD frames d 0 % 65536) (getD frames d 0 / 65536 + 1) ++ behind d frames
+  behind (suc d) frames = rest it (getD frames d 0 % 65536) (getD frames d 0 / 65536 + 1) ++ behind d frames
 
   -- What is still to be added where the walk stands at step q of record n above d frames.
   abbrev pub pending : ℕ → ℕ → ℕ → List ℕ → List State
-  pending n q d frames = rest rules goal calls answers n q ++ behind d frames
+  pending n q d frames = rest it n q ++ behind d frames
 
   behind-same : (d : ℕ) (frames frames′ : List ℕ) → ((i : ℕ) → i < d → getD frames′ i 0 ≡ getD frames i 0) → behind d frames′ ≡ behind d frames
   unfolding behind
@@ -95,26 +95,26 @@ module _ (rules goal calls answers : List ℕ) where
   behind-same (suc d) frames frames′ same = rw (same d (omega arith), behind-same d frames frames′ (λ i l. same i (omega arith))) refl
 
   -- at first
-  pub pending-first : (n : ℕ) (frames : List ℕ) → added-by rules goal calls answers n ≡ pending n 0 0 frames
+  pub pending-first : (n : ℕ) (frames : List ℕ) → added-by it n ≡ pending n 0 0 frames
   unfolding behind
-  pending-first n frames = rest-first rules goal calls answers n ∙ sym (append-nil (rest rules goal calls answers n 0))
+  pending-first n frames = rest-first it n ∙ sym (append-nil (rest it n 0))
 
   -- at the end of the first record
-  pub pending-last : (n q : ℕ) (frames : List ℕ) → length (words-at rules goal answers n) ≤ q → pending n q 0 frames ≡ []
+  pub pending-last : (n q : ℕ) (frames : List ℕ) → length (words-at it n) ≤ q → pending n q 0 frames ≡ []
   unfolding behind
-  pending-last n q frames l = rw (rest-end rules goal calls answers n q l) refl
+  pending-last n q frames l = rw (rest-end it n q l) refl
 
   -- A frame that stands at place i of the stack: one of its record's calls.
   pub record Framed (asked i v : ℕ) : Type 0 where
     pub low : v % 65536 + i ≤ asked
-    pub inside : v / 65536 < length (words-at rules goal answers (v % 65536))
-    pub called : is-call (step-at rules goal answers (v % 65536) (v / 65536)) ≡ true
+    pub inside : v / 65536 < length (words-at it (v % 65536))
+    pub called : is-call (step-at it (v % 65536) (v / 65536)) ≡ true
 
   -- The walk stands at step q of record n above d frames. Each frame is of a smaller record than the one below it, so there are few.
   pub record Sound (asked n q d : ℕ) (frames : List ℕ) : Type 0 where
     pub low : n + d ≤ asked
-    pub within : q ≤ length (words-at rules goal answers n)
-    pub fresh : Fresh rules goal answers n q
+    pub within : q ≤ length (words-at it n)
+    pub fresh : Fresh it n q
     pub each : (i : ℕ) → i < d → Framed asked i (getD frames i 0)
 
   pub sound-first : (asked : ℕ) (frames : List ℕ) → Sound asked asked 0 0 frames
@@ -123,14 +123,14 @@ module _ (rules goal calls answers : List ℕ) where
   -- A run through record n's steps from p on stops at q: at the record's end, or at a call, to go on with a record that adds the same.
   pub record Stopped (n p q to : ℕ) : Type 0 where
     pub further : p ≤ q
-    pub within : q ≤ length (words-at rules goal answers n)
+    pub within : q ≤ length (words-at it n)
     pub short : q ≤ 16
     pub small : to ≤ n
-    pub ends : to ≡ 0 → length (words-at rules goal answers n) ≤ q
-    pub called : (r : ℕ) → to ≡ r + 1 → (q < length (words-at rules goal answers n)) × (q < 16) × (is-call (step-at rules goal answers n q) ≡ true)
-        × (r < n) × (added-by rules goal calls answers r ≡ added-by rules goal calls answers (evidence-at answers n q))
+    pub ends : to ≡ 0 → length (words-at it n) ≤ q
+    pub called : (r : ℕ) → to ≡ r + 1 → (q < length (words-at it n)) × (q < 16) × (is-call (step-at it n q) ≡ true)
+        × (r < n) × (added-by it r ≡ added-by it (evidence-at it n q))
 
-  module _ {asked : ℕ} (c : Checked rules goal calls answers (asked + 1)) (n p q d to : ℕ) (frames : List ℕ) (n′ q′ d′ : ℕ) (frames′ : List ℕ)
+  module _ {asked : ℕ} (c : Checked it (asked + 1)) (n p q d to : ℕ) (frames : List ℕ) (n′ q′ d′ : ℕ) (frames′ : List ℕ)
       (s : Sound asked n p d frames) (stop : Stopped n p q to) (room : asked < length frames) where
     few : asked < 65536
     few = omega (arith, c .readable .most)
@@ -155,7 +155,7 @@ module _ (rules goal calls answers : List ℕ) where
         let (in-words, in-sixteen, is, below, same) = stop .called n′ t in
         rw (z, e, f) (record { low = omega (arith, s .low); within = omega arith; fresh = begins refl; each = all in-words is })
       where
-        all : q < length (words-at rules goal answers n) → is-call (step-at rules goal answers n q) ≡ true → (i : ℕ) → i < d + 1 → Framed asked i (getD (set frames d v) i 0)
+        all : q < length (words-at it n) → is-call (step-at it n q) ≡ true → (i : ℕ) → i < d + 1 → Framed asked i (getD (set frames d v) i 0)
         all l k i h = by (eqb i d) refl
           where
             by : (b : Bool) → eqb i d ≡ b → Framed asked i (getD (set frames d v) i 0)
@@ -172,12 +172,12 @@ module _ (rules goal calls answers : List ℕ) where
         let (in-words, in-sixteen, is, below, same) = stop .called n′ t in
         rw (z, e, f, add-one d, here, record-is, step-is, behind-same d frames (set frames d v) there) (by in-words is same)
       where
-        by : q < length (words-at rules goal answers n) → is-call (step-at rules goal answers n q) ≡ true → added-by rules goal calls answers n′ ≡ added-by rules goal calls answers (evidence-at answers n q)
-            → rest rules goal calls answers n q ++ behind d frames ≡ rest rules goal calls answers n′ 0 ++ (rest rules goal calls answers n (q + 1) ++ behind d frames)
+        by : q < length (words-at it n) → is-call (step-at it n q) ≡ true → added-by it n′ ≡ added-by it (evidence-at it n q)
+            → rest it n q ++ behind d frames ≡ rest it n′ 0 ++ (rest it n (q + 1) ++ behind d frames)
         by l k same =
-            rw (rest-next rules goal calls answers c n (omega (arith, s .low)) q l, adds-call (added-by rules goal calls answers) (step-at rules goal answers n q) (state-at rules goal calls answers n (q + 1)) (evidence-at answers n q) k, sym same, rest-first rules goal calls answers n′)
-            (append-assoc (rest rules goal calls answers n′ 0) (rest rules goal calls answers n (q + 1)) (behind d frames))
-    moved-pending (up t e m o f) = rw (rest-end rules goal calls answers n q (stop .ends t), e, add-one d′, m, o, f) refl
+            rw (rest-next it c n (omega (arith, s .low)) q l, adds-call (added-by it) (step-at it n q) (state-at it n (q + 1)) (evidence-at it n q) k, sym same, rest-first it n′)
+            (append-assoc (rest it n′ 0) (rest it n (q + 1)) (behind d frames))
+    moved-pending (up t e m o f) = rw (rest-end it n q (stop .ends t), e, add-one d′, m, o, f) refl
 
     -- the walk comes to its end
     pub moved-less : Moved n q d to frames n′ q′ d′ frames′ → turns-left n′ q′ d′ frames′ < turns-left n p d frames
@@ -193,7 +193,7 @@ module _ (rules goal calls answers : List ℕ) where
 
   -- A run that counted: from p to q of record n's steps.
   pub record Tallied (n p found q found′ : ℕ) : Type 0 where
-    pub counts : found + length (rest rules goal calls answers n p) ≡ found′ + length (rest rules goal calls answers n q)
+    pub counts : found + length (rest it n p) ≡ found′ + length (rest it n q)
     pub small : found′ ≤ found + 16777216 * (q - p)
 
   pub tallied-none : (n p found : ℕ) → Tallied n p found p found
@@ -203,30 +203,30 @@ module _ (rules goal calls answers : List ℕ) where
   pub tallied-pending : {n p found q found′ : ℕ} (d : ℕ) (frames : List ℕ) → Tallied n p found q found′
       → found + length (pending n p d frames) ≡ found′ + length (pending n q d frames)
   tallied-pending {n} {p} {q = q} d frames y =
-      omega (arith, y .counts, length-append (rest rules goal calls answers n p) (behind d frames), length-append (rest rules goal calls answers n q) (behind d frames))
+      omega (arith, y .counts, length-append (rest it n p) (behind d frames), length-append (rest it n q) (behind d frames))
 
-  module _ {count : ℕ} (c : Checked rules goal calls answers count) (n : ℕ) (h : n < count) (q : ℕ) (l : q < length (words-at rules goal answers n))
-      {sizes : List ℕ} {cap size : ℕ} (z : Sized (added-by rules goal calls answers) sizes n cap)
-      (e : (t : ℕ) → size ≡ size-of sizes (step-at rules goal answers n q) t (evidence-at answers n q)) where
-    turned : Turned calls answers sizes n (step-at rules goal answers n q) (state-at rules goal calls answers n q) (evidence-at answers n q) (state-at rules goal calls answers n (q + 1)) size
-    turned = record { to = goes-at rules goal calls answers c n h q l; sized = e _ }
+  module _ {count : ℕ} (c : Checked it count) (n : ℕ) (h : n < count) (q : ℕ) (l : q < length (words-at it n))
+      {sizes : List ℕ} {cap size : ℕ} (z : Sized (added-by it) sizes n cap)
+      (e : (t : ℕ) → size ≡ size-of sizes (step-at it n q) t (evidence-at it n q)) where
+    turned : Turned (it .plain) (it .calls) (it .answers) sizes n (step-at it n q) (state-at it n q) (evidence-at it n q) (state-at it n (q + 1)) size
+    turned = record { to = goes-at it c n h q l; sized = e _ }
 
     -- a step whose size is below the cap
     pub tallied-more : {p found sum : ℕ} → p ≤ q → cap ≤ 16777216 → size < cap → Tallied n p found q sum → Tallied n p found (q + 1) (sum + size)
     tallied-more {p} {found} {sum} le few lt y = record {
-      counts = (let k : length (rest rules goal calls answers n q) ≡ length (adds (added-by rules goal calls answers) (step-of (step-at rules goal answers n q)) (state-at rules goal calls answers n (q + 1)) (evidence-at answers n q)) + length (rest rules goal calls answers n (q + 1)) =
-          ap length (rest-next rules goal calls answers c n h q l) ∙ length-append (adds (added-by rules goal calls answers) (step-of (step-at rules goal answers n q)) (state-at rules goal calls answers n (q + 1)) (evidence-at answers n q)) (rest rules goal calls answers n (q + 1)) in
-          omega (arith, y .counts, turned-size (added-by rules goal calls answers) z turned));
+      counts = (let k : length (rest it n q) ≡ length (adds (added-by it) (step-of (step-at it n q)) (state-at it n (q + 1)) (evidence-at it n q)) + length (rest it n (q + 1)) =
+          ap length (rest-next it c n h q l) ∙ length-append (adds (added-by it) (step-of (step-at it n q)) (state-at it n (q + 1)) (evidence-at it n q)) (rest it n (q + 1)) in
+          omega (arith, y .counts, turned-size (added-by it) z turned));
       small = omega (arith, y .small);
     }
 
     -- one at the cap is a call
-    pub large-call : 1 < cap → cap ≤ size → is-call (step-at rules goal answers n q) ≡ true
+    pub large-call : 1 < cap → cap ≤ size → is-call (step-at it n q) ≡ true
     unfolding size-of
-    large-call some le = by (is-call (step-at rules goal answers n q)) refl
+    large-call some le = by (is-call (step-at it n q)) refl
       where
-        by : (b : Bool) → is-call (step-at rules goal answers n q) ≡ b → is-call (step-at rules goal answers n q) ≡ true
+        by : (b : Bool) → is-call (step-at it n q) ≡ b → is-call (step-at it n q) ≡ true
         by true k = k
         by false k =
-            let s : size ≡ length (shown (step-of (step-at rules goal answers n q)) 0) = rw k at (e 0) in
-            absurd (omega (arith, shown-small (step-of (step-at rules goal answers n q)) 0))
+            let s : size ≡ length (shown (step-of (step-at it n q)) 0) = rw k at (e 0) in
+            absurd (omega (arith, shown-small (step-of (step-at it n q)) 0))

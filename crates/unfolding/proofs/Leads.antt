@@ -13,7 +13,7 @@ use Rattle.steps.specs.State.{State}
 use Rattle.steps.specs.Words.{step-of}
 use Rattle.steps.specs.Inner.{is-call}
 use Rattle.unfolding.specs.Path.{shown, adds}
-use Rattle.unfolding.proofs.Walk.{Checked, leads-below, adds-call, adds-shown, words-at, step-at, evidence-at, added-by}
+use Rattle.unfolding.proofs.Walk.{Lent, Checked, leads-below, adds-call, adds-shown, words-at, step-at, evidence-at, added-by}
 use Rattle.unfolding.proofs.Rests.{state-at, rest, rest-first, rest-end, rest-next, goes-at}
 
 -- Record x stands for nothing, 0, or for record r, one more than it.
@@ -67,70 +67,70 @@ no-states : (l : List State) → length l ≡ 0 → l ≡ []
 no-states [] e = refl
 no-states (x ∷ l) e = absurd (omega arith)
 
-module _ (rules goal calls answers : List ℕ) where
+module _ (it : Lent) where
   -- What the first q steps of record n stand for.
   pub data Partly (n q to : ℕ) : Type 0 where
-    nothing : to ≡ 0 → rest rules goal calls answers n 0 ≡ rest rules goal calls answers n q → Partly n q to
-    one : (r : ℕ) → to ≡ r + 1 → r < n → rest rules goal calls answers n 0 ≡ added-by rules goal calls answers r ++ rest rules goal calls answers n q → Partly n q to
+    nothing : to ≡ 0 → rest it n 0 ≡ rest it n q → Partly n q to
+    one : (r : ℕ) → to ≡ r + 1 → r < n → rest it n 0 ≡ added-by it r ++ rest it n q → Partly n q to
     itself : to ≡ n + 1 → Partly n q to
 
   pub partly-none : (n : ℕ) → Partly n 0 0
   partly-none n = nothing refl refl
 
-  module _ {count : ℕ} (c : Checked rules goal calls answers count) (n : ℕ) (h : n < count) (q : ℕ) (l : q < length (words-at rules goal answers n))
-      {leads : List ℕ} {new : ℕ} (z : Led (added-by rules goal calls answers) leads n) (s : StepLead leads (step-at rules goal answers n q) (evidence-at answers n q) (n + 1) new) where
+  module _ {count : ℕ} (c : Checked it count) (n : ℕ) (h : n < count) (q : ℕ) (l : q < length (words-at it n))
+      {leads : List ℕ} {new : ℕ} (z : Led (added-by it) leads n) (s : StepLead leads (step-at it n q) (evidence-at it n q) (n + 1) new) where
     abbrev piece : List State
-    piece = adds (added-by rules goal calls answers) (step-of (step-at rules goal answers n q)) (state-at rules goal calls answers n (q + 1)) (evidence-at answers n q)
+    piece = adds (added-by it) (step-of (step-at it n q)) (state-at it n (q + 1)) (evidence-at it n q)
 
     -- what the step stands for
     data Piece : Type 0 where
       adds-none : new ≡ 0 → piece ≡ [] → Piece
-      adds-one : (r : ℕ) → new ≡ r + 1 → r < n → piece ≡ added-by rules goal calls answers r → Piece
+      adds-one : (r : ℕ) → new ≡ r + 1 → r < n → piece ≡ added-by it r → Piece
       adds-own : new ≡ n + 1 → Piece
 
     the-piece : Piece
-    the-piece = by (is-call (step-at rules goal answers n q)) refl
+    the-piece = by (is-call (step-at it n q)) refl
       where
-        by : (b : Bool) → is-call (step-at rules goal answers n q) ≡ b → Piece
+        by : (b : Bool) → is-call (step-at it n q) ≡ b → Piece
         by true k =
-            let f : piece ≡ added-by rules goal calls answers (evidence-at answers n q) = adds-call (added-by rules goal calls answers) (step-at rules goal answers n q) _ (evidence-at answers n q) k in
-            let below = leads-below k (goes-at rules goal calls answers c n h q l) in
-            of (z .at (evidence-at answers n q) below) below f
+            let f : piece ≡ added-by it (evidence-at it n q) = adds-call (added-by it) (step-at it n q) _ (evidence-at it n q) k in
+            let below = leads-below k (goes-at it c n h q l) in
+            of (z .at (evidence-at it n q) below) below f
           where
-            of : Lead (added-by rules goal calls answers) (evidence-at answers n q) (getD leads (evidence-at answers n q) 0) → evidence-at answers n q < n
-                → piece ≡ added-by rules goal calls answers (evidence-at answers n q) → Piece
+            of : Lead (added-by it) (evidence-at it n q) (getD leads (evidence-at it n q) 0) → evidence-at it n q < n
+                → piece ≡ added-by it (evidence-at it n q) → Piece
             of (none e w) below f = adds-none (s .of-call k ∙ e) (f ∙ w)
             of (same r e le w) below f = adds-one r (s .of-call k ∙ e) (omega arith) (f ∙ sym w)
         by false k = of (s .of-other k)
           where
-            of : (new ≡ n + 1) ⊎ ((t : State) → length (shown (step-of (step-at rules goal answers n q)) t) ≡ 0) × (new ≡ 0) → Piece
+            of : (new ≡ n + 1) ⊎ ((t : State) → length (shown (step-of (step-at it n q)) t) ≡ 0) × (new ≡ 0) → Piece
             of (inl e) = adds-own e
-            of (inr (w, e)) = adds-none e (adds-shown (added-by rules goal calls answers) (step-at rules goal answers n q) _ (evidence-at answers n q) k ∙ no-states _ (w _))
+            of (inr (w, e)) = adds-none e (adds-shown (added-by it) (step-at it n q) _ (evidence-at it n q) k ∙ no-states _ (w _))
 
-    next : rest rules goal calls answers n q ≡ piece ++ rest rules goal calls answers n (q + 1)
-    next = rest-next rules goal calls answers c n h q l
+    next : rest it n q ≡ piece ++ rest it n (q + 1)
+    next = rest-next it c n h q l
 
     -- nothing before
-    after-none : {to′ : ℕ} → to′ ≡ new → rest rules goal calls answers n 0 ≡ rest rules goal calls answers n q → Partly n (q + 1) to′
+    after-none : {to′ : ℕ} → to′ ≡ new → rest it n 0 ≡ rest it n q → Partly n (q + 1) to′
     after-none {to′} e p = by the-piece
       where
         by : Piece → Partly n (q + 1) to′
-        by (adds-none w f) = nothing (e ∙ w) (p ∙ next ∙ ap (λ (a : List State). a ++ rest rules goal calls answers n (q + 1)) f)
-        by (adds-one r w lt f) = one r (e ∙ w) lt (p ∙ next ∙ ap (λ (a : List State). a ++ rest rules goal calls answers n (q + 1)) f)
+        by (adds-none w f) = nothing (e ∙ w) (p ∙ next ∙ ap (λ (a : List State). a ++ rest it n (q + 1)) f)
+        by (adds-one r w lt f) = one r (e ∙ w) lt (p ∙ next ∙ ap (λ (a : List State). a ++ rest it n (q + 1)) f)
         by (adds-own w) = itself (e ∙ w)
 
     -- nothing new
     before-none : {to to′ : ℕ} → to′ ≡ to → new ≡ 0 → Partly n q to → Partly n (q + 1) to′
     before-none {to} {to′} e w = by the-piece
       where
-        same-rest : piece ≡ [] → rest rules goal calls answers n q ≡ rest rules goal calls answers n (q + 1)
-        same-rest f = next ∙ ap (λ (a : List State). a ++ rest rules goal calls answers n (q + 1)) f
+        same-rest : piece ≡ [] → rest it n q ≡ rest it n (q + 1)
+        same-rest f = next ∙ ap (λ (a : List State). a ++ rest it n (q + 1)) f
 
         by : Piece → Partly n q to → Partly n (q + 1) to′
         by (adds-one r x lt f) p = absurd (omega arith)
         by (adds-own x) p = absurd (omega arith)
         by (adds-none x f) (nothing y p) = nothing (e ∙ y) (p ∙ same-rest f)
-        by (adds-none x f) (one r y lt p) = one r (e ∙ y) lt (p ∙ ap (λ (a : List State). added-by rules goal calls answers r ++ a) (same-rest f))
+        by (adds-none x f) (one r y lt p) = one r (e ∙ y) lt (p ∙ ap (λ (a : List State). added-by it r ++ a) (same-rest f))
         by (adds-none x f) (itself y) = itself (e ∙ y)
 
     pub partly-more : {to to′ : ℕ} → Together to new (n + 1) to′ → Partly n q to → Partly n (q + 1) to′
@@ -143,14 +143,14 @@ module _ (rules goal calls answers : List ℕ) where
     partly-more (first-only e g) p = before-none g e p
     partly-more (both-parts g) p = itself g
 
-  pub partly-all : (n q : ℕ) {to : ℕ} → length (words-at rules goal answers n) ≤ q → Partly n q to → Lead (added-by rules goal calls answers) n to
+  pub partly-all : (n q : ℕ) {to : ℕ} → length (words-at it n) ≤ q → Partly n q to → Lead (added-by it) n to
   partly-all n q {to} l = by
     where
-      end : rest rules goal calls answers n q ≡ []
-      end = rest-end rules goal calls answers n q l
+      end : rest it n q ≡ []
+      end = rest-end it n q l
 
-      by : Partly n q to → Lead (added-by rules goal calls answers) n to
-      by (nothing e p) = none e (rest-first rules goal calls answers n ∙ p ∙ end)
+      by : Partly n q to → Lead (added-by it) n to
+      by (nothing e p) = none e (rest-first it n ∙ p ∙ end)
       by (one r e lt p) =
-          same r e (omega arith) (sym (rest-first rules goal calls answers n ∙ p ∙ ap (λ (a : List State). added-by rules goal calls answers r ++ a) end ∙ append-nil (added-by rules goal calls answers r)))
+          same r e (omega arith) (sym (rest-first it n ∙ p ∙ ap (λ (a : List State). added-by it r ++ a) end ∙ append-nil (added-by it r)))
       by (itself e) = same n e (omega arith) refl

@@ -13,7 +13,7 @@ use Rattle.steps.specs.State.{State}
 use Rattle.steps.specs.Words.{step-of}
 use Rattle.steps.specs.Inner.{is-call}
 use Rattle.unfolding.specs.Path.{shown, adds}
-use Rattle.unfolding.proofs.Walk.{LeadsTo, leads-below, adds-call, adds-shown, shown-small, words-at, step-at, evidence-at, added-by, start-at, Stands, left, stands-next, left-first, left-next, left-end}
+use Rattle.unfolding.proofs.Walk.{Lent, LeadsTo, leads-below, adds-call, adds-shown, shown-small, words-at, step-at, evidence-at, added-by, start-at, Stands, left, stands-next, left-first, left-next, left-end}
 
 -- Of each record below count: how many states it adds, at most the cap.
 pub record Sized (f : ℕ → List State) (sizes : List ℕ) (count cap : ℕ) : Type 0 where
@@ -40,8 +40,8 @@ unfoldable pub size-of : List ℕ → ℕ → State → ℕ → ℕ
 size-of sizes w t e = cond (is-call w) (getD sizes e 0) (length (shown (step-of w) t))
 
 -- What one step of a walk gives: the state that it leads to, and how many states it adds.
-pub record Turned (calls answers sizes : List ℕ) (n w : ℕ) (s : State) (e : ℕ) (t : State) (size : ℕ) : Type 0 where
-  pub to : LeadsTo calls answers n w s e t
+pub record Turned (plain : Bool) (calls answers sizes : List ℕ) (n w : ℕ) (s : State) (e : ℕ) (t : State) (size : ℕ) : Type 0 where
+  pub to : LeadsTo plain calls answers n w s e t
   pub sized : size ≡ size-of sizes w t e
 
 size-call : (sizes : List ℕ) (w : ℕ) (t : State) (e : ℕ) → is-call w ≡ true → size-of sizes w t e ≡ getD sizes e 0
@@ -52,8 +52,8 @@ size-shown : (sizes : List ℕ) (w : ℕ) (t : State) (e : ℕ) → is-call w �
 unfolding size-of
 size-shown sizes w t e l = rw l refl
 
-module _ (f : ℕ → List State) {calls answers sizes : List ℕ} {n w : ℕ} {s : State} {e : ℕ} {t : State} {size cap : ℕ}
-    (z : Sized f sizes n cap) (u : Turned calls answers sizes n w s e t size) where
+module _ (f : ℕ → List State) {plain : Bool} {calls answers sizes : List ℕ} {n w : ℕ} {s : State} {e : ℕ} {t : State} {size cap : ℕ}
+    (z : Sized f sizes n cap) (u : Turned plain calls answers sizes n w s e t size) where
   -- it counts what the step adds, up to the cap
   pub turned-size : min cap size ≡ min cap (length (adds f (step-of w) t e))
   turned-size = by (is-call w) refl
@@ -88,28 +88,28 @@ module _ (f : ℕ → List State) {calls answers sizes : List ℕ} {n w : ℕ} {
 
 -- ---- counting one record
 
-module _ (rules goal calls answers : List ℕ) where
+module _ (it : Lent) where
   -- The count so far and what is left make up what record n adds.
   pub record Counted (n q : ℕ) (s : State) (sum cap : ℕ) : Type 0 where
-    pub stands : Stands rules goal calls answers n q s
+    pub stands : Stands it n q s
     pub most : sum ≤ cap
-    pub whole : min cap (sum + length (left rules goal calls answers n q s)) ≡ min cap (length (added-by rules goal calls answers n))
+    pub whole : min cap (sum + length (left it n q s)) ≡ min cap (length (added-by it n))
 
-  pub counted-none : {n cap : ℕ} → Stands rules goal calls answers n 0 (start-at calls answers n) → Counted n 0 (start-at calls answers n) 0 cap
-  counted-none {n} {cap} h = record { stands = h; most = omega arith; whole = rw zero-add (ap (λ (l : List State). min cap (length l)) (sym (left-first rules goal calls answers n))) }
+  pub counted-none : {n cap : ℕ} → Stands it n 0 (start-at it n) → Counted n 0 (start-at it n) 0 cap
+  counted-none {n} {cap} h = record { stands = h; most = omega arith; whole = rw zero-add (ap (λ (l : List State). min cap (length l)) (sym (left-first it n))) }
 
-  pub counted-more : (n q : ℕ) (s : State) (sum cap : ℕ) {t : State} {size : ℕ} {sizes : List ℕ} → Counted n q s sum cap → q < length (words-at rules goal answers n)
-      → Sized (added-by rules goal calls answers) sizes n cap → Turned calls answers sizes n (step-at rules goal answers n q) s (evidence-at answers n q) t size
+  pub counted-more : (n q : ℕ) (s : State) (sum cap : ℕ) {t : State} {size : ℕ} {sizes : List ℕ} → Counted n q s sum cap → q < length (words-at it n)
+      → Sized (added-by it) sizes n cap → Turned (it .plain) (it .calls) (it .answers) sizes n (step-at it n q) s (evidence-at it n q) t size
       → Counted n (q + 1) t (min cap (sum + size)) cap
   counted-more n q s sum cap {t} {size} {sizes} c l z u = record {
-    stands = stands-next rules goal calls answers n q s l t (c .stands) (u .to);
+    stands = stands-next it n q s l t (c .stands) (u .to);
     most = omega arith;
-    whole = (let e : length (left rules goal calls answers n q s) ≡ length (adds (added-by rules goal calls answers) (step-of (step-at rules goal answers n q)) t (evidence-at answers n q)) + length (left rules goal calls answers n (q + 1) t) =
-        ap length (left-next rules goal calls answers n q s l t (u .to)) ∙ length-append (adds (added-by rules goal calls answers) (step-of (step-at rules goal answers n q)) t (evidence-at answers n q)) (left rules goal calls answers n (q + 1) t) in
-        omega (arith, c .whole, turned-size (added-by rules goal calls answers) z u));
+    whole = (let e : length (left it n q s) ≡ length (adds (added-by it) (step-of (step-at it n q)) t (evidence-at it n q)) + length (left it n (q + 1) t) =
+        ap length (left-next it n q s l t (u .to)) ∙ length-append (adds (added-by it) (step-of (step-at it n q)) t (evidence-at it n q)) (left it n (q + 1) t) in
+        omega (arith, c .whole, turned-size (added-by it) z u));
   }
 
-  pub counted-all : (n q : ℕ) (s : State) (sum cap : ℕ) → Counted n q s sum cap → length (words-at rules goal answers n) ≤ q → sum ≡ min cap (length (added-by rules goal calls answers n))
+  pub counted-all : (n q : ℕ) (s : State) (sum cap : ℕ) → Counted n q s sum cap → length (words-at it n) ≤ q → sum ≡ min cap (length (added-by it n))
   counted-all n q s sum cap c l =
-      let e : length (left rules goal calls answers n q s) ≡ 0 = ap length (left-end rules goal calls answers n q s l) in
+      let e : length (left it n q s) ≡ 0 = ap length (left-end it n q s l) in
       omega (arith, c .whole, c .most)

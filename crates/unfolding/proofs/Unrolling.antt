@@ -15,7 +15,7 @@ use Rattle.steps.specs.Words.{step-of}
 use Rattle.steps.specs.Inner.{is-call}
 use Rattle.steps.proofs.WordLaws.{call-word}
 use Rattle.unfolding.specs.Path.{shown, adds}
-use Rattle.unfolding.proofs.Walk.{Checked, leads-below, adds-call, adds-shown, shown-small, shown-new, words-at, step-at, evidence-at, added-by}
+use Rattle.unfolding.proofs.Walk.{Lent, Checked, leads-below, adds-call, adds-shown, shown-small, shown-new, words-at, step-at, evidence-at, added-by}
 use Rattle.unfolding.proofs.Lies.{Lies, lies-left, lies-right, lies-longer, Agree, agree-keep}
 use Rattle.unfolding.proofs.Rests.{state-at, rest, rest-next, goes-at}
 use Rattle.unfolding.proofs.Frames.{behind, pending, pending-first}
@@ -64,11 +64,11 @@ put-more a b {k} {l} {m} {o} y z = record {
         let e : k + length a + (i - length a) ≡ k + i = omega arith in
         subst (λ (j : ℕ). Agree d o j) e (z .fills d (lies-right a b p) (i - length a) (omega (arith, length-append a b)))
 
-module _ (rules goal calls answers : List ℕ) where
+module _ (it : Lent) where
   -- m is l with what the steps p to q of record n add written from k on.
   pub record Ran (n p k q k′ : ℕ) (l m : List ℕ) : Type 0 where
     pub part : List State
-    pub split : rest rules goal calls answers n p ≡ part ++ rest rules goal calls answers n q
+    pub split : rest it n p ≡ part ++ rest it n q
     pub next : k′ ≡ k + length part
     pub put : Put part k l m
 
@@ -76,58 +76,58 @@ module _ (rules goal calls answers : List ℕ) where
   ran-none n p k l = record { part = []; split = refl; next = omega arith; put = put-none k l }
 
   -- how much room is left
-  pub ran-room : {n p k q k′ : ℕ} {l m : List ℕ} → Ran n p k q k′ l m → k′ + length (rest rules goal calls answers n q) ≡ k + length (rest rules goal calls answers n p)
-  ran-room {n} {p} {k} {q} y = omega (arith, y .next, ap length (y .split), length-append (y .part) (rest rules goal calls answers n q))
+  pub ran-room : {n p k q k′ : ℕ} {l m : List ℕ} → Ran n p k q k′ l m → k′ + length (rest it n q) ≡ k + length (rest it n p)
+  ran-room {n} {p} {k} {q} y = omega (arith, y .next, ap length (y .split), length-append (y .part) (rest it n q))
 
-  module _ {count : ℕ} (c : Checked rules goal calls answers count) (n : ℕ) (h : n < count) (q : ℕ) (r : q < length (words-at rules goal answers n))
-      {leads : List ℕ} {to : ℕ} (z : Led (added-by rules goal calls answers) leads n) (s : CallLead leads (step-at rules goal answers n q) (evidence-at answers n q) to) where
+  module _ {count : ℕ} (c : Checked it count) (n : ℕ) (h : n < count) (q : ℕ) (r : q < length (words-at it n))
+      {leads : List ℕ} {to : ℕ} (z : Led (added-by it) leads n) (s : CallLead leads (step-at it n q) (evidence-at it n q) to) where
     abbrev w : ℕ
-    w = step-at rules goal answers n q
+    w = step-at it n q
 
     abbrev t : State
-    t = state-at rules goal calls answers n (q + 1)
+    t = state-at it n (q + 1)
 
     abbrev e : ℕ
-    e = evidence-at answers n q
+    e = evidence-at it n q
 
     -- one that stands for a record is a call, and the record adds the same
-    pub lead-stops : (x : ℕ) → to ≡ x + 1 → (is-call w ≡ true) × (x < n) × (added-by rules goal calls answers x ≡ added-by rules goal calls answers e)
+    pub lead-stops : (x : ℕ) → to ≡ x + 1 → (is-call w ≡ true) × (x < n) × (added-by it x ≡ added-by it e)
     lead-stops x a = by (is-call w) refl
       where
-        by : (b : Bool) → is-call w ≡ b → (is-call w ≡ true) × (x < n) × (added-by rules goal calls answers x ≡ added-by rules goal calls answers e)
+        by : (b : Bool) → is-call w ≡ b → (is-call w ≡ true) × (x < n) × (added-by it x ≡ added-by it e)
         by true k =
-            let below = leads-below k (goes-at rules goal calls answers c n h q r) in
+            let below = leads-below k (goes-at it c n h q r) in
             of (z .at e below) below
           where
-            of : Lead (added-by rules goal calls answers) e (getD leads e 0) → e < n → (is-call w ≡ true) × (x < n) × (added-by rules goal calls answers x ≡ added-by rules goal calls answers e)
+            of : Lead (added-by it) e (getD leads e 0) → e < n → (is-call w ≡ true) × (x < n) × (added-by it x ≡ added-by it e)
             of (none g f) below = absurd (omega (arith, s .of-call k))
             of (same y g le f) below =
                 let y-is : x ≡ y = omega (arith, s .of-call k) in
-                (k, omega arith, ap (added-by rules goal calls answers) y-is ∙ f)
+                (k, omega arith, ap (added-by it) y-is ∙ f)
         by false k = absurd (omega (arith, s .of-other k))
 
     -- a step that stands for nothing shows all that it adds
-    shows : to ≡ 0 → adds (added-by rules goal calls answers) (step-of w) t e ≡ shown (step-of w) t
+    shows : to ≡ 0 → adds (added-by it) (step-of w) t e ≡ shown (step-of w) t
     shows none-to = by (is-call w) refl
       where
-        by : (b : Bool) → is-call w ≡ b → adds (added-by rules goal calls answers) (step-of w) t e ≡ shown (step-of w) t
-        by true k = adds-call (added-by rules goal calls answers) w t e k ∙ of (z .at e (leads-below k (goes-at rules goal calls answers c n h q r)))
+        by : (b : Bool) → is-call w ≡ b → adds (added-by it) (step-of w) t e ≡ shown (step-of w) t
+        by true k = adds-call (added-by it) w t e k ∙ of (z .at e (leads-below k (goes-at it c n h q r)))
           where
-            of : Lead (added-by rules goal calls answers) e (getD leads e 0) → added-by rules goal calls answers e ≡ shown (step-of w) t
+            of : Lead (added-by it) e (getD leads e 0) → added-by it e ≡ shown (step-of w) t
             of (none a g) = g ∙ sym (call-shown w t k)
             of (same x a le g) = absurd (omega (arith, s .of-call k))
-        by false k = adds-shown (added-by rules goal calls answers) w t e k
+        by false k = adds-shown (added-by it) w t e k
 
-    split-shown : to ≡ 0 → rest rules goal calls answers n q ≡ shown (step-of w) t ++ rest rules goal calls answers n (q + 1)
-    split-shown none-to = rest-next rules goal calls answers c n h q r ∙ ap (λ (a : List State). a ++ rest rules goal calls answers n (q + 1)) (shows none-to)
+    split-shown : to ≡ 0 → rest it n q ≡ shown (step-of w) t ++ rest it n (q + 1)
+    split-shown none-to = rest-next it c n h q r ∙ ap (λ (a : List State). a ++ rest it n (q + 1)) (shows none-to)
 
-    pub size-room : to ≡ 0 → length (shown (step-of w) t) ≤ length (rest rules goal calls answers n q)
-    size-room none-to = omega (arith, ap length (split-shown none-to), length-append (shown (step-of w) t) (rest rules goal calls answers n (q + 1)))
+    pub size-room : to ≡ 0 → length (shown (step-of w) t) ≤ length (rest it n q)
+    size-room none-to = omega (arith, ap length (split-shown none-to), length-append (shown (step-of w) t) (rest it n (q + 1)))
 
     pub ran-more : {p k at at′ : ℕ} {l m o : List ℕ} → to ≡ 0 → at′ ≡ at + length (shown (step-of w) t) → Ran n p k q at l m → Put (shown (step-of w) t) at m o → Ran n p k (q + 1) at′ l o
     ran-more {p} {k} {at} none-to g y new = record {
       part = y .part ++ shown (step-of w) t;
-      split = y .split ∙ ap (λ (a : List State). y .part ++ a) (split-shown none-to) ∙ sym (append-assoc (y .part) (shown (step-of w) t) (rest rules goal calls answers n (q + 1)));
+      split = y .split ∙ ap (λ (a : List State). y .part ++ a) (split-shown none-to) ∙ sym (append-assoc (y .part) (shown (step-of w) t) (rest it n (q + 1)));
       next = omega (arith, y .next, length-append (y .part) (shown (step-of w) t));
       put = put-more (y .part) (shown (step-of w) t) (y .put) (rw (y .next) at new);
     }
@@ -137,34 +137,34 @@ module _ (rules goal calls answers : List ℕ) where
   -- The states found stand in the list, and those to come are what is pending.
   pub record Unrolling (asked n q d : ℕ) (frames : List ℕ) (k : ℕ) (l m : List ℕ) : Type 0 where
     pub part : List State
-    pub split : added-by rules goal calls answers asked ≡ part ++ pending rules goal calls answers n q d frames
+    pub split : added-by it asked ≡ part ++ pending it n q d frames
     pub next : k ≡ 1 + length part
     pub put : Put part 1 l m
 
   pub unrolling-first : (asked : ℕ) (frames l : List ℕ) → Unrolling asked asked 0 0 frames 1 l l
-  unrolling-first asked frames l = record { part = []; split = pending-first rules goal calls answers asked frames; next = omega arith; put = put-none 1 l }
+  unrolling-first asked frames l = record { part = []; split = pending-first it asked frames; next = omega arith; put = put-none 1 l }
 
   pub unrolling-room : {asked n q d : ℕ} {frames : List ℕ} {k : ℕ} {l m : List ℕ} → Unrolling asked n q d frames k l m
-      → k + length (rest rules goal calls answers n q) ≤ 1 + length (added-by rules goal calls answers asked)
+      → k + length (rest it n q) ≤ 1 + length (added-by it asked)
   unrolling-room {asked} {n} {q} {d} {frames} y =
-      omega (arith, y .next, ap length (y .split), length-append (y .part) (pending rules goal calls answers n q d frames), length-append (rest rules goal calls answers n q) (behind rules goal calls answers d frames))
+      omega (arith, y .next, ap length (y .split), length-append (y .part) (pending it n q d frames), length-append (rest it n q) (behind it d frames))
 
   pub unrolling-more : {asked n p d : ℕ} {frames : List ℕ} {k q k′ : ℕ} {l m o : List ℕ} → Unrolling asked n p d frames k l m → Ran n p k q k′ m o → Unrolling asked n q d frames k′ l o
   unrolling-more {asked} {n} {p} {d} {frames} {k} {q} {k′} {l} {m} {o} y r = record {
     part = y .part ++ r .part;
-    split = y .split ∙ ap (λ (a : List State). y .part ++ (a ++ behind rules goal calls answers d frames)) (r .split)
-        ∙ ap (λ (a : List State). y .part ++ a) (append-assoc (r .part) (rest rules goal calls answers n q) (behind rules goal calls answers d frames))
-        ∙ sym (append-assoc (y .part) (r .part) (pending rules goal calls answers n q d frames));
+    split = y .split ∙ ap (λ (a : List State). y .part ++ (a ++ behind it d frames)) (r .split)
+        ∙ ap (λ (a : List State). y .part ++ a) (append-assoc (r .part) (rest it n q) (behind it d frames))
+        ∙ sym (append-assoc (y .part) (r .part) (pending it n q d frames));
     next = omega (arith, y .next, r .next, length-append (y .part) (r .part));
     put = put-more (y .part) (r .part) (y .put) (rw (y .next) at (r .put));
   }
 
   pub unrolling-moved : {asked n q d : ℕ} {frames : List ℕ} {n′ q′ d′ : ℕ} {frames′ : List ℕ} {k : ℕ} {l m : List ℕ}
-      → pending rules goal calls answers n q d frames ≡ pending rules goal calls answers n′ q′ d′ frames′ → Unrolling asked n q d frames k l m → Unrolling asked n′ q′ d′ frames′ k l m
+      → pending it n q d frames ≡ pending it n′ q′ d′ frames′ → Unrolling asked n q d frames k l m → Unrolling asked n′ q′ d′ frames′ k l m
   unrolling-moved e y = record { part = y .part; split = y .split ∙ ap (λ (a : List State). y .part ++ a) e; next = y .next; put = y .put }
 
-  pub unrolling-all : {asked n q d : ℕ} {frames : List ℕ} {k : ℕ} {l m : List ℕ} → Unrolling asked n q d frames k l m → pending rules goal calls answers n q d frames ≡ []
-      → Put (added-by rules goal calls answers asked) 1 l m
+  pub unrolling-all : {asked n q d : ℕ} {frames : List ℕ} {k : ℕ} {l m : List ℕ} → Unrolling asked n q d frames k l m → pending it n q d frames ≡ []
+      → Put (added-by it asked) 1 l m
   unrolling-all {asked} {n} {q} {d} {frames} {k} {l} {m} y e =
       subst (λ (a : List State). Put a 1 l m) (sym (y .split ∙ ap (λ (a : List State). y .part ++ a) e ∙ append-nil (y .part))) (y .put)
 

@@ -1,5 +1,5 @@
 -- The walk of one checked record, step by step: where it stands, what is left to add, and how much a step adds. Assumes nothing.
-use Prim.Native.Nat.{ℕ, zero, suc, _+_, _*_, _/_, _%_, _<_, _≤_}
+use Prim.Native.Nat.{ℕ, zero, suc, _+_, _/_, _%_, _<_, _≤_}
 use native.Mathlib.Omega.{arith}
 use native.Mathlib.Numerals.{add-one}
 use mathlib.Core.Path.{_≡_, refl, sym, subst, _∙_}
@@ -11,56 +11,85 @@ use lib.Dec.{eqb}
 use borrow.Author.Tests.{eqb-true, ne-eqb}
 use Rattle.steps.specs.State.{State}
 use Rattle.steps.specs.Step.{Step, query, insert, delete, call, deny, Body}
-use Rattle.steps.specs.Run.{Goal}
 use Rattle.steps.specs.Words.{step-by, step-of, body-of}
 use Rattle.steps.specs.Inner.{is-call}
 use Rattle.steps.specs.Elementary.{Onward, on, stuck, elementary}
 use Rattle.steps.proofs.EachBelow.{true-not-false}
 use Rattle.steps.proofs.WordLaws.{call-word, no-call, not-on}
-use Rattle.records.specs.Records.{Calls, Answers, bodies-of, follow, follows, call-table, answer-table, call-width, answer-width}
-use Rattle.records.specs.Bodies.{Short}
+use Rattle.records.specs.Records.{Calls, Answers, Bodies, follow, follows}
+use Rattle.records.specs.Storage.{calls-in, answers-in, call-width-of, answer-width-of}
+use Rattle.records.specs.Bodies.{Short, bodies-with}
 use Rattle.checks.specs.Readable.{Readable}
+use Rattle.checks.proofs.WidthLaws.{answers-less}
 use Rattle.checks.proofs.FollowLaws.{follow-elementary, follows-on, follows-stuck}
 use Rattle.unfolding.specs.Path.{shown, adds, walked, states-added}
-use Rattle.unfolding.proofs.Below.{call-below, added-walk}
+use Rattle.unfolding.proofs.Below.{call-below, call-final, added-walk}
 
--- ---- the records of lent words, however many are counted
+-- ---- what is lent to be walked
 
-abbrev pub calls-of : List ℕ → Calls
-calls-of calls = call-table calls 0
+-- Rule words, goal words and two tables, of plain records or of such with rounds. Plain records are those that two parties share, with a goal each.
+abbrev pub Lent : Type 0
+Lent = record { plain : Bool; rules : List ℕ; goal : List ℕ; second : List ℕ; calls : List ℕ; answers : List ℕ }
 
-abbrev pub answers-of : List ℕ → Answers
-answers-of answers = answer-table answers 0
+abbrev pub lent : Bool → List ℕ → List ℕ → List ℕ → List ℕ → List ℕ → Lent
+lent plain rules goal second calls answers = record { plain = plain; rules = rules; goal = goal; second = second; calls = calls; answers = answers }
 
--- the step words of record n, the same for every action, and the state of its call
-abbrev pub words-at : List ℕ → List ℕ → List ℕ → ℕ → List ℕ
-words-at rules goal answers n = bodies-of rules goal .words (getD answers (answer-width * n + 2) 0) Goal
+-- Records of either kind, however many are counted.
+abbrev pub rows-of : Bool → List ℕ → Calls
+rows-of plain calls = calls-in (call-width-of plain) calls 0
 
-abbrev pub start-at : List ℕ → List ℕ → ℕ → State
-start-at calls answers n = getD calls (call-width * getD answers (answer-width * n) 0 + 1) 0
+abbrev pub ends-of : Bool → List ℕ → Answers
+ends-of plain answers = answers-in (answer-width-of plain) answers 0
 
-abbrev pub step-at : List ℕ → List ℕ → List ℕ → ℕ → ℕ → ℕ
-step-at rules goal answers n q = getD (words-at rules goal answers n) q 0
+-- The records lent, and the bodies.
+abbrev pub calls-of : Lent → Calls
+calls-of it = rows-of (it .plain) (it .calls)
 
-abbrev pub evidence-at : List ℕ → ℕ → ℕ → ℕ
-evidence-at answers n q = getD answers (answer-width * n + 3 + q) 0
+abbrev pub answers-of : Lent → Answers
+answers-of it = ends-of (it .plain) (it .answers)
+
+abbrev pub bodies-lent : Lent → Bodies
+bodies-lent it = bodies-with (it .rules) true (it .plain) (it .goal) (it .second)
+
+-- the step words of record n, and the state of its call
+abbrev pub words-at : Lent → ℕ → List ℕ
+words-at it n = bodies-lent it .words (answers-of it .rule n) (calls-of it .action (answers-of it .call n))
+
+abbrev pub start-at : Lent → ℕ → State
+start-at it n = calls-of it .state (answers-of it .call n)
+
+abbrev pub step-at : Lent → ℕ → ℕ → ℕ
+step-at it n q = getD (words-at it n) q 0
+
+abbrev pub evidence-at : Lent → ℕ → ℕ → ℕ
+evidence-at it n q = answers-of it .evidence n q
 
 -- what record n adds
-abbrev pub added-by : List ℕ → List ℕ → List ℕ → List ℕ → ℕ → List State
-added-by rules goal calls answers = states-added (calls-of calls) (answers-of answers) (bodies-of rules goal)
+abbrev pub added-by : Lent → ℕ → List State
+added-by it = states-added (calls-of it) (answers-of it) (bodies-lent it)
+
+-- a run alone has one goal, whatever the action
+pub words-alone : (it : Lent) (i a b : ℕ) → (it .plain ≡ true → a ≡ b) → bodies-lent it .words i a ≡ bodies-lent it .words i b
+words-alone it i a b e = by (it .plain) refl
+  where
+    by : (p : Bool) → it .plain ≡ p → bodies-with (it .rules) true p (it .goal) (it .second) .words i a ≡ bodies-with (it .rules) true p (it .goal) (it .second) .words i b
+    by true z = rw (e z) refl
+    by false z = refl
 
 -- The records below count are checked.
-pub record Checked (rules goal calls answers : List ℕ) (count : ℕ) : Type 0 where
-  pub short : Short rules goal
-  pub readable : Readable false calls answers count
-  pub fits : (n : ℕ) → n < count → (a : ℕ) × (bodies-of rules goal .fits (getD answers (answer-width * n + 2) 0) a ≡ true)
-  pub followed : (n : ℕ) → n < count → follows (calls-of calls) (answers-of answers) n (body-of (words-at rules goal answers n)) 0 (start-at calls answers n) ≡ true
+pub record Checked (it : Lent) (count : ℕ) : Type 0 where
+  pub short : Short (it .rules) (it .goal)
+  pub short-second : Short (it .rules) (it .second)
+  pub readable : Readable (it .plain) (it .calls) (it .answers) count
+  pub fits : (n : ℕ) → n < count → (a : ℕ) × (bodies-lent it .fits (answers-of it .rule n) a ≡ true)
+  pub followed : (n : ℕ) → n < count → follows (calls-of it) (answers-of it) n (body-of (words-at it n)) 0 (start-at it n) ≡ true
 
-pub checked-less : {rules goal calls answers : List ℕ} {count n : ℕ} → n ≤ count → Checked rules goal calls answers count → Checked rules goal calls answers n
-checked-less l c =
+pub checked-less : {it : Lent} {count n : ℕ} → n ≤ count → Checked it count → Checked it n
+checked-less {it} {count} {n} l c =
     record {
       short = c .short;
-      readable = record { most = omega (arith, c .readable .most); long = omega (arith, c .readable .long); called = λ x h. c .readable .called x (omega arith) };
+      short-second = c .short-second;
+      readable = record { most = omega (arith, c .readable .most); long = answers-less (it .plain) n (c .readable .long) l; called = λ x h. c .readable .called x (omega arith) };
       fits = λ x h. c .fits x (omega arith);
       followed = λ x h. c .followed x (omega arith);
     }
@@ -68,25 +97,39 @@ checked-less l c =
 -- ---- one step
 
 -- A step of record n leads from s to t with evidence e.
-pub record LeadsTo (calls answers : List ℕ) (n w : ℕ) (s : State) (e : ℕ) (t : State) : Type 0 where
-  pub leads : follow (calls-of calls) (answers-of answers) n (step-of w) s e ≡ on t
+pub record LeadsTo (plain : Bool) (calls answers : List ℕ) (n w : ℕ) (s : State) (e : ℕ) (t : State) : Type 0 where
+  pub leads : follow (rows-of plain calls) (ends-of plain answers) n (step-of w) s e ≡ on t
 
 -- a call uses a smaller record
-pub leads-below : {calls answers : List ℕ} {n w : ℕ} {s : State} {e : ℕ} {t : State} → is-call w ≡ true → LeadsTo calls answers n w s e t → e < n
-leads-below {calls} {answers} {n} {w} {s} {e} {t} l h =
-    call-below (calls-of calls) (answers-of answers) n (w % 256) s t e (rw (call-word w l) at (h .leads))
+pub leads-below : {plain : Bool} {calls answers : List ℕ} {n w : ℕ} {s : State} {e : ℕ} {t : State} → is-call w ≡ true → LeadsTo plain calls answers n w s e t → e < n
+leads-below {plain} {calls} {answers} {n} {w} {s} {e} {t} l h =
+    call-below (rows-of plain calls) (ends-of plain answers) n (w % 256) s t e (rw (call-word w l) at (h .leads))
+
+-- and leads to its final state;
+pub leads-final : {plain : Bool} {calls answers : List ℕ} {n w : ℕ} {s : State} {e : ℕ} {t : State} → is-call w ≡ true → LeadsTo plain calls answers n w s e t → t ≡ ends-of plain answers .final e
+leads-final {plain} {calls} {answers} {n} {w} {s} {e} {t} l h =
+    call-final (rows-of plain calls) (ends-of plain answers) n (w % 256) s t e (rw (call-word w l) at (h .leads))
+
+-- any other step is done, and has no evidence
+leads-done : {plain : Bool} {calls answers : List ℕ} {n w : ℕ} {s : State} {e : ℕ} {t : State} → is-call w ≡ false → LeadsTo plain calls answers n w s e t
+    → (e ≡ 0) × (elementary (step-of w) s ≡ on t)
+leads-done {plain} {calls} {answers} {n} {w} {s} {e} {t} l h = by (eqb e 0) refl (sym (follow-elementary (rows-of plain calls) (ends-of plain answers) n w s e l) ∙ h .leads)
+  where
+    by : (b : Bool) → eqb e 0 ≡ b → cond b (elementary (step-of w) s) stuck ≡ on t → (e ≡ 0) × (elementary (step-of w) s ≡ on t)
+    by true z k = (eqb-true e 0 z, k)
+    by false z k = absurd (not-on k)
+
+pub leads-elementary : {plain : Bool} {calls answers : List ℕ} {n w : ℕ} {s : State} {e : ℕ} {t : State} → is-call w ≡ false → LeadsTo plain calls answers n w s e t
+    → elementary (step-of w) s ≡ on t
+leads-elementary l h = leads-done l h .1
 
 -- any evidence is at most the record's own number
-pub leads-most : {calls answers : List ℕ} {n w : ℕ} {s : State} {e : ℕ} {t : State} → LeadsTo calls answers n w s e t → e ≤ n
-leads-most {calls} {answers} {n} {w} {s} {e} {t} h = by (is-call w) refl
+pub leads-most : {plain : Bool} {calls answers : List ℕ} {n w : ℕ} {s : State} {e : ℕ} {t : State} → LeadsTo plain calls answers n w s e t → e ≤ n
+leads-most {n = n} {w} {e = e} h = by (is-call w) refl
   where
-    none : (b : Bool) → eqb e 0 ≡ b → cond b (elementary (step-of w) s) stuck ≡ on t → e ≤ n
-    none true z k = let q : e ≡ 0 = eqb-true e 0 z in omega arith
-    none false z k = absurd (not-on k)
-
     by : (b : Bool) → is-call w ≡ b → e ≤ n
     by true z = omega (arith, leads-below z h)
-    by false z = none (eqb e 0) refl (sym (follow-elementary (calls-of calls) (answers-of answers) n w s e z) ∙ h .leads)
+    by false z = omega (arith, leads-done z h .0)
 
 pub adds-call : (f : ℕ → List State) (w : ℕ) (t : State) (e : ℕ) → is-call w ≡ true → adds f (step-of w) t e ≡ f e
 unfolding adds
@@ -142,43 +185,43 @@ walked-next calls answers n f x rest q s t e =
 
 -- ---- the walk
 
-module _ (rules goal calls answers : List ℕ) where
+module _ (it : Lent) where
   -- The walk of record n stands at place q in state s.
   pub record Stands (n q : ℕ) (s : State) : Type 0 where
-    pub within : q ≤ length (words-at rules goal answers n)
-    pub goes : follows (calls-of calls) (answers-of answers) n (body-of (drop q (words-at rules goal answers n))) q s ≡ true
+    pub within : q ≤ length (words-at it n)
+    pub goes : follows (calls-of it) (answers-of it) n (body-of (drop q (words-at it n))) q s ≡ true
 
   -- what the steps from there on add
   abbrev pub left : ℕ → ℕ → State → List State
-  left n q s = walked (calls-of calls) (answers-of answers) n (added-by rules goal calls answers) (body-of (drop q (words-at rules goal answers n))) q s
+  left n q s = walked (calls-of it) (answers-of it) n (added-by it) (body-of (drop q (words-at it n))) q s
 
-  pub stands-first : {count n : ℕ} → Checked rules goal calls answers count → n < count → Stands n 0 (start-at calls answers n)
+  pub stands-first : {count n : ℕ} → Checked it count → n < count → Stands n 0 (start-at it n)
   stands-first {count} {n} c l = record { within = omega arith; goes = c .followed n l }
 
-  pub left-first : (n : ℕ) → added-by rules goal calls answers n ≡ left n 0 (start-at calls answers n)
-  left-first n = added-walk (calls-of calls) (answers-of answers) (bodies-of rules goal) n
+  pub left-first : (n : ℕ) → added-by it n ≡ left n 0 (start-at it n)
+  left-first n = added-walk (calls-of it) (answers-of it) (bodies-lent it) n
 
-  module _ (n q : ℕ) (s : State) (l : q < length (words-at rules goal answers n)) where
-    pub stands-goes : Stands n q s → (t : State) × LeadsTo calls answers n (step-at rules goal answers n q) s (evidence-at answers n q) t
-    stands-goes h = by (follow (calls-of calls) (answers-of answers) n (step-of (step-at rules goal answers n q)) s (evidence-at answers n q)) refl
+  module _ (n q : ℕ) (s : State) (l : q < length (words-at it n)) where
+    pub stands-goes : Stands n q s → (t : State) × LeadsTo (it .plain) (it .calls) (it .answers) n (step-at it n q) s (evidence-at it n q) t
+    stands-goes h = by (follow (calls-of it) (answers-of it) n (step-of (step-at it n q)) s (evidence-at it n q)) refl
       where
-        by : (o : Onward) → follow (calls-of calls) (answers-of answers) n (step-of (step-at rules goal answers n q)) s (evidence-at answers n q) ≡ o
-            → (t : State) × LeadsTo calls answers n (step-at rules goal answers n q) s (evidence-at answers n q) t
+        by : (o : Onward) → follow (calls-of it) (answers-of it) n (step-of (step-at it n q)) s (evidence-at it n q) ≡ o
+            → (t : State) × LeadsTo (it .plain) (it .calls) (it .answers) n (step-at it n q) s (evidence-at it n q) t
         by (on t) e = (t, record { leads = e })
-        by stuck e = absurd (true-not-false (sym (h .goes) ∙ follows-stuck (calls-of calls) (answers-of answers) n (words-at rules goal answers n) q s l (sym e)))
+        by stuck e = absurd (true-not-false (sym (h .goes) ∙ follows-stuck (calls-of it) (answers-of it) n (words-at it n) q s l (sym e)))
 
-    pub stands-next : (t : State) → Stands n q s → LeadsTo calls answers n (step-at rules goal answers n q) s (evidence-at answers n q) t → Stands n (q + 1) t
+    pub stands-next : (t : State) → Stands n q s → LeadsTo (it .plain) (it .calls) (it .answers) n (step-at it n q) s (evidence-at it n q) t → Stands n (q + 1) t
     stands-next t h e = record {
       within = omega arith;
-      goes = sym (follows-on (calls-of calls) (answers-of answers) n (words-at rules goal answers n) q s t l (sym (e .leads))) ∙ h .goes;
+      goes = sym (follows-on (calls-of it) (answers-of it) n (words-at it n) q s t l (sym (e .leads))) ∙ h .goes;
     }
 
-    pub left-next : (t : State) → LeadsTo calls answers n (step-at rules goal answers n q) s (evidence-at answers n q) t
-        → left n q s ≡ adds (added-by rules goal calls answers) (step-of (step-at rules goal answers n q)) t (evidence-at answers n q) ++ left n (q + 1) t
+    pub left-next : (t : State) → LeadsTo (it .plain) (it .calls) (it .answers) n (step-at it n q) s (evidence-at it n q) t
+        → left n q s ≡ adds (added-by it) (step-of (step-at it n q)) t (evidence-at it n q) ++ left n (q + 1) t
     left-next t e =
-        rw (drop-cons (words-at rules goal answers n) q 0 l, add-one q)
-        (walked-next (calls-of calls) (answers-of answers) n (added-by rules goal calls answers) (step-of (step-at rules goal answers n q)) (body-of (drop (suc q) (words-at rules goal answers n))) q s t (e .leads))
+        rw (drop-cons (words-at it n) q 0 l, add-one q)
+        (walked-next (calls-of it) (answers-of it) n (added-by it) (step-of (step-at it n q)) (body-of (drop (suc q) (words-at it n))) q s t (e .leads))
 
-  pub left-end : (n q : ℕ) (s : State) → length (words-at rules goal answers n) ≤ q → left n q s ≡ []
+  pub left-end : (n q : ℕ) (s : State) → length (words-at it n) ≤ q → left n q s ≡ []
   unfolding walked
-  left-end n q s l = rw (drop-of-length-le (words-at rules goal answers n) l) refl
+  left-end n q s l = rw (drop-of-length-le (words-at it n) l) refl

@@ -13,7 +13,7 @@ use Rattle.steps.specs.State.{State}
 use Rattle.steps.specs.Words.{step-of}
 use Rattle.steps.specs.Inner.{is-call}
 use Rattle.unfolding.specs.Path.{shown, adds}
-use Rattle.unfolding.proofs.Walk.{Checked, checked-less, LeadsTo, leads-below, adds-call, adds-shown, shown-small, shown-new, words-at, step-at, evidence-at, added-by, start-at}
+use Rattle.unfolding.proofs.Walk.{Lent, Checked, checked-less, LeadsTo, leads-below, adds-call, adds-shown, shown-small, shown-new, words-at, step-at, evidence-at, added-by, start-at}
 use Rattle.unfolding.proofs.Sizes.{Sized, sized-less}
 use Rattle.unfolding.proofs.Lies.{Lies, lies-longer, Agree, agree-keep, Twice, Copied}
 use Rattle.unfolding.proofs.Places.{Placed, Linked, Roomy, Along, piece, piece-lies, Laid}
@@ -44,55 +44,55 @@ stepped-store {l} {w} {from} {at} {size} {t} k p r = record {
   fills = λ d s i h. (let z : i ≡ 0 = omega (arith, s .stored k p .0) in rw (z, add-zero) (getD-set-same l at t 0 r ∙ s .stored k p .1));
 }
 
-module _ (rules goal calls answers : List ℕ) where
+module _ (it : Lent) where
   -- The buffer holds what the records below n add, at their places.
   abbrev pub Done : List ℕ → ℕ → List ℕ → List ℕ → Type 0
-  Done offsets n wanted l = (x : ℕ) → x < n → 0 < getD offsets x 0 → (i : ℕ) → i < length (added-by rules goal calls answers x) → Agree wanted l (getD offsets x 0 + i)
+  Done offsets n wanted l = (x : ℕ) → x < n → 0 < getD offsets x 0 → (i : ℕ) → i < length (added-by it x) → Agree wanted l (getD offsets x 0 + i)
 
   -- ---- one record
 
   -- What is asked for writing record n.
   pub record Ready (sizes offsets : List ℕ) (n : ℕ) (l : List ℕ) : Type 0 where
-    pub checked : Checked rules goal calls answers (n + 1)
+    pub checked : Checked it (n + 1)
     pub sizes-long : n ≤ length sizes
     pub offsets-long : n < length offsets
-    pub roomy : Roomy rules goal calls answers sizes n (getD offsets n 0)
-    pub inside : (x : ℕ) → 0 < getD offsets x 0 → getD offsets x 0 + length (added-by rules goal calls answers x) ≤ length l
-    pub linked : Linked rules goal calls answers n (length (words-at rules goal answers n)) offsets
+    pub roomy : Roomy it sizes n (getD offsets n 0)
+    pub inside : (x : ℕ) → 0 < getD offsets x 0 → getD offsets x 0 + length (added-by it x) ≤ length l
+    pub linked : Linked it n (length (words-at it n)) offsets
 
   -- m is l with the states of record n written up to place `at`.
   pub record Wrote (offsets : List ℕ) (n at : ℕ) (l m : List ℕ) : Type 0 where
     pub long : length m ≡ length l
-    pub keeps : (wanted : List ℕ) → Placed (added-by rules goal calls answers) offsets wanted → Done offsets n wanted l → (x : ℕ) → Agree wanted l x → Agree wanted m x
-    pub fills : (wanted : List ℕ) → Placed (added-by rules goal calls answers) offsets wanted → Done offsets n wanted l → (x : ℕ) → getD offsets n 0 ≤ x → x < at → Agree wanted m x
+    pub keeps : (wanted : List ℕ) → Placed (added-by it) offsets wanted → Done offsets n wanted l → (x : ℕ) → Agree wanted l x → Agree wanted m x
+    pub fills : (wanted : List ℕ) → Placed (added-by it) offsets wanted → Done offsets n wanted l → (x : ℕ) → getD offsets n 0 ≤ x → x < at → Agree wanted m x
 
   pub wrote-none : (offsets : List ℕ) (n : ℕ) (l : List ℕ) → Wrote offsets n (getD offsets n 0) l l
   wrote-none offsets n l = record { long = refl; keeps = λ d p o x a. a; fills = λ d p o x h k. absurd (omega arith) }
 
   module _ (offsets : List ℕ) (n q : ℕ) (s : State) (at : ℕ) (l m k : List ℕ) (t : State) (size : ℕ)
-      (y : Wrote offsets n at l m) (positive : 0 < getD offsets n 0) (a : Along rules goal calls answers n (getD offsets n 0) q s at)
-      (linked : Linked rules goal calls answers n (length (words-at rules goal answers n)) offsets)
-      (r : q < length (words-at rules goal answers n))
-      (to : LeadsTo calls answers n (step-at rules goal answers n q) s (evidence-at answers n q) t)
-      (exact : size ≡ length (piece rules goal calls answers n (getD offsets n 0) q s at a r t)) where
+      (y : Wrote offsets n at l m) (positive : 0 < getD offsets n 0) (a : Along it n (getD offsets n 0) q s at)
+      (linked : Linked it n (length (words-at it n)) offsets)
+      (r : q < length (words-at it n))
+      (to : LeadsTo (it .plain) (it .calls) (it .answers) n (step-at it n q) s (evidence-at it n q) t)
+      (exact : size ≡ length (piece it n (getD offsets n 0) q s at a r t)) where
     abbrev w : ℕ
-    w = step-at rules goal answers n q
+    w = step-at it n q
 
     abbrev e : ℕ
-    e = evidence-at answers n q
+    e = evidence-at it n q
 
-    here : (wanted : List ℕ) → Placed (added-by rules goal calls answers) offsets wanted → Lies (adds (added-by rules goal calls answers) (step-of w) t e) at wanted
-    here d p = piece-lies rules goal calls answers n (getD offsets n 0) q s at a r t to d (p n positive)
+    here : (wanted : List ℕ) → Placed (added-by it) offsets wanted → Lies (adds (added-by it) (step-of w) t e) at wanted
+    here d p = piece-lies it n (getD offsets n 0) q s at a r t to d (p n positive)
 
-    source : (wanted : List ℕ) → Placed (added-by rules goal calls answers) offsets wanted → Done offsets n wanted l → Source wanted m w (getD offsets e 0) at size t
+    source : (wanted : List ℕ) → Placed (added-by it) offsets wanted → Done offsets n wanted l → Source wanted m w (getD offsets e 0) at size t
     source d p o = record { copied = copy; stored = store }
       where
         copy : is-call w ≡ true → Twice d m (getD offsets e 0) at size
         copy c =
-            let f : adds (added-by rules goal calls answers) (step-of w) t e ≡ added-by rules goal calls answers e = adds-call (added-by rules goal calls answers) w t e c in
-            let z : size ≡ length (added-by rules goal calls answers e) = exact ∙ ap length f in
+            let f : adds (added-by it) (step-of w) t e ≡ added-by it e = adds-call (added-by it) w t e c in
+            let z : size ≡ length (added-by it e) = exact ∙ ap length f in
             let pos : 0 < getD offsets e 0 = linked q r c in
-            let at-here : Lies (added-by rules goal calls answers e) at d = subst (λ (a : List State). Lies a at d) f (here d p) in
+            let at-here : Lies (added-by it e) at d = subst (λ (a : List State). Lies a at d) f (here d p) in
             record {
               same = λ i h. at-here .same i (omega arith) ∙ sym (p e pos .same i (omega arith));
               have = λ i h. y .keeps d p o _ (o e (leads-below c to) pos i (omega arith));
@@ -100,7 +100,7 @@ module _ (rules goal calls answers : List ℕ) where
 
         store : is-call w ≡ false → 0 < size → (size ≡ 1) × (t ≡ getD d at 0)
         store c g =
-            let f : adds (added-by rules goal calls answers) (step-of w) t e ≡ shown (step-of w) t = adds-shown (added-by rules goal calls answers) w t e c in
+            let f : adds (added-by it) (step-of w) t e ≡ shown (step-of w) t = adds-shown (added-by it) w t e c in
             let z : size ≡ length (shown (step-of w) t) = exact ∙ ap length f in
             let at-here : Lies (shown (step-of w) t) at d = subst (λ (a : List State). Lies a at d) f (here d p) in
             let first : getD d (at + 0) 0 ≡ t = at-here .same 0 (omega arith) ∙ shown-new (step-of w) t (omega arith) in
@@ -109,10 +109,10 @@ module _ (rules goal calls answers : List ℕ) where
     pub wrote-more : Stepped m k w (getD offsets e 0) at size t → Wrote offsets n (at + size) l k
     wrote-more st = record { long = st .long ∙ y .long; keeps = keep; fills = fill }
       where
-        keep : (wanted : List ℕ) → Placed (added-by rules goal calls answers) offsets wanted → Done offsets n wanted l → (x : ℕ) → Agree wanted l x → Agree wanted k x
+        keep : (wanted : List ℕ) → Placed (added-by it) offsets wanted → Done offsets n wanted l → (x : ℕ) → Agree wanted l x → Agree wanted k x
         keep d p o x g = st .keeps d (source d p o) x (y .keeps d p o x g)
 
-        fill : (wanted : List ℕ) → Placed (added-by rules goal calls answers) offsets wanted → Done offsets n wanted l → (x : ℕ) → getD offsets n 0 ≤ x → x < at + size → Agree wanted k x
+        fill : (wanted : List ℕ) → Placed (added-by it) offsets wanted → Done offsets n wanted l → (x : ℕ) → getD offsets n 0 ≤ x → x < at + size → Agree wanted k x
         fill d p o x h g = by (ltb x at) refl
           where
             by : (b : Bool) → ltb x at ≡ b → Agree d k x
@@ -127,23 +127,23 @@ module _ (rules goal calls answers : List ℕ) where
   -- m is l with the records below n written.
   pub record Written (offsets : List ℕ) (n : ℕ) (l m : List ℕ) : Type 0 where
     pub long : length m ≡ length l
-    pub keeps : (wanted : List ℕ) → Placed (added-by rules goal calls answers) offsets wanted → (x : ℕ) → Agree wanted l x → Agree wanted m x
-    pub done : (wanted : List ℕ) → Placed (added-by rules goal calls answers) offsets wanted → Done offsets n wanted m
+    pub keeps : (wanted : List ℕ) → Placed (added-by it) offsets wanted → (x : ℕ) → Agree wanted l x → Agree wanted m x
+    pub done : (wanted : List ℕ) → Placed (added-by it) offsets wanted → Done offsets n wanted m
 
   pub written-none : (offsets l : List ℕ) → Written offsets 0 l l
   written-none offsets l = record { long = refl; keeps = λ d p x a. a; done = λ d p x h. absurd (omega arith) }
 
-  done-next : (offsets : List ℕ) (n : ℕ) (wanted l : List ℕ) → Done offsets n wanted l → (0 < getD offsets n 0 → (i : ℕ) → i < length (added-by rules goal calls answers n) → Agree wanted l (getD offsets n 0 + i)) → Done offsets (n + 1) wanted l
+  done-next : (offsets : List ℕ) (n : ℕ) (wanted l : List ℕ) → Done offsets n wanted l → (0 < getD offsets n 0 → (i : ℕ) → i < length (added-by it n) → Agree wanted l (getD offsets n 0 + i)) → Done offsets (n + 1) wanted l
   done-next offsets n wanted l o new x h = by (eqb x n) refl
     where
-      by : (b : Bool) → eqb x n ≡ b → 0 < getD offsets x 0 → (i : ℕ) → i < length (added-by rules goal calls answers x) → Agree wanted l (getD offsets x 0 + i)
+      by : (b : Bool) → eqb x n ≡ b → 0 < getD offsets x 0 → (i : ℕ) → i < length (added-by it x) → Agree wanted l (getD offsets x 0 + i)
       by true z = rw (eqb-true x n z) new
       by false z = let f : (x ≡ n → ⊥) = eqb-false x n z in o x (omega arith)
 
   pub written-skip : {offsets : List ℕ} {n : ℕ} {l m : List ℕ} → Written offsets n l m → getD offsets n 0 ≡ 0 → Written offsets (n + 1) l m
   written-skip {offsets} {n} {l} {m} y e = record { long = y .long; keeps = y .keeps; done = λ d p. done-next offsets n d m (y .done d p) (λ g. absurd (omega arith)) }
 
-  pub written-more : {offsets : List ℕ} {n : ℕ} {l m k : List ℕ} → Written offsets n l m → Wrote offsets n (getD offsets n 0 + length (added-by rules goal calls answers n)) m k → Written offsets (n + 1) l k
+  pub written-more : {offsets : List ℕ} {n : ℕ} {l m k : List ℕ} → Written offsets n l m → Wrote offsets n (getD offsets n 0 + length (added-by it n)) m k → Written offsets (n + 1) l k
   written-more {offsets} {n} {l} {m} {k} y z = record {
     long = z .long ∙ y .long;
     keeps = λ d p x a. z .keeps d p (y .done d p) x (y .keeps d p x a);
@@ -152,16 +152,16 @@ module _ (rules goal calls answers : List ℕ) where
 
   -- What is asked for writing all records: those with places are linked, all lies within the list, and the sizes are exact there.
   pub record Writable (sizes offsets : List ℕ) (asked : ℕ) (l : List ℕ) : Type 0 where
-    pub checked : Checked rules goal calls answers (asked + 1)
+    pub checked : Checked it (asked + 1)
     pub sizes-long : asked ≤ length sizes
     pub offsets-long : asked < length offsets
     pub wanted : List ℕ
     pub fits : length wanted ≤ length l
-    pub laid : Laid rules goal calls answers asked 0 wanted offsets
+    pub laid : Laid it asked 0 wanted offsets
     pub cap : ℕ
     pub small : cap < 2 ^ 61
     pub wide : length wanted ≤ cap
-    pub sized : Sized (added-by rules goal calls answers) sizes asked cap
+    pub sized : Sized (added-by it) sizes asked cap
 
   pub ready : {sizes offsets : List ℕ} {asked n : ℕ} {l m : List ℕ} → Writable sizes offsets asked l → n ≤ asked → 0 < getD offsets n 0 → length m ≡ length l → Ready sizes offsets n m
   ready {sizes} {offsets} {asked} {n} w h p long = record {
@@ -175,22 +175,22 @@ module _ (rules goal calls answers : List ℕ) where
 
   -- ---- the whole path
 
-  pub whole : (offsets : List ℕ) (asked : ℕ) (l m : List ℕ) → suc (length (added-by rules goal calls answers asked)) ≤ length l
-      → Laid rules goal calls answers asked 0 (start-at calls answers asked ∷ added-by rules goal calls answers asked) offsets
-      → Written offsets (asked + 1) (set l 0 (start-at calls answers asked)) m
-      → m ≡ (start-at calls answers asked ∷ added-by rules goal calls answers asked) ++ drop (suc (length (added-by rules goal calls answers asked))) l
+  pub whole : (offsets : List ℕ) (asked : ℕ) (l m : List ℕ) → suc (length (added-by it asked)) ≤ length l
+      → Laid it asked 0 (start-at it asked ∷ added-by it asked) offsets
+      → Written offsets (asked + 1) (set l 0 (start-at it asked)) m
+      → m ≡ (start-at it asked ∷ added-by it asked) ++ drop (suc (length (added-by it asked))) l
   whole offsets asked l m room laid written = ext-getD 0 m all same-long (λ i h. by i (eqb i 0) (ltb i (length path)) refl refl)
     where
       s : State
-      s = start-at calls answers asked
+      s = start-at it asked
 
       path : List State
-      path = start-at calls answers asked ∷ added-by rules goal calls answers asked
+      path = start-at it asked ∷ added-by it asked
 
       all : List State
       all = path ++ drop (length path) l
 
-      placed : Placed (added-by rules goal calls answers) offsets all
+      placed : Placed (added-by it) offsets all
       placed x g = lies-longer path (drop (length path) l) (laid .placed x g)
 
       same-long : length m ≡ length all

@@ -1,5 +1,8 @@
 //! A whole class in one go: one book and goal from many starts.
 
+use std::error::Error;
+use std::fmt;
+
 use crate::refusal::accepted;
 use crate::{ffi, Buffers, Question, Refusal};
 
@@ -8,7 +11,7 @@ pub const MOST_STARTS: usize = 1_024;
 /// Result words of a start: refusal number or 0, ends, calls, answers.
 pub const START_WORDS: usize = 4;
 
-/// What a class tells of a start: the counts of ends, of call records and of answer records. It tells no rounds.
+/// What a class tells of a start, or [`share`](crate::share) of a party's run: the counts of ends, calls and answers. Neither tells rounds.
 #[derive(Clone, Copy, Debug, Default, PartialEq, Eq)]
 pub struct Counts {
     pub ends: usize,
@@ -16,12 +19,23 @@ pub struct Counts {
     pub answers: usize,
 }
 
-/// A refused start: why, and its counts, which are 0 but for refusal 31.
+/// A refused start, or a refused run of a party: why, and its counts, which are 0 but for refusal 31.
 #[derive(Clone, Copy, Debug, PartialEq, Eq)]
 pub struct Uncounted {
     pub refusal: Refusal,
     pub counts: Counts,
 }
+
+impl fmt::Display for Uncounted {
+    fn fmt(&self, f: &mut fmt::Formatter<'_>) -> fmt::Result {
+        match self.refusal {
+            Refusal::ListShort => write!(f, "{}, {} in all", self.refusal, self.counts.ends),
+            refusal => write!(f, "{refusal}"),
+        }
+    }
+}
+
+impl Error for Uncounted {}
 
 /// What one start of a class was told, and its ends in rising order; none where it was refused.
 #[derive(Clone, Copy, Debug, PartialEq, Eq)]

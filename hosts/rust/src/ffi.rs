@@ -74,6 +74,21 @@ pub struct Marked {
     pub yes: u64,
 }
 
+#[repr(C)]
+pub struct Opened {
+    pub refusal: u64,
+    pub kept: [u64; 44],
+}
+
+#[repr(C)]
+pub struct Shared {
+    pub refusal: u64,
+    pub ends: u64,
+    pub calls: u64,
+    pub answers: u64,
+    pub kept: [u64; 44],
+}
+
 extern "C" {
     pub fn lawhemuri_version() -> u64;
     pub fn lawhemuri_read(sheet: *const u8, sheet_len: usize, rules: *mut u16, rules_len: usize) -> Sheet;
@@ -183,4 +198,47 @@ extern "C" {
         table: *mut u64,
         table_len: usize,
     ) -> Marked;
+    pub fn lawhemuri_open(
+        first_calls: u64,
+        first_answers: u64,
+        second_calls: u64,
+        second_answers: u64,
+        calls: *mut u64,
+        calls_len: usize,
+        answers: *mut u64,
+        answers_len: usize,
+    ) -> Opened;
+    pub fn lawhemuri_share(
+        second: bool,
+        fluents: u64,
+        actions: u64,
+        rules: *const u16,
+        rules_len: usize,
+        goal: *const u16,
+        goal_len: usize,
+        start: u64,
+        kept: *const u64,
+        kept_len: usize,
+        calls: *mut u64,
+        calls_len: usize,
+        answers: *mut u64,
+        answers_len: usize,
+        ends: *mut u64,
+        ends_len: usize,
+    ) -> Shared;
+    pub fn lawhemuri_share_path(
+        fluents: u64,
+        actions: u64,
+        rules: *const u16,
+        rules_len: usize,
+        kept: *const u64,
+        kept_len: usize,
+        calls: *const u64,
+        calls_len: usize,
+        answers: *const u64,
+        answers_len: usize,
+        record: u64,
+        states: *mut u64,
+        states_len: usize,
+    ) -> States;
 }

@@ -1,6 +1,6 @@
 //! Safe functions over the proved library: read a rehearsal sheet, write it as its one fixed text, evaluate its goal, from one start
 //! or from a whole class of them, list the path of an answer, find a call; merge two sheets into one; store states by fluent, and
-//! restore them; take the figures of a class run; mark what a trainee did.
+//! restore them; take the figures of a class run; mark what a trainee did; run the goals of two instructors in one pair of tables.
 //!
 //! [`Rehearsal`] reads, evaluates and lists paths in memory of its own, and gives the steps of each way, held against the library's
 //! path:
@@ -13,9 +13,11 @@
 //! assert_eq!((way.states, way.events.len()), (vec![0, 1], 5));
 //! ```
 //!
+//! [`Panel`] is one pair of tables for two instructors, in memory of its own.
+//!
 //! In the functions below the caller lends all memory as slices. What each slice holds afterwards, for every
-//! refusal, is said at each function. As the header's constants say, [`path`] needs 512 KiB of stack,
-//! [`evaluate`], [`class`], [`read`], [`fluent_name`], [`write`], [`merge`], [`merged_fluent`] and [`mark`] 64 KiB,
+//! refusal, is said at each function. As the header's constants say, [`share`] needs 1,792 KiB of stack, [`path`] and [`share_path`] 512 KiB,
+//! [`evaluate`], [`class`], [`read`], [`fluent_name`], [`write`], [`merge`], [`merged_fluent`], [`mark`] and [`open`] 64 KiB,
 //! [`report`] 8 KiB, [`store`] and [`restore`] 1 KiB: a thread of the standard library has 2 MiB.
 //!
 //! ```
@@ -37,6 +39,7 @@ use std::fmt;
 mod calls;
 mod class;
 mod ffi;
+mod panel;
 mod refusal;
 mod rehearsal;
 mod report;
@@ -44,6 +47,8 @@ pub mod unfolding;
 
 pub use calls::Calls;
 pub use class::{class, outcomes, Counts, Outcome, Uncounted, MOST_STARTS, START_WORDS};
+pub use panel::{open, share, share_path, Kept, Limits, Panel, Party, PartyRun, Shared};
+pub use panel::{KEPT_WORDS, SECOND_GOAL_ACTION, SHARED_ANSWER_WORDS, SHARED_CALL_WORDS, STACK_SHARE};
 use refusal::accepted;
 pub use refusal::Refusal;
 pub use rehearsal::{class_of, OfStart, Rehearsal, Trouble, Way, MOST_EVENTS, MOST_RECORDS, STACK_EVALUATE, STACK_PATH};

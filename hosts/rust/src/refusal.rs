@@ -75,6 +75,10 @@ pub enum Refusal {
     BadWordCount = 81,
     /// 82: a bit is set past the last state.
     BitPastEnd = 82,
+    /// 90: the limits of two parties add up to more than the room of a table.
+    OverLimits = 90,
+    /// 91: what is kept of two parties meets 23, 24, 40 or 90, or the tables, counted as kept, do not hold just that, within the limits.
+    NotAsKept = 91,
 }
 
 impl Refusal {
@@ -114,6 +118,8 @@ impl Refusal {
         Refusal::OutputShort,
         Refusal::BadWordCount,
         Refusal::BitPastEnd,
+        Refusal::OverLimits,
+        Refusal::NotAsKept,
     ];
 
     /// The refusal's number.
@@ -163,6 +169,8 @@ impl Refusal {
             Refusal::OutputShort => "the output has fewer places than there are words or states",
             Refusal::BadWordCount => "words that are not one per fluent for each block of 64 states",
             Refusal::BitPastEnd => "a bit set past the last state",
+            Refusal::OverLimits => "the limits of both parties are more than the tables have room for",
+            Refusal::NotAsKept => "the tables of two parties, or what is kept beside them, are not as they were left",
         }
     }
 }

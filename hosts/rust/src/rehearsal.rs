@@ -28,7 +28,7 @@ pub enum Trouble {
     Sheet(Unread),
     /// The run has more than [`MOST_RECORDS`] calls or answers: no room helps.
     TooLarge,
-    /// The library refuses what was handed on as it came from it.
+    /// The library refuses what was asked, or what was handed on as it came from it.
     Refused(Refusal),
     /// No thread with the stack needed could be started.
     Thread(io::Error),
@@ -286,7 +286,7 @@ fn grow_class(question: &Question<'_>, starts: &[u64]) -> Result<Vec<OfStart>, R
 }
 
 /// Runs the work in a thread with so many bytes of stack, and some for itself.
-fn with_stack<T: Send>(bytes: usize, work: impl FnOnce() -> T + Send) -> Result<T, Trouble> {
+pub(crate) fn with_stack<T: Send>(bytes: usize, work: impl FnOnce() -> T + Send) -> Result<T, Trouble> {
     thread::scope(|scope| {
         let builder = thread::Builder::new().stack_size(bytes + STACK_OF_A_THREAD);
         let worker = builder.spawn_scoped(scope, work).map_err(Trouble::Thread)?;

@@ -7,6 +7,7 @@ use lawhemuri::{
     class, evaluate, fluent_name, mark, merge, merged_fluent, outcomes, path, read, report, report_of, report_words, restore,
     store, write, Buffers, Calls, Counts, Fraction, OfStart, Question, Records, Refusal, Report, Run, Uncounted, Unmerged,
     Unread, Unrun, ANSWER_WORDS, CALL_WORDS, MARK_WORDS, MOST_ACTIONS, MOST_CALL_ROUND, MOST_FLUENTS, MOST_RECORDED,
+    STACK_EVALUATE,
 };
 
 const EXAMPLE: &[u8] = b"fluent\topen\nfluent\tlit\naction\tpurge\naction\tlight\nrule\tpurge\t+open\n\
@@ -66,7 +67,7 @@ fn choices() -> (Vec<u16>, Vec<u16>) {
     (rules, (0..11).map(|i| 768 + i).collect())
 }
 
-/// In a thread with 128 KiB of stack a run gives what it gives in any other, in every word.
+/// In a thread with the stack that the header asks for a run gives what it gives in any other, in every word.
 #[test]
 fn small_stack() {
     let drill = (left_recursion(), vec![768]);
@@ -77,7 +78,7 @@ fn small_stack() {
         let run = || with_list(&Question { fluents, actions, rules: &rules, goal: &goal, start: 0 }, [2048, 6144, 2048, 2048]);
         let here = run();
         let there = thread::scope(|scope| {
-            let small = thread::Builder::new().stack_size(128 * 1024).spawn_scoped(scope, run).unwrap();
+            let small = thread::Builder::new().stack_size(STACK_EVALUATE).spawn_scoped(scope, run).unwrap();
             small.join().unwrap()
         });
         assert_eq!(here.0, Ok(told));
@@ -371,11 +372,11 @@ fn denial() {
 fn numbers_of_refusals() {
     let numbers = [
         10, 11, 12, 13, 14, 15, 16, 17, 18, 19, 20, 21, 22, 23, 24, 25, 26, 27, 30, 31, 34, 35, 40, 41, 42, 43, 50, 60, 61, 62,
-        70, 80, 81, 82,
+        70, 80, 81, 82, 90, 91,
     ];
     assert!(Refusal::ALL.iter().map(|refusal| refusal.number()).eq(numbers));
     assert!(numbers.iter().map(|&number| Refusal::of(number)).eq(Refusal::ALL.iter().copied().map(Some)));
-    assert!([0, 9, 28, 29, 32, 33, 36, 39, 44, 59, 63, 79, 83].map(Refusal::of).iter().all(Option::is_none));
+    assert!([0, 9, 28, 29, 32, 33, 36, 39, 44, 59, 63, 79, 83, 89, 92].map(Refusal::of).iter().all(Option::is_none));
 }
 
 /// What a host prints of an error that it handed on by `?`.

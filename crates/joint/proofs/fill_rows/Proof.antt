@@ -22,7 +22,7 @@ use Rattle.tabling.proofs.Evidence.{Among, Valid}
 use Rattle.tabling.proofs.Adding.{Outgrown}
 use Rattle.invariants.proofs.Going.{in-words}
 use Rattle.joint.specs.Joint.{root-if, roots-of, RootPut, RowsFilled}
-use Rattle.joint.proofs.Roots.{none-valid, outgrown-more, root-as, root-put, root-full}
+use Rattle.joint.proofs.Roots.{none-valid, outgrown-more, root-as, root-put, root-full, root-alone}
 use Rattle.joint.proofs.Fresh.{Fresh, cleared-open, cleared-fresh, fresh-still}
 use Rattle.joint.proofs.fill_rows.Statement.{statement}
 use Rattle.joint.proofs.fill_rows.Tie as tie
@@ -43,7 +43,7 @@ rows-full f o = record {
 add-root-requires : tie.Need-add-root-requires
 add-root-requires c κs =
     let i = c .before .before .before .before .before .before .before .before .before .before .before .before .before .before .before .before .before in
-    (cleared-open (i .args .calls .now) (i .args .list .now) (c .before .before .before .before .before .before .before .before .before .clear .ensures) (c .before .before .before .before .before .clear2 .ensures) (i .pre .1 .0), call-index-none _ _, omega (arith, c .before .before .goal .ensures .0))
+    ((cleared-open (i .args .calls .now) (i .args .list .now) (c .before .before .before .before .before .before .before .before .before .clear .ensures) (c .before .before .before .before .before .clear2 .ensures) (i .pre .1 .0), call-index-none _ _, omega (arith, c .before .before .goal .ensures .0)), λ x l k. absurd (omega (arith, l)))
 
 -- ---- the first party's root
 module _ (p : tie.After-add-root) where
@@ -78,6 +78,12 @@ returns : tie.Need-returns
 returns c = let p = c .before .before .before .before .before in rows-full (fresh-one p) (over-one p (c .if1 .taken))
 
 -- ---- the second's
+add-root-requires-2 : tie.Need-add-root-requires-2
+add-root-requires-2 c κs =
+    let p = c .before .before .before .before .before .before .before .before in
+    let s = p .add-root .ensures .1 .0 in
+    ((s .0, s .1, omega arith), root-alone refl second-goal _ (λ e. absurd (omega (arith, e))) (entry p .args .goals .first) (put-one p))
+
 module _ (q : tie.After-add-root2) where
   abbrev one : tie.After-add-root
   one = q .before .before .before .before .before .before .before .before .before
@@ -170,7 +176,7 @@ fill-rows-spec =
     (λ c. search needs)
     returns
     (λ c κs. search needs)
-    (λ c κs. search needs)
+    add-root-requires-2
     same-length-3
     (λ c. search needs)
     returns-2

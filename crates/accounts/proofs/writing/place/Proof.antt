@@ -1,5 +1,6 @@
 -- `place` meets its contract. Assumes nothing.
-use Rattle.accounts.specs.Accounts.{party-of, place-of}
+use Rattle.sharing.specs.Parties.{party-of}
+use Rattle.accounts.specs.Accounts.{place-of}
 use Rattle.accounts.proofs.writing.place.Statement.{statement}
 use Rattle.accounts.proofs.writing.place.Tie as tie
 

@@ -2,8 +2,8 @@
 use native.Mathlib.Omega.{arith}
 use Prim.Native.Nat.{ℕ}
 use mathlib.Core.Path.{_≡_, sym, ap, _∙_}
-use Rattle.sharing.specs.Parties.{Account, account-of, account-words, account-at, ledger-of}
-use Rattle.accounts.specs.Accounts.{party-of, took-up}
+use Rattle.sharing.specs.Parties.{Account, account-of, account-words, account-at, ledger-of, party-of}
+use Rattle.accounts.specs.Accounts.{took-up}
 use Rattle.accounts.proofs.KeptWords.{account-placed, place-inside}
 use borrow.Author.Needs.{needs}
 use Rattle.accounts.proofs.writing.takes_up.Statement.{statement}

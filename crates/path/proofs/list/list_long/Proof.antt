@@ -5,40 +5,42 @@ use mathlib.Core.Path.{refl, _∙_}
 use borrow.Author.Needs.{needs}
 use borrow.Author.Tests.{lt-ltb, le-ltb}
 use lib.ListN.{length, length-set}
-use Rattle.unfolding.proofs.Walk.{added-by}
+use Rattle.unfolding.proofs.Walk.{lent, added-by}
 use Rattle.unfolding.proofs.Unrolling.{unrolled}
 use Rattle.path.proofs.list.list_long.Statement.{statement}
 use Rattle.path.proofs.list.list_long.Tie as tie
 
 returns : tie.Need-returns
 returns c =
-    let a = c .before .before .before .before .before .before .before .before .before .before .before .before .before .args in
-    let full : a .most < suc (length (added-by (a .rules .now) (a .goal .now) (a .calls .now) (a .answers .now) (a .asked))) = omega (arith, c .before .before .before .count .ensures .1, c .if1 .taken) in
+    let a = c .before .before .before .before .before .before .before .before .before .before .before .before .before .before .args in
+    let it = lent (a .plain) (a .rules .now) (a .goal .now) (a .second .now) (a .calls .now) (a .answers .now) in
+    let full : a .most < suc (length (added-by it (a .asked))) = omega (arith, c .before .before .before .count .ensures .1, c .if1 .taken) in
     record { the-count = rw (lt-ltb _ _ full) refl; the-list = rw (lt-ltb _ _ full) refl }
 
 unroll-requires : tie.Need-unroll-requires
 unroll-requires c κs =
-    let p = c .before .before .before .before .before .before .before .before .before .before .before .before .before .before .before .before .before .before .before .before .before .pre in
+    let p = c .before .before .before .before .before .before .before .before .before .before .before .before .before .before .before .before .before .before .before .before .before .before .pre in
     let counted = c .before .before .before .before .before .before .before .before .before .before .before .count .ensures in
     let led = c .before .before .before .before .before .before .lead-all .ensures in
     (p .0, omega (arith, led .0, p .3), omega (arith, counted .0, p .5), led .1, rw length-set (omega (arith, counted .2 (omega (arith, c .before .before .before .before .before .before .before .before .if1 .left)), c .before .before .before .before .before .before .before .before .if1 .left, p .1)))
 
 add-result : tie.Need-add-result
 add-result c =
-    let entry = c .before .before .before .before .before .before .before .before .before .before .before .before .before .before .before .before .before .before .before .before .before .before .before .before .before .before in
+    let entry = c .before .before .before .before .before .before .before .before .before .before .before .before .before .before .before .before .before .before .before .before .before .before .before .before .before .before .before in
     omega (arith, c .before .before .before .before .before .before .before .before .before .before .before .before .before .if1 .left, entry .pre .1, entry .good)
 
 same-length-5 : tie.Need-same-length-5
 same-length-5 c =
-    let entry = c .before .before .before .before .before .before .before .before .before .before .before .before .before .before .before .before .before .before .before .before .before .before .before .before .before .before in
+    let entry = c .before .before .before .before .before .before .before .before .before .before .before .before .before .before .before .before .before .before .before .before .before .before .before .before .before .before .before in
     c .before .before .before .before .unroll .ensures .long ∙ length-set (entry .args .states .now) 0 (c .before .before .before .before .before .before .before .before .start .result)
 
 returns-2 : tie.Need-returns-2
 returns-2 c =
-    let entry = c .before .before .before .before .before .before .before .before .before .before .before .before .before .before .before .before .before .before .before .before .before .before .before .before .before .before in
+    let entry = c .before .before .before .before .before .before .before .before .before .before .before .before .before .before .before .before .before .before .before .before .before .before .before .before .before .before .before in
     let a = entry .args in
+    let it = lent (a .plain) (a .rules .now) (a .goal .now) (a .second .now) (a .calls .now) (a .answers .now) in
     let exact = c .before .before .before .before .before .before .before .before .before .before .before .before .before .before .before .before .count .ensures .2 (omega (arith, c .before .before .before .before .before .before .before .before .before .before .before .before .before .if1 .left)) in
-    let room : suc (length (added-by (a .rules .now) (a .goal .now) (a .calls .now) (a .answers .now) (a .asked))) ≤ a .most = omega (arith, exact, c .before .before .before .before .before .before .before .before .before .before .before .before .before .if1 .left) in
+    let room : suc (length (added-by it (a .asked))) ≤ a .most = omega (arith, exact, c .before .before .before .before .before .before .before .before .before .before .before .before .before .if1 .left) in
     record {
       the-count = rw (le-ltb _ _ room) (omega (arith, exact));
       the-list = rw (le-ltb _ _ room) (unrolled _ _ (a .states .now) _ (omega (arith, room, entry .pre .1)) (rw (c .before .before .before .before .before .before .before .before .start .ensures) at (c .before .before .before .before .unroll .ensures)));

@@ -6,7 +6,7 @@ use mathlib.Core.List.{_∷_}
 use borrow.Author.Needs.{needs}
 use borrow.Author.Tests.{le-ltb}
 use lib.ListN.{length, length-set}
-use Rattle.unfolding.proofs.Walk.{start-at, added-by}
+use Rattle.unfolding.proofs.Walk.{lent, start-at, added-by}
 use Rattle.unfolding.proofs.Sizes.{sized-less}
 use Rattle.unfolding.proofs.Writing.{whole}
 use Rattle.path.proofs.list.list_short.Statement.{statement}
@@ -14,7 +14,7 @@ use Rattle.path.proofs.list.list_short.Tie as tie
 
 place-all-requires : tie.Need-place-all-requires
 place-all-requires c κs =
-    let entry = c .before .before .before .before .before .before .before .before in
+    let entry = c .before .before .before .before .before .before .before .before .before in
     let p = entry .pre in (
       record {
         checked = p .0;
@@ -31,15 +31,16 @@ place-all-requires c κs =
 
 write-all-requires : tie.Need-write-all-requires
 write-all-requires c κs =
-    let entry = c .before .before .before .before .before .before .before .before .before .before .before .before .before .before in
+    let entry = c .before .before .before .before .before .before .before .before .before .before .before .before .before .before .before in
     let p = entry .pre in
     let a = entry .args in
+    let it = lent (a .plain) (a .rules .now) (a .goal .now) (a .second .now) (a .calls .now) (a .answers .now) in
     let placed = c .before .before .before .before .before .place-all .ensures in
     record {
       checked = p .0;
       sizes-long = omega (arith, p .3);
       offsets-long = omega (arith, placed .0, p .6 .long, p .0 .readable .most);
-      wanted = start-at (a .calls .now) (a .answers .now) (a .asked) ∷ added-by (a .rules .now) (a .goal .now) (a .calls .now) (a .answers .now) (a .asked);
+      wanted = start-at it (a .asked) ∷ added-by it (a .asked);
       fits = rw length-set (omega (arith, p .5, p .1));
       laid = placed .1;
       cap = a .most;
@@ -50,23 +51,24 @@ write-all-requires c κs =
 
 add-result : tie.Need-add-result
 add-result c =
-    let entry = c .before .before .before .before .before .before .before .before .before .before .before .before .before .before .before .before .before .before in
+    let entry = c .before .before .before .before .before .before .before .before .before .before .before .before .before .before .before .before .before .before .before in
     omega (arith, c .get .ensures, entry .pre .4 .at (entry .args .asked) (omega arith), entry .pre .2)
 
 same-length-2 : tie.Need-same-length-2
 same-length-2 c =
-    let entry = c .before .before .before .before .before .before .before .before .before .before .before .before .before .before .before .before .before .before in
+    let entry = c .before .before .before .before .before .before .before .before .before .before .before .before .before .before .before .before .before .before .before in
     c .before .before .before .write-all .ensures .long ∙ length-set (entry .args .states .now) 0 (c .before .before .before .before .before .before .start .result)
 
 returns : tie.Need-returns
 returns c =
-    let entry = c .before .before .before .before .before .before .before .before .before .before .before .before .before .before .before .before .before .before in
+    let entry = c .before .before .before .before .before .before .before .before .before .before .before .before .before .before .before .before .before .before .before in
     let p = entry .pre in
     let a = entry .args in
-    let room : suc (length (added-by (a .rules .now) (a .goal .now) (a .calls .now) (a .answers .now) (a .asked))) ≤ a .most = omega (arith, p .5) in
+    let it = lent (a .plain) (a .rules .now) (a .goal .now) (a .second .now) (a .calls .now) (a .answers .now) in
+    let room : suc (length (added-by it (a .asked))) ≤ a .most = omega (arith, p .5) in
     record {
       the-count = rw (le-ltb _ _ room) (omega (arith, c .get .ensures, p .4 .at (a .asked) (omega arith), p .5));
-      the-list = rw (le-ltb _ _ room) (whole (a .rules .now) (a .goal .now) (a .calls .now) (a .answers .now) _ (a .asked) (a .states .now) _ (omega (arith, room, p .1)) (c .before .before .before .before .before .before .before .before .before .place-all .ensures .1) (rw (c .before .before .before .before .before .before .start .ensures) at (c .before .before .before .write-all .ensures)));
+      the-list = rw (le-ltb _ _ room) (whole it _ (a .asked) (a .states .now) _ (omega (arith, room, p .1)) (c .before .before .before .before .before .before .before .before .before .place-all .ensures .1) (rw (c .before .before .before .before .before .before .start .ensures) at (c .before .before .before .write-all .ensures)));
     }
 
 pub list-short-spec : {M : Type 1} → statement M

@@ -7,7 +7,7 @@ use Rattle.path.proofs.list.list_states.Tie as tie
 
 list-within-requires : tie.Need-list-within-requires
 list-within-requires c κs =
-    let p = c .before .before .before .before .before .before .before .before .pre in
+    let p = c .before .before .before .before .before .before .before .before .before .pre in
     (p .0, omega arith, zeros 196608 (omega arith), zeros 196608 (omega arith))
 
 pub list-states-spec : {M : Type 1} → statement M

@@ -6,7 +6,7 @@ use mathlib.Core.Path.{_≡_, refl, _∙_}
 use mathlib.Core.List.{[]}
 use lib.ListN.{length}
 use Rattle.cells.specs.Numbers.{numbers}
-use Rattle.unfolding.proofs.Walk.{checked-less}
+use Rattle.unfolding.proofs.Walk.{lent, checked-less}
 use Rattle.unfolding.proofs.Leads.{led-less}
 use Rattle.unfolding.proofs.Frames.{Sound, sound-first, pending, pending-last, turns-left, moved-long, moved-sound, moved-pending, moved-less}
 use Rattle.unfolding.proofs.Unrolling.{Unrolling, unrolling-first, unrolling-room, unrolling-more, unrolling-moved, unrolling-all}
@@ -14,34 +14,35 @@ use Rattle.path.proofs.unroll.unroll.Statement.{statement}
 use Rattle.path.proofs.unroll.unroll.Tie as tie
 
 abbrev Inv-loop : tie.InvT-loop
-Inv-loop rules goal calls answers asked leads frames₀ list₀ n₀ step₀ depth₀ found₀ frames list n step depth found =
-    Sound rules goal calls answers asked n step depth (numbers frames) × Unrolling rules goal calls answers asked n step depth (numbers frames) found list₀ list × (length frames ≡ length frames₀) × (length (numbers frames) ≡ length (numbers frames₀))
+Inv-loop plain rules goal second calls answers asked leads frames₀ list₀ n₀ step₀ depth₀ found₀ frames list n step depth found =
+    Sound (lent plain rules goal second calls answers) asked n step depth (numbers frames) × Unrolling (lent plain rules goal second calls answers) asked n step depth (numbers frames) found list₀ list × (length frames ≡ length frames₀) × (length (numbers frames) ≡ length (numbers frames₀))
 
 abbrev μ-loop : tie.MeasureT-loop
-μ-loop rules goal calls answers asked leads frames₀ list₀ n₀ step₀ depth₀ found₀ frames list n step depth found =
+μ-loop plain rules goal second calls answers asked leads frames₀ list₀ n₀ step₀ depth₀ found₀ frames list n step depth found =
     turns-left n step depth (numbers frames)
 
 loop-holds : tie.Need-loop-holds Inv-loop μ-loop
-loop-holds c = (sound-first _ _ _ _ _ _, unrolling-first _ _ _ _ _ _ _, refl, refl)
+loop-holds c = (sound-first _ _ _, unrolling-first _ _ _ _, refl, refl)
 
 run-requires : tie.Need-run-requires Inv-loop μ-loop
 run-requires c κs =
     let at-loop = c .before in
-    let entry = at-loop .before .before .before .before .before .before .before .before in
+    let entry = at-loop .before .before .before .before .before .before .before .before .before in
     let a = entry .args in
+    let it = lent (a .plain) (a .rules .now) (a .goal .now) (a .second .now) (a .calls .now) (a .answers .now) in
     let i = at-loop .loop .inv in (
       checked-less (omega (arith, i .0 .low)) (entry .pre .0),
       omega (arith, i .0 .low, entry .pre .1),
       led-less (omega (arith, i .0 .low)) (entry .pre .3),
       i .0 .fresh,
       i .0 .within,
-      omega (arith, unrolling-room (a .rules .now) (a .goal .now) (a .calls .now) (a .answers .now) (i .1), entry .pre .4, i .1 .put .long),
+      omega (arith, unrolling-room it (i .1), entry .pre .4, i .1 .put .long),
     )
 
 add-if1 : tie.Need-add-if1 Inv-loop μ-loop
 add-if1 c =
     let at-loop = c .before .before .before .before .before in
-    let entry = at-loop .before .before .before .before .before .before .before .before in
+    let entry = at-loop .before .before .before .before .before .before .before .before .before in
     omega (arith, c .before .before .before .run .ensures .0 .small, at-loop .loop .inv .0 .low, entry .pre .0 .readable .most)
 
 same-length : tie.Need-same-length Inv-loop μ-loop
@@ -53,40 +54,43 @@ same-length-2 c = c .before .before .before .before .run .ensures .1 .put .long 
 returns : tie.Need-returns Inv-loop μ-loop
 returns c =
     let at-loop = c .before .before .before .before .before .before in
-    let a = at-loop .before .before .before .before .before .before .before .before .args in
+    let a = at-loop .before .before .before .before .before .before .before .before .before .args in
+    let it = lent (a .plain) (a .rules .now) (a .goal .now) (a .second .now) (a .calls .now) (a .answers .now) in
     let i = at-loop .loop .inv in
     let run = c .before .before .before .before .run in
     let floor : at-loop .loop .depth ≡ 0 = omega (arith, c .if1 .taken) in
-    let none : pending (a .rules .now) (a .goal .now) (a .calls .now) (a .answers .now) (at-loop .loop .n) (run .result .step) (at-loop .loop .depth) (numbers (at-loop .loop .frames)) ≡ [] =
-    rw floor (pending-last (a .rules .now) (a .goal .now) (a .calls .now) (a .answers .now) (at-loop .loop .n) (run .result .step) (numbers (at-loop .loop .frames)) (run .ensures .0 .ends (omega (arith, c .if1 .taken)))) in
-    unrolling-all (a .rules .now) (a .goal .now) (a .calls .now) (a .answers .now) (unrolling-more (a .rules .now) (a .goal .now) (a .calls .now) (a .answers .now) (i .1) (run .ensures .1)) none
+    let none : pending it (at-loop .loop .n) (run .result .step) (at-loop .loop .depth) (numbers (at-loop .loop .frames)) ≡ [] =
+    rw floor (pending-last it (at-loop .loop .n) (run .result .step) (numbers (at-loop .loop .frames)) (run .ensures .0 .ends (omega (arith, c .if1 .taken)))) in
+    unrolling-all it (unrolling-more it (i .1) (run .ensures .1)) none
 
 turn-requires : tie.Need-turn-requires Inv-loop μ-loop
 turn-requires c κs =
     let at-loop = c .before .before .before .before .before .before .before in
-    let p = at-loop .before .before .before .before .before .before .before .before .pre in
+    let p = at-loop .before .before .before .before .before .before .before .before .before .pre in
     let i = at-loop .loop .inv in
     (omega (arith, i .0 .low, p .0 .readable .most), c .before .before .before .before .before .run .ensures .0 .short, omega (arith, i .0 .low, p .0 .readable .most), omega (arith, i .0 .low, i .3, p .2), omega (arith, c .before .if1 .left))
 
 loop-less : tie.Need-loop-less Inv-loop μ-loop
 loop-less c =
     let at-loop = c .before .before .before .before .before .before .before .before .before .before in
-    let entry = at-loop .before .before .before .before .before .before .before .before in
+    let entry = at-loop .before .before .before .before .before .before .before .before .before in
     let a = entry .args in
+    let it = lent (a .plain) (a .rules .now) (a .goal .now) (a .second .now) (a .calls .now) (a .answers .now) in
     let i = at-loop .loop .inv in
-    moved-less (a .rules .now) (a .goal .now) (a .calls .now) (a .answers .now) (entry .pre .0) _ _ _ _ _ _ _ _ _ _ (i .0) (c .before .before .before .before .before .before .before .before .run .ensures .0) (omega (arith, i .3, entry .pre .2)) (c .before .before .turn .ensures)
+    moved-less it (entry .pre .0) _ _ _ _ _ _ _ _ _ _ (i .0) (c .before .before .before .before .before .before .before .before .run .ensures .0) (omega (arith, i .3, entry .pre .2)) (c .before .before .turn .ensures)
 
 loop-again : tie.Need-loop-again Inv-loop μ-loop
 loop-again c =
     let at-loop = c .before .before .before .before .before .before .before .before .before .before in
-    let entry = at-loop .before .before .before .before .before .before .before .before in
+    let entry = at-loop .before .before .before .before .before .before .before .before .before in
     let a = entry .args in
+    let it = lent (a .plain) (a .rules .now) (a .goal .now) (a .second .now) (a .calls .now) (a .answers .now) in
     let i = at-loop .loop .inv in
     let run = c .before .before .before .before .before .before .before .before .run in
     let room : a .asked < length (numbers (at-loop .loop .frames)) = omega (arith, i .3, entry .pre .2) in
-    let moved = moved-pending (a .rules .now) (a .goal .now) (a .calls .now) (a .answers .now) (entry .pre .0) _ _ _ _ _ _ _ _ _ _ (i .0) (run .ensures .0) room (c .before .before .turn .ensures) in (
-      moved-sound (a .rules .now) (a .goal .now) (a .calls .now) (a .answers .now) (entry .pre .0) _ _ _ _ _ _ _ _ _ _ (i .0) (run .ensures .0) room (c .before .before .turn .ensures),
-      unrolling-moved (a .rules .now) (a .goal .now) (a .calls .now) (a .answers .now) moved (unrolling-more (a .rules .now) (a .goal .now) (a .calls .now) (a .answers .now) (i .1) (run .ensures .1)),
+    let moved = moved-pending it (entry .pre .0) _ _ _ _ _ _ _ _ _ _ (i .0) (run .ensures .0) room (c .before .before .turn .ensures) in (
+      moved-sound it (entry .pre .0) _ _ _ _ _ _ _ _ _ _ (i .0) (run .ensures .0) room (c .before .before .turn .ensures),
+      unrolling-moved it moved (unrolling-more it (i .1) (run .ensures .1)),
       c .before .frames .given ∙ i .2,
       moved-long (c .before .before .turn .ensures) ∙ i .3,
     )

@@ -1,0 +1,2 @@
+-- Alone: what a party's run alone gives over the words of the shared tables.
+pub mod Alone

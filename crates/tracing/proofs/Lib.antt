@@ -1,0 +1,2 @@
+-- Laws of the answer of a path over shared tables.
+pub mod TracedLaws

@@ -1,0 +1,2 @@
+-- What is asked of the goals of a path over shared tables.
+pub mod Tracing
