@@ -4,6 +4,8 @@
 // party's limits, which the rooms of the tables are no less than: where these are full the run exceeds the limits, and takes no more time for larger
 // tables; else its ends are listed. The records are given up then: those that the tables are to hold are filled in together with the other party's
 // (crate `settling`).
+#![tactic(auto)]
+
 ghost use Rattle.std.specs.Prelude.{◌≡◌, ◌*◌, ◌≤◌, length};
 ghost use Rattle.steps.specs.Run.{Goal};
 ghost use Rattle.steps.specs.Words.{run_of};
@@ -22,7 +24,7 @@ use records::tables;
 use steps::state::Call;
 
 // Whether the run exceeds the limits, and else how many ends, calls and answers it has.
-#[derive(Drop)]
+#[derive(Clone, Copy)]
 pub struct Lone {
     pub full: bool,
     pub ends: u64,

@@ -1,4 +1,6 @@
 // The functions that a host in C, Rust or Python calls: each is one operation of the library, under a name of its own.
+#![tactic(auto)]
+
 ghost use Rattle.std.specs.Prelude.{◌≡◌, length};
 ghost use Rattle.lines.specs.Reader.{read_sheet};
 ghost use Rattle.sheet.specs.Result.{result_of, rules_after};

@@ -1,6 +1,8 @@
 // Paths by valve: states stored as one word per fluent for each block of 64 states, and restored from these words.
 //
 // Both ways are one: a word is a column of bits of a block of states, and a state is a column of bits of a block's words (`columns`).
+#![tactic(auto)]
+
 ghost use Rattle.std.specs.Prelude.{◌≡◌, ◌++◌, ◌*◌, ◌≤◌, ◌<◌, ◌^◌, length, drop};
 ghost use Rattle.archive.specs.Archive.{column, part, columns, blocks};
 ghost use Rattle.archive.specs.Archived.{bad_states, bad_words, bad_bits, store_refusal, restore_refusal, StatesStored, StatesRestored};
@@ -9,7 +11,7 @@ use steps::accept;
 
 // What an operation gives: its refusal or 0, and how many words or states it has written, 0 where refused.
 #[repr(C)]
-#[derive(Drop)]
+#[derive(Clone, Copy)]
 pub struct Archived {
     pub refusal: u64,
     pub count: u64,

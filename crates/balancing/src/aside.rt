@@ -16,7 +16,7 @@ use records::tables;
 const FREED_WORDS: usize = 11;
 
 // Whether a table is full; how many calls and answers there are; and whether the tables that were put aside hold just these.
-#[derive(Drop)]
+#[derive(Clone, Copy)]
 pub struct Found {
     pub full: bool,
     pub calls: usize,

@@ -3,6 +3,8 @@
 // What is kept is judged by itself; then the records one by one (42); then the tables are put aside in their own words, the kept goals are
 // evaluated together in the words that this leaves free, and the rows are told off against each other. A party's own rows are within its limits
 // if those of the tables are; else its goal is evaluated alone. The tables come back word for word.
+#![tactic(auto)]
+
 mod aside;
 mod limits;
 mod rows;

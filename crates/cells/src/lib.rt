@@ -1,6 +1,8 @@
 // 65,536 numbers of three bytes: the two lowest bytes of each, number after number, and behind them all the third byte of each. The two lowest
 // stand by themselves so that they are written at once, as they are read: three bytes in a row would be written one by one, and a processor
 // waits when it reads at once what it has just written in pieces.
+#![tactic(auto)]
+
 ghost use Rattle.std.specs.Prelude.{◌≡◌, ◌+◌, ◌<◌, ◌≤◌, length, get_or, set};
 ghost use Rattle.cells.specs.Numbers.{limit, number, numbers, Kept};
 

@@ -1,4 +1,6 @@
 // Bytes of a sheet: which may stand where, names, lines and fields.
+#![tactic(auto)]
+
 ghost use Rattle.std.specs.Prelude.{◌≡◌, ◌+◌, ◌≤◌, ◌<◌, length, get_or, drop};
 ghost use Rattle.std.proofs.Math.Seq.{slice};
 ghost use Rattle.chars.specs.Bytes.{HASH, sheet_byte, begins, may_stand, clean, lower, name_byte, is_name};

@@ -1,4 +1,6 @@
 // A whole class in one go: one book and goal evaluated from many starts in turn, with the same tables and one list of ends and one list of calls.
+#![tactic(auto)]
+
 ghost use Rattle.std.specs.Prelude.{◌≡◌, ◌++◌, ◌+◌, ◌≤◌, length, take, drop};
 ghost use Rattle.evaluator.specs.Evaluated.{asked, lent, told};
 ghost use Rattle.class.specs.Class.{four, places, Ran};

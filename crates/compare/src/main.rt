@@ -1,6 +1,8 @@
 // Compares reader, writer and evaluator with a separately written evaluator on sheets at random and in some dress: the words read, the text
 // written and what it reads to, ends, calls, answers, rounds, justifications, the words of both tables and of the list of calls, rooms, and a
 // record's marks. The other evaluator works on the words of a book of three fluents, from which a sheet of 64 was written.
+#![tactic(auto)]
+
 mod evidence;
 mod marks;
 mod order;
@@ -19,7 +21,7 @@ use sheet::Sheet;
 // What was seen: sheets; their comment lines and lines ended by CR LF; rules that call their own action first; sheets in which two actions
 // call each other first; ends, calls, answers and rounds; sheets in which an action called has an answer; recorded steps that can run, records that
 // are the goal's, marks. Then the sheets that differ.
-#[derive(Drop)]
+#[derive(Clone, Copy)]
 struct Tally {
     sheets: u64,
     comments: u64,
@@ -202,7 +204,7 @@ fn same_answers(
 }
 
 // Whether the rounds of a run, the words of its tables and its list of calls are those of the book, and whether each answer is justified.
-#[derive(Drop)]
+#[derive(Clone, Copy)]
 struct Good {
     rounds: bool,
     words: bool,
@@ -253,7 +255,7 @@ fn evaluated(
 }
 
 // A run and what of it is the other evaluator's.
-#[derive(Drop)]
+#[derive(Clone, Copy)]
 struct Verdict {
     run: Run,
     ends: bool,

@@ -6,7 +6,7 @@ use relation::{has, ones, place, random};
 use sheet::Sheet;
 
 // What was seen of one record: its steps that can run, a yes, marks; and whether the two agree.
-#[derive(Drop)]
+#[derive(Clone, Copy)]
 pub struct Seen {
     pub runs: u64,
     pub yes: u64,

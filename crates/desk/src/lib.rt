@@ -1,4 +1,6 @@
 // The two tables while a run lasts: reading and writing their records, and giving them as they are promised.
+#![tactic(auto)]
+
 ghost use Rattle.std.specs.Prelude.{◌≡◌, ◌+◌, ◌*◌, ◌/◌, ◌%◌, ◌<◌, ◌≤◌, length, get_or};
 ghost use Rattle.records.specs.Records.{call_width, answer_width};
 ghost use Rattle.desk.specs.Desk.{action_unit, round_unit, round_top, packed_width, call_put, packed, packed_record, Written};

@@ -1,4 +1,6 @@
 // Reads a sheet from standard input and prints the ends of its goal, or its refusal.
+#![tactic(auto)]
+
 use steps::state::State;
 
 fn tab() {

@@ -1,6 +1,8 @@
 // Tabled evaluation of a goal over rule words: the call table and the list are cleared, the goal's call is put in, and rounds fill the tables
 // (crate `filling`); then the ends are counted and listed (crate `finals`), the calls are listed by action and then state (crate `listing`), and
 // both tables are given as they are promised.
+#![tactic(auto)]
+
 ghost use Rattle.std.specs.Prelude.{◌≡◌, true, false, [], ◌∷◌, ℕ, ◌*◌, ◌≤◌, length, replicate};
 ghost use Rattle.records.specs.Records.{room, call_table, call_width, answer_table, answer_width};
 ghost use Rattle.steps.specs.Run.{Goal};
@@ -20,7 +22,7 @@ use steps::state::Call;
 
 // The refusal, 0 for none, the counts of ends, calls and answers, and the number of rounds that added something.
 #[repr(C)]
-#[derive(Drop)]
+#[derive(Clone, Copy)]
 pub struct Run {
     pub refusal: u64,
     pub ends: u64,
@@ -30,7 +32,7 @@ pub struct Run {
 }
 
 // Whether a table is full, the counts of ends, calls and answers, and the number of rounds that added something.
-#[derive(Drop)]
+#[derive(Clone, Copy)]
 struct Outcome {
     full: bool,
     ends: u64,

@@ -1,4 +1,6 @@
 // The fields of a line after its word: those from p up to e, none where p is past e.
+#![tactic(auto)]
+
 pub mod names;
 
 ghost use Rattle.std.specs.Prelude.{◌≡◌, ◌+◌, ◌≤◌, length};
@@ -25,7 +27,7 @@ pub fn count_fields(s: &[u8], p: usize, e: usize) -> usize
 }
 
 // The words of a body, unused ones zero, or a refusal.
-#[derive(Drop)]
+#[derive(Clone, Copy)]
 pub struct Body {
     pub refusal: u64,
     pub len: usize,
@@ -67,7 +69,7 @@ pub fn steps(s: &[u8], p: usize, e: usize, n: Names) -> Body
 }
 
 // A state, or a refusal.
-#[derive(Drop)]
+#[derive(Clone, Copy)]
 pub struct Started {
     pub refusal: u64,
     pub state: State,

@@ -6,6 +6,8 @@
 // depth-first search over answers in rising order (crate `search`), so that a new answer comes by the least evidence of the lowest rule; at its
 // end a round's records are put in order (crate `arranging`). Tables that a round adds nothing to are closed, and every record in them is reached
 // or justified: so they hold exactly the run's calls and answers.
+#![tactic(auto)]
+
 ghost use Rattle.std.specs.Prelude.{◌≡◌, false, List, ℕ, ◌+◌, ◌/◌, ◌<◌, ◌≤◌, length};
 ghost use Rattle.steps.specs.Widths.{rule_width};
 ghost use Rattle.records.specs.Bodies.{bodies_with};
@@ -25,7 +27,7 @@ use steps::state::State;
 use steps::word;
 
 // How many records the tables hold and how many rounds added some, or that a table is full.
-#[derive(Drop)]
+#[derive(Clone, Copy)]
 pub struct Counted {
     pub full: bool,
     pub calls: usize,
@@ -35,7 +37,7 @@ pub struct Counted {
 
 // How far the rounds have come: how many records the tables hold, up to which call record and with which answers records were walked, the
 // number of the last walk, and that of the round which is now.
-#[derive(Drop)]
+#[derive(Clone, Copy)]
 pub struct Stage {
     pub calls: usize,
     pub answers: usize,
@@ -46,7 +48,7 @@ pub struct Stage {
 }
 
 // What a round leaves: how many records there are then, or that a table is full, and the number of its last walk.
-#[derive(Drop)]
+#[derive(Clone, Copy)]
 pub struct Ended {
     pub full: bool,
     pub calls: usize,

@@ -2,6 +2,8 @@
 //
 // They are gathered in the list of ends. If they do not rise there a line is written for each, into words that are lent; the lines are sorted, and
 // their second words are the list.
+#![tactic(auto)]
+
 ghost use Rattle.std.specs.Prelude.{◌≡◌, ◌++◌, ◌+◌, ◌*◌, ◌≤◌, length, drop};
 ghost use Rattle.sorting.specs.Shuffled.{Sorted};
 ghost use Rattle.radix.specs.Lines.{line_width, Below};

@@ -1,6 +1,8 @@
 // Gains followed at a place. For each rule and each of its steps the places come to so far are noted, and an action whose word gains has only the
 // calls of it looked at, from which only places that are new there are walked on. So a place is walked on once from a step. All that is added is
 // right; that nothing is missing is left to the passes, and they find nothing to add.
+#![tactic(auto)]
+
 ghost use Rattle.std.specs.Prelude.{ℕ, ◌+◌, ◌*◌, ◌/◌, ◌%◌, ◌<◌, ◌≤◌, ◌≡◌, get_or, length, set};
 ghost use Rattle.std.specs.Int.Bits.{bit_or};
 ghost use Rattle.steps.specs.State.{bit};

@@ -4,6 +4,8 @@
 // there are also noted the first of each call record, at that one the last, and from each the next of the same call record. All of them
 // stand in quarters of the words lent: those of the calls in the list, those of the answers behind the answer records, a first answer in its
 // call record. What is noted is checked against the records, so it needs neither clearing nor a word that says none.
+#![tactic(auto)]
+
 ghost use Rattle.std.specs.Prelude.{◌≡◌, List, ℕ, ◌+◌, ◌*◌, ◌/◌, ◌<◌, ◌≤◌, length, get_or};
 ghost use Rattle.records.specs.Records.{room, call_width};
 ghost use Rattle.records.specs.Storage.{NoCall, FindCall, FindAnswer, NextAnswer, CallPut, AnswerPut};

@@ -5,7 +5,7 @@ use crate::{rows, turns};
 use panel::Shared;
 
 // Both tables and the words kept.
-#[derive(Drop)]
+#[derive(Clone, Copy)]
 pub struct Handed {
     pub kept: [u64; 44],
     pub calls: [u64; 8],

@@ -2,6 +2,8 @@
 //
 // Two parties on one panel have a goal each, over the same rules. The goals that stand are put in as roots, the first party's under 64 and the
 // second's under 65, and rounds fill the tables from them (crate `filling`): so a call or an answer that serves both has one record.
+#![tactic(auto)]
+
 ghost use Rattle.std.specs.Prelude.{◌*◌, ◌<◌, ◌≤◌, length};
 ghost use Rattle.records.specs.Records.{room, call_width};
 ghost use Rattle.records.specs.Storage.{NoCall};
@@ -17,7 +19,7 @@ use records::{bodies, tables};
 use steps::state::{Call, State};
 
 // Whether a table is full, and how many records the tables hold.
-#[derive(Drop)]
+#[derive(Clone, Copy)]
 pub struct Rows {
     pub full: bool,
     pub calls: usize,

@@ -1,4 +1,6 @@
 // The lines of a sheet, each read by its record word.
+#![tactic(auto)]
+
 ghost use Rattle.std.specs.Prelude.{◌≡◌, List, ◌++◌, ◌∷◌, ℕ, ◌+◌, ◌*◌, ◌≤◌, ◌<◌, length, take, drop};
 ghost use Rattle.std.proofs.Math.Seq.{slice};
 ghost use Rattle.chars.specs.Pieces.{lines};
@@ -14,7 +16,7 @@ use fields::names::Names;
 use steps::state::State;
 
 // A line's first field: a record word, or another.
-#[derive(Drop)]
+#[derive(Clone, Copy)]
 pub enum Word {
     Fluent,
     Action,
@@ -25,7 +27,7 @@ pub enum Word {
 }
 
 // What the lines so far have said, or a refusal.
-#[derive(Drop)]
+#[derive(Clone, Copy)]
 pub struct Parse {
     pub refusal: u64,
     pub stage: u64,
@@ -345,7 +347,7 @@ fn next_line(s: &[u8], a: usize, e: usize, b: Parse, words: &mut [u16]) -> Parse
 }
 
 // What the lines said, and the line of a refusal.
-#[derive(Drop)]
+#[derive(Clone, Copy)]
 pub struct Scan {
     pub line: u64,
     pub said: Parse,

@@ -2,6 +2,8 @@
 //
 // A line of three words is written for each call record, action, state and number, into words that are lent; the lines are sorted, and their
 // numbers are the list. Where too few words are lent the numbers are sorted in the list itself, by a heap.
+#![tactic(auto)]
+
 ghost use Rattle.std.specs.Prelude.{◌≡◌, ◌+◌, ◌*◌, ◌<◌, ◌≤◌, length, get_or};
 ghost use Rattle.radix.specs.Lines.{line_width, Below};
 ghost use Rattle.records.specs.Records.{call_table, call_width};

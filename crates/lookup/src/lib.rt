@@ -1,5 +1,7 @@
 // Finding a call by the list of call record numbers, which stand by action and then state: by halves, nothing is written. The list may come
 // from anybody; a place of it is checked when it is read.
+#![tactic(auto)]
+
 ghost use Rattle.std.specs.Prelude.{◌≡◌, ◌*◌, ◌≤◌, length};
 ghost use Rattle.records.specs.Records.{call_table, call_width};
 ghost use Rattle.canonical.specs.Order.{before, same};
@@ -9,7 +11,7 @@ use records::tables;
 
 // A refusal, 0 for none; whether the call is found, 1 or 0; and its record number, 0 where it is not.
 #[repr(C)]
-#[derive(Drop)]
+#[derive(Clone, Copy)]
 pub struct Found {
     pub refusal: u64,
     pub found: u64,

@@ -1,5 +1,7 @@
 // Marking a trainee's record: for every action and every place of the record, the mask of the places to which some deduction of the action carries
 // out just the steps between. Masks grow, place by place from the last, until a pass over the rules adds nothing.
+#![tactic(auto)]
+
 ghost use Rattle.std.specs.Prelude.{◌≤◌, ◌≡◌, length};
 ghost use Rattle.steps.specs.Words.{body_of};
 ghost use Rattle.marking.specs.Marking.{question, bad_recorded_steps, refusal, RecordMarked};
@@ -13,7 +15,7 @@ mod passes;
 
 // What marking gives: its refusal or 0, and 1 for a yes, else 0.
 #[repr(C)]
-#[derive(Drop)]
+#[derive(Clone, Copy)]
 pub struct Marked {
     pub refusal: u64,
     pub yes: u64,

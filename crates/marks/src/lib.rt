@@ -1,5 +1,7 @@
 // Marks: the low 32 bits of the first word of each call record. Of these the low 16 are the marks of the places 0 to 15, the others the number
 // of the walk that set them. A word of an earlier walk holds no mark, so a walk begins without clearing any.
+#![tactic(auto)]
+
 ghost use Rattle.std.specs.Prelude.{◌≡◌, false, ◌+◌, ◌*◌, ◌/◌, ◌<◌, ◌≤◌, length, get_or};
 ghost use Rattle.records.specs.Records.{call_width};
 ghost use Rattle.records.specs.Storage.{Stored};

@@ -1,5 +1,7 @@
 // Masks of places: bit j of a mask stands for place j of the record. Where the steps of a body come to, walked from a place over the record and
 // a table of masks; and what is added to the table.
+#![tactic(auto)]
+
 ghost use Rattle.std.specs.Prelude.{ℕ, ◌+◌, ◌*◌, ◌/◌, ◌%◌, ◌<◌, ◌≤◌, ◌≡◌, [], ◌∷◌, length};
 ghost use Rattle.steps.specs.State.{bit, holds};
 ghost use Rattle.steps.specs.Words.{head_of};

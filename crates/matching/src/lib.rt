@@ -2,6 +2,8 @@
 //
 // The rows put aside are looked up by the run's indexes and told off: a flag in a free word of the run's record says which row was found there. If
 // each is found, none where another was, and in the end no flag is missing, the rows are the same. The flags are no keys, so the indexes hold.
+#![tactic(auto)]
+
 ghost use Rattle.std.specs.Prelude.{ℕ, ◌+◌, ◌*◌, ◌<◌, ◌≤◌, length, get_or};
 ghost use Rattle.records.specs.Records.{call_width};
 ghost use Rattle.records.specs.Storage.{FindCall};

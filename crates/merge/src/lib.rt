@@ -1,5 +1,7 @@
 // The merge of two sheets into one fixed text. What stands behind the words of the lines is kept as parts of the two sheets: for each word
 // the second's, the first's, and those of the second that are new. Rules that are equal have equal lines, so no word is renumbered.
+#![tactic(auto)]
+
 ghost use Rattle.std.specs.Prelude.{◌≡◌, ◌++◌, ◌+◌, ◌*◌, ◌≤◌, length};
 ghost use Rattle.chars.specs.Bytes.{text};
 ghost use Rattle.chars.specs.Pieces.{lines};
@@ -14,7 +16,7 @@ use steps::state::State;
 
 // What the merge says. Refusal 0 is none; a sheet's own fault has the sheet, 1 or 2, and its line; the length is that of the text written.
 #[repr(C)]
-#[derive(Drop)]
+#[derive(Clone, Copy)]
 pub struct Merged {
     pub refusal: u64,
     pub sheet: u64,
@@ -23,7 +25,7 @@ pub struct Merged {
 }
 
 // What two sheets say together, or a refusal: the parts, the end of those of `start`, and how long the text is.
-#[derive(Drop)]
+#[derive(Clone, Copy)]
 pub struct Joined {
     pub refusal: u64,
     pub sheet: u64,

@@ -1,11 +1,13 @@
 // Parts of a sheet, and the part that the name of a `fluent` line is.
+#![tactic(auto)]
+
 ghost use Rattle.std.specs.Prelude.{◌≡◌, ◌≤◌, ◌<◌, length};
 ghost use Rattle.chars.specs.Pieces.{lines};
 ghost use Rattle.naming.specs.Spans.{name_in, field_span};
 
 // A part of a sheet: where it begins, and how long it is.
 #[repr(C)]
-#[derive(Drop)]
+#[derive(Clone, Copy)]
 pub struct Span {
     pub at: usize,
     pub len: usize,

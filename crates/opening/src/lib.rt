@@ -1,4 +1,6 @@
 // An opening of one pair of tables for two parties (request R-14).
+#![tactic(auto)]
+
 ghost use Rattle.std.specs.Prelude.{◌≡◌};
 ghost use Rattle.refusals.specs.Sharing.{sharing_refusals};
 ghost use Rattle.sharing.specs.Parties.{opened, ledger_words};
@@ -11,7 +13,7 @@ use records::tables;
 
 // The refusal, 0 for none, and the words kept beside the tables from then on.
 #[repr(C)]
-#[derive(Drop)]
+#[derive(Clone, Copy)]
 pub struct Opened {
     pub refusal: u64,
     pub kept: Kept,

@@ -1,10 +1,12 @@
 // Where the name of a merged fluent stands: a part of whichever sheet brought it first.
+#![tactic(auto)]
+
 ghost use Rattle.std.specs.Prelude.{◌≡◌};
 ghost use Rattle.origin.specs.MergedName.{part_in, merged_span, part_of_two, address_of_two};
 
 // A part of one of two sheets: which, 1 or 2, where it begins, and how long it is. Sheet 0 is none.
 #[repr(C)]
-#[derive(Drop)]
+#[derive(Clone, Copy)]
 pub struct Part {
     pub sheet: u64,
     pub at: usize,

@@ -2,6 +2,8 @@
 //
 // A run gives nothing up record by record. It judges what is kept (crate `balancing`), evaluates the party's goal alone (crate `alone`), and fills
 // both tables anew with the rows of the goals that are kept from then on (crate `settling`).
+#![tactic(auto)]
+
 mod leaving;
 mod running;
 
@@ -14,7 +16,7 @@ use steps::accept;
 
 // The refusal, 0 for none, the party's own counts of ends, calls and answers, and the words kept from then on.
 #[repr(C)]
-#[derive(Drop)]
+#[derive(Clone, Copy)]
 pub struct Shared {
     pub refusal: u64,
     pub ends: u64,

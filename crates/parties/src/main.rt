@@ -1,5 +1,7 @@
 // Plays rows of runs of two parties at random (request R-14). Each opening and each run is held to an evaluator and a check of the tables written
 // apart, and each run to one of the library's own evaluator alone in tables of the party's limits. The books have 3 fluents, 4 actions and 6 rules.
+#![tactic(auto)]
+
 mod evidence;
 mod expected;
 mod held;

@@ -9,7 +9,7 @@ use panel::Shared;
 use relation::random::{next, pick};
 
 // Both tables, of which the words from a place on are lent, and the words kept.
-#[derive(Drop)]
+#[derive(Clone, Copy)]
 pub struct Panel {
     pub kept: [u64; 44],
     pub calls: [u64; 160],
@@ -19,7 +19,7 @@ pub struct Panel {
 }
 
 // What a run gave and left.
-#[derive(Drop)]
+#[derive(Clone, Copy)]
 struct Outcome {
     reply: Shared,
     panel: Panel,

@@ -1,4 +1,6 @@
 // Parts of two sheets in a list: part i begins at word 2i and ends at word 2i + 1, counted as if the second sheet stood behind the first.
+#![tactic(auto)]
+
 pub mod texts;
 
 ghost use Rattle.std.specs.Prelude.{◌≡◌, List, [], ◌∷◌, ◌++◌, ℕ, ◌+◌, ◌*◌, ◌-◌, ◌≤◌, ◌<◌, length};
@@ -8,7 +10,7 @@ ghost use Rattle.chars.specs.Places.{same, place, meets};
 ghost use Rattle.parts.specs.Parts.{Lies, At, Inside, Grows, part_at, parts_from, behind_word, section, fresh, news};
 
 // The parts of one word: the second's from `lo` on, the first's from `own` on, the new ones of the second from `new` up to `end`.
-#[derive(Drop)]
+#[derive(Clone, Copy)]
 pub struct Word {
     pub lo: usize,
     pub own: usize,
@@ -17,7 +19,7 @@ pub struct Word {
 }
 
 // The parts of all words, and the end of the goal's, which stands behind those of the rules.
-#[derive(Drop)]
+#[derive(Clone, Copy)]
 pub struct Layout {
     pub fluents: Word,
     pub actions: Word,

@@ -6,7 +6,7 @@ ghost use Rattle.unfolding.proofs.Frames.{Moved};
 
 // Where a run through a record's steps stops: at a step, with so many states found. `to` is one more than the record to go down to, or 0 at the
 // record's end.
-#[derive(Drop)]
+#[derive(Clone, Copy)]
 pub struct Stop {
     pub step: usize,
     pub found: usize,
@@ -14,7 +14,7 @@ pub struct Stop {
 }
 
 // Where the walk goes on: a step of record n, above so many frames.
-#[derive(Drop)]
+#[derive(Clone, Copy)]
 pub struct Spot {
     pub n: usize,
     pub step: usize,

@@ -3,6 +3,8 @@
 // and the states, from the first record up, each part that stands already copied (write). A path of 2^24 states or more is counted (count) and
 // its states are written one after another (unroll), both by a walk down the evidence with a stack of its own (frames), the second by what each
 // record stands for (link). Linear in records and states.
+#![tactic(auto)]
+
 mod count;
 mod frames;
 mod link;

@@ -2,7 +2,7 @@
 
 // A refusal, 0 for none, and how many states are listed.
 #[repr(C)]
-#[derive(Drop)]
+#[derive(Clone, Copy)]
 pub struct Path {
     pub refusal: u64,
     pub states: u64,

@@ -14,7 +14,7 @@ use steps::state::{Call, State};
 use steps::word::{Next, elementary, is_call};
 
 // The state that a step leads to, and how many states it adds to the path.
-#[derive(Drop)]
+#[derive(Clone, Copy)]
 pub struct Turn {
     pub state: u64,
     pub size: usize,

@@ -1,4 +1,6 @@
 // Lines of a program that runs drills: a name, numbers, and buffers with equal neighbours told as one value and how often it stands.
+#![tactic(auto)]
+
 ghost use Rattle.std.specs.Prelude.{◌<◌, ◌≤◌, length};
 
 pub fn text(s: &[u8]) {

@@ -1,4 +1,6 @@
 // Words of 64 bits as four numbers of 16 bits each, their quarters.
+#![tactic(auto)]
+
 ghost use Rattle.std.specs.Prelude.{◌≡◌, ◌<◌, ◌≤◌, ◌^◌, length, get_or};
 ghost use Rattle.quarters.specs.Quarters.{quarter, Changed, QuarterPut};
 

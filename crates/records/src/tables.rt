@@ -175,7 +175,7 @@ pub fn put_answer(
 }
 
 // Where a record stands and how many records there are then, or that there is no room for it.
-#[derive(Drop)]
+#[derive(Clone, Copy)]
 pub struct Put {
     pub row: usize,
     pub count: usize,

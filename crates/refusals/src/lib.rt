@@ -1,4 +1,5 @@
 // The numbers of refusals, each named once, as the tables of documents 01 and 02 have them; 0 is none.
+#![tactic(auto)]
 
 // The sheet is longer than 65,536 bytes.
 pub const TOO_LONG: u64 = 10;

@@ -1,8 +1,10 @@
 // One rehearsal: a sheet is read and its goal evaluated from its start, in rooms of 512 calls and 256 answers.
+#![tactic(auto)]
+
 ghost use Rattle.rehearsal.specs.Rehearsed.{Rehearsed};
 
 // The refusal, 0 for none, and its line; the counts of ends, calls, answers and rounds.
-#[derive(Drop)]
+#[derive(Clone, Copy)]
 pub struct Rehearsal {
     pub refusal: u64,
     pub line: u64,

@@ -5,6 +5,8 @@
 //
 // A book is 7 records of 18 words: the rules, and the goal as the last. A relation table is 32 words, at 8 times the action
 // plus the state. Only safety is proved here, so indices are taken modulo the length of their array.
+#![tactic(auto)]
+
 pub mod depth;
 pub mod order;
 pub mod random;
@@ -86,7 +88,7 @@ fn add_calls(called: &mut [u64; 4], action: u16, set: u64) -> bool {
 }
 
 // What a walk of a body gives: its final states, and whether a call was new.
-#[derive(Drop)]
+#[derive(Clone, Copy)]
 struct Walked {
     set: u64,
     grew: bool,
@@ -178,7 +180,7 @@ fn answers_of(rel: &[u64; 32], action: u64, set: u64) -> u64
 }
 
 // The set of ends, and the counts of calls and answers, the goal's with them.
-#[derive(Drop)]
+#[derive(Clone, Copy)]
 pub struct Found {
     pub ends: u64,
     pub calls: u64,

@@ -98,7 +98,7 @@ fn write_evidence(
 }
 
 // An answer of a round: the number, place and state of its call record, and its final state.
-#[derive(Drop)]
+#[derive(Clone, Copy)]
 struct Row {
     call: u64,
     place: usize,

@@ -2,6 +2,8 @@
 // an end, and the mean ends per unrefused start, as exact fractions in lowest terms.
 //
 // One pass over the results counts the unrefused starts, one over the ends counts them by fluent; Euclid's steps reduce each fraction.
+#![tactic(auto)]
+
 ghost use Rattle.std.specs.Prelude.{◌≡◌, [], ◌∷◌, ◌++◌, ℕ, ◌+◌, ◌*◌, ◌/◌, ◌<◌, ◌≤◌, ◌^◌, length, get_or, take, drop};
 ghost use Rattle.steps.specs.State.{bit};
 ghost use Rattle.report.specs.Fraction.{common, fraction};
@@ -10,21 +12,21 @@ ghost use Rattle.report.specs.Report.{refusal, output_after};
 ghost use Rattle.report.specs.Passes.{Started, Tallied};
 
 // What the results say: whether they are refused, and if not, how many starts are unrefused.
-#[derive(Drop)]
+#[derive(Clone, Copy)]
 struct Starts {
     bad: bool,
     runs: u64,
 }
 
 // What the ends say: whether one of them is refused, and if not, how many fluents hold in them all.
-#[derive(Drop)]
+#[derive(Clone, Copy)]
 struct Held {
     bad: bool,
     sum: u64,
 }
 
 // A fraction in lowest terms.
-#[derive(Drop)]
+#[derive(Clone, Copy)]
 struct Fraction {
     numerator: u64,
     denominator: u64,

@@ -3,6 +3,8 @@
 // A step that goes on is passed, a step that does not sends the walk back to the latest call step with an answer left. The call in front is
 // found or added, and its answers are taken in turn; a call step that the walk comes to again in the same state has been searched already,
 // so it is marked and never entered twice. At the body's end the state is added as an answer, with the answers on the way as its evidence.
+#![tactic(auto)]
+
 ghost use Rattle.std.specs.Prelude.{◌≡◌, true, false, List, ℕ, ◌+◌, ◌-◌, ◌<◌, ◌≤◌, length, get_or, drop};
 ghost use Rattle.steps.specs.Inner.{is_call};
 ghost use Rattle.records.specs.Records.{Bodies, room, call_width};
@@ -23,7 +25,7 @@ use steps::word;
 // What does not change while a body is walked: its rule's number, the call record that it is of, how many answers may serve and how many
 // there is room for, and the walk's own number; the records from `first` up to `old` were walked before, with the answers below `seen`;
 // whether the round has noted all that it has to look at again; and the round's number.
-#[derive(Drop)]
+#[derive(Clone, Copy)]
 pub struct Job {
     pub rule: u64,
     pub row: usize,
@@ -38,14 +40,14 @@ pub struct Job {
 }
 
 // Where a walk is: a state, and one more than the number of the answer taken last, or 0.
-#[derive(Drop)]
+#[derive(Clone, Copy)]
 pub struct Spot {
     pub state: State,
     pub last: usize,
 }
 
 // How the step in front comes out: the walk goes on in a state, has nothing left from here on, or a table is full.
-#[derive(Drop)]
+#[derive(Clone, Copy)]
 pub enum Front {
     On(Spot),
     Spent,
@@ -53,7 +55,7 @@ pub enum Front {
 }
 
 // How the step in front comes out, and how many records the two tables then hold.
-#[derive(Drop)]
+#[derive(Clone, Copy)]
 pub struct Advanced {
     pub calls: usize,
     pub answers: usize,
@@ -299,7 +301,7 @@ fn advance(
 }
 
 // A place, and an answer to take before it.
-#[derive(Drop)]
+#[derive(Clone, Copy)]
 pub struct Later {
     pub at: usize,
     pub answer: usize,
@@ -337,7 +339,7 @@ fn retreat(
 }
 
 // A place and where the walk is then.
-#[derive(Drop)]
+#[derive(Clone, Copy)]
 pub struct Went {
     pub at: usize,
     pub spot: Spot,
@@ -380,7 +382,7 @@ fn go_back(
 }
 
 // How a turn comes out: on after the step in front, back at a place of the body, done, or a table is full.
-#[derive(Drop)]
+#[derive(Clone, Copy)]
 pub enum Leave {
     On(Spot),
     Back(usize, Spot),
@@ -389,7 +391,7 @@ pub enum Leave {
 }
 
 // How a turn comes out, and how many records the two tables then hold.
-#[derive(Drop)]
+#[derive(Clone, Copy)]
 pub struct Moved {
     pub calls: usize,
     pub answers: usize,

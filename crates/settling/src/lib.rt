@@ -2,6 +2,8 @@
 //
 // A run's call records stand in words of their own, three for each that there is room for, and its index of the calls in the call table; its
 // answers stand in the answer table. When it is over both tables are given.
+#![tactic(auto)]
+
 ghost use Rattle.std.specs.Prelude.{◌≡◌, ◌*◌, ◌≤◌, length};
 ghost use Rattle.records.specs.Records.{room, call_width};
 ghost use Rattle.records.specs.Bodies.{bodies_with};

@@ -1,5 +1,7 @@
 // The functions of `include/lawhemuri.h` for two parties that share one pair of tables (request R-14), each by the contract of its operation. They
 // are compiled apart from those of `api`, so that the code of an evaluation alone is made for it alone.
+#![tactic(auto)]
+
 ghost use Rattle.evaluator.specs.Evaluated.{asked};
 ghost use Rattle.sharing.specs.Parties.{opened};
 ghost use Rattle.sharing.specs.Shared.{Opening};

@@ -1,4 +1,6 @@
 // The sheet reader: an author's text into rule words, counts, start and goal, or one numbered refusal and its line.
+#![tactic(auto)]
+
 ghost use Rattle.std.specs.Prelude.{◌≡◌, ◌++◌, ◌≤◌, length, take, drop};
 ghost use Rattle.fields.specs.Held.{answer};
 ghost use Rattle.lines.specs.Reader.{whole_sheet, read_sheet};
@@ -12,7 +14,7 @@ use naming::Span;
 
 // What a sheet says beside its rule words. Refusal 0 is none.
 #[repr(C)]
-#[derive(Drop)]
+#[derive(Clone, Copy)]
 pub struct Sheet {
     pub refusal: u64,
     pub line: u64,

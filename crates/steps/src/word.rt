@@ -32,7 +32,7 @@ pub fn is_call(word: u16) -> bool
 }
 
 // How a step comes out: it goes on in a state, or has no continuation.
-#[derive(Drop)]
+#[derive(Clone, Copy)]
 pub enum Next {
     On(State),
     Stuck,

@@ -1,5 +1,7 @@
 // The tables that two parties share, put aside within the words lent for them while a run has the others, and given back; or new ones given in
 // their place.
+#![tactic(auto)]
+
 ghost use Rattle.std.specs.Prelude.{◌≡◌, ℕ, ◌+◌, ◌*◌, ◌/◌, ◌%◌, ◌<◌, ◌≤◌, length, get_or};
 ghost use Rattle.records.specs.Records.{call_width};
 ghost use Rattle.desk.specs.Desk.{packed, Written, ClearedFrom};
@@ -35,7 +37,7 @@ fn packed(words: &[u64], at: usize) -> u64
 }
 
 // The words of an answer record put aside, but for the free one.
-#[derive(Drop)]
+#[derive(Clone, Copy)]
 struct Stow {
     call: u64,
     last: u64,
@@ -95,7 +97,7 @@ pub fn stow_answers(answers: &mut [u64], m: usize, most: usize)
 }
 
 // 16 words of evidence.
-#[derive(Drop)]
+#[derive(Clone, Copy)]
 struct Evidence {
     words: [u64; 16],
 }

@@ -1,5 +1,7 @@
 // The path of an answer record of tables that two parties share (request R-14): as the path of any record, over records without rounds and with the
 // goals that are kept.
+#![tactic(auto)]
+
 ghost use Rattle.std.specs.Prelude.{◌≡◌, cond, List, [], ℕ, ◌≤◌, length, eqb};
 ghost use Rattle.refusals.specs.Path.{path_refusals};
 ghost use Rattle.steps.specs.Acceptance.{words_refusal};

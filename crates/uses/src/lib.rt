@@ -3,6 +3,8 @@
 // From which call records it is called, the least and the greatest of their numbers: a record is walked again only if it lies between the
 // callers of a record that has gained an answer. After which answer it is called, and from which of its own answers on a round looks at it: an
 // answer is taken again only if it is new, if a record called after it has an answer that is, or if a smaller answer of its own record is.
+#![tactic(auto)]
+
 ghost use Rattle.std.specs.Prelude.{◌≡◌, true, List, ℕ, ◌+◌, ◌-◌, ◌*◌, ◌<◌, ◌≤◌, min, max, length, get_or};
 ghost use Rattle.quarters.specs.Quarters.{quarter};
 ghost use Rattle.records.specs.Records.{call_width};
@@ -192,7 +194,7 @@ fn put_start(list: &mut [u64], k: usize, y: usize, heat: usize)
 }
 
 // The callers of all records with answers from `seen` up to `known`: from `low` up to `high`; and up to where a round looks at records.
-#[derive(Drop)]
+#[derive(Clone, Copy)]
 pub struct Within {
     pub low: usize,
     pub high: usize,
@@ -363,7 +365,7 @@ pub fn first_new(list: &[u64], answers: &[u64], seen: usize, known: usize, row: 
 // The records that a round looks at: from `low` up to `top`; those from `high` on only if they were never walked. The walks of those below
 // `old` may pass over answers: at the last call of a body over those that are not new, and if `warm` over those that the round does not
 // look at.
-#[derive(Drop)]
+#[derive(Clone, Copy)]
 pub struct Span {
     pub low: usize,
     pub high: usize,

@@ -1,5 +1,7 @@
 // The writer: an accepted sheet as its one fixed text. The text is the sheet's own record lines, with LF alone at their ends and the
 // names of `start` in fluent order, so lines are copied and none is rebuilt from words.
+#![tactic(auto)]
+
 ghost use Rattle.std.specs.Prelude.{◌≡◌, [], ◌∷◌, ◌+◌, ◌-◌, ◌≤◌, ◌<◌, length};
 ghost use Rattle.std.proofs.Math.Seq.{slice};
 ghost use Rattle.chars.specs.Pieces.{lines};
@@ -11,7 +13,7 @@ use steps::state::State;
 
 // What the writer gives: the refusal, 0 for none, with its line; the length of the text, 0 if refused.
 #[repr(C)]
-#[derive(Drop)]
+#[derive(Clone, Copy)]
 pub struct Written {
     pub refusal: u64,
     pub line: u64,
@@ -42,7 +44,7 @@ pub fn put_part(out: &mut [u8], at: usize, s: &[u8], from: usize, to: usize) -> 
 }
 
 // Where the text goes on, and the number of the next fluent.
-#[derive(Drop)]
+#[derive(Clone, Copy)]
 struct Place {
     at: usize,
     fluent: u64,
