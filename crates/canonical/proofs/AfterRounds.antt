@@ -119,7 +119,7 @@ module _ (rules goal : List ℕ) (few : length rules / rule_width ≤ goal_rule)
   call_rounds n c m = ⊎_elim (λ e. omega (arith, ap (λ (c : CallRow). c.round) e)) (λ d. omega (arith, d.earlier, d.round_is)) (call_came n c m)
 
   pub answer_rounds : (n : ℕ) (a : AnswerRow) → Memᴰ a (T n).answers → a.round ≤ n
-  answer_rounds zero a m = absurd (Memᴰ.not_nil (subst (Memᴰ a) first_answers m))
+  answer_rounds zero a m = absurd (Memᴰ.not-nil (subst (Memᴰ a) first_answers m))
   answer_rounds (suc n) a m = ⊎_elim (λ l. omega (arith, answer_rounds n a l)) (λ l. omega (arith, ((grown_at n).answers_found a l).1)) (Memᴰ.append_cases (T n).answers (subst (Memᴰ a) (grown_at n).answers_are m))
 
   -- ---- the records' order (R-7), each once
@@ -201,13 +201,13 @@ module _ (rules goal : List ℕ) (few : length rules / rule_width ≤ goal_rule)
         answers_are = sym (append-nil (T n).answers);
         calls_rise = none;
         answers_rise = none;
-        calls_found = λ c m. absurd (Memᴰ.not_nil m);
-        answers_found = λ a m. absurd (Memᴰ.not_nil m);
-        calls_fresh = λ c m. absurd (Memᴰ.not_nil m);
-        answers_fresh = λ a m. absurd (Memᴰ.not_nil m);
+        calls_found = λ c m. absurd (Memᴰ.not-nil m);
+        answers_found = λ a m. absurd (Memᴰ.not-nil m);
+        calls_fresh = λ c m. absurd (Memᴰ.not-nil m);
+        answers_fresh = λ a m. absurd (Memᴰ.not-nil m);
         calls_all = λ d f. subst (λ (t : Rows). Keyed call_key t.calls d) e ((grown_at n).calls_all d f);
         answers_all = λ a f. subst (λ (t : Rows). Keyed answer_key t.answers (answer_key a)) e ((grown_at n).answers_all a f);
-        least = λ a b m. absurd (Memᴰ.not_nil m);
+        least = λ a b m. absurd (Memᴰ.not-nil m);
       }
 
   pub settled_stays : (n : ℕ) → T (suc n) ≡ T n → (m : ℕ) → n ≤ m → T m ≡ T n

@@ -23,7 +23,7 @@ use Rattle.canonical.proofs.Ways.{Lex, lex_one, Along, Comes, ways_out, ways_in,
 -- ---- numbers
 pub numbers_out : {k : ℕ} (i n : ℕ) → Memᴰ k (numbers i n) → (i ≤ k) × (k < i + n)
 unfolding numbers
-numbers_out i zero m = absurd (Memᴰ.not_nil m)
+numbers_out i zero m = absurd (Memᴰ.not-nil m)
 numbers_out i (suc n) (Memᴰ.head e) = (omega arith, omega arith)
 numbers_out i (suc n) (Memᴰ.tail m) = let (a, b) = numbers_out (suc i) n m in (omega arith, omega arith)
 
@@ -72,7 +72,7 @@ module _ (rules goal : List ℕ) where
     where
       by : (b : Bool) → (bodies_of rules goal).fits k a ≡ b → Memᴰ j (cond b (k ∷ []) []) → (j ≡ k) × ((bodies_of rules goal).fits k a ≡ true)
       by true e l = (Memᴰ.eq_of_singleton l, e)
-      by false e l = absurd (Memᴰ.not_nil l)
+      by false e l = absurd (Memᴰ.not-nil l)
 
   pub rules_out : {k : ℕ} (a : ℕ) → Memᴰ k (rules_of rules goal a) → (bodies_of rules goal).fits k a ≡ true
   unfolding rules_of pick

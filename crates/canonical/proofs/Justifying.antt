@@ -68,10 +68,10 @@ module _ (t : Rows) where
   called_stands : {c : ℕ × State} (x : Step) (rest : Body) (s : State) → Memᴰ c (called x s) → Walk Does Taken s (x ∷ rest) c.1 (call c.0 ∷ rest)
   unfolding called
   called_stands {c} (call a) rest s m = subst (λ (d : ℕ × State). Walk Does Taken s (call a ∷ rest) d.1 (call d.0 ∷ rest)) (sym (Memᴰ.eq_of_singleton m)) stands
-  called_stands (query p) rest s m = absurd (Memᴰ.not_nil m)
-  called_stands (insert p) rest s m = absurd (Memᴰ.not_nil m)
-  called_stands (delete p) rest s m = absurd (Memᴰ.not_nil m)
-  called_stands (deny p) rest s m = absurd (Memᴰ.not_nil m)
+  called_stands (query p) rest s m = absurd (Memᴰ.not-nil m)
+  called_stands (insert p) rest s m = absurd (Memᴰ.not-nil m)
+  called_stands (delete p) rest s m = absurd (Memᴰ.not-nil m)
+  called_stands (deny p) rest s m = absurd (Memᴰ.not-nil m)
 
   comes_walk : {body : Body} {s : State} {c : ℕ × State} → Comes t body s c → (rest : Body) × Walk Does Taken s body c.1 (call c.0 ∷ rest)
   comes_walk (now {x} {rest} {s} m) = (rest, called_stands x rest s m)

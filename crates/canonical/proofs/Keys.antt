@@ -119,7 +119,7 @@ module _ {A : Type 0} (key : A → Key) where
 
     pub put_old : {z : A} (ys : List A) → (key z ≡ key x → ⊥) → Memᴰ z ys → Memᴰ z (put key x ys)
     unfolding put
-    put_old [] n m = absurd (Memᴰ.not_nil m)
+    put_old [] n m = absurd (Memᴰ.not-nil m)
     put_old {z} (y ∷ ys) n m = by (compare (key x) (key y)) (put_old ys n) (Memᴰ.cases_cons m)
       where
         by : Compared (key x) (key y) → (Memᴰ z ys → Memᴰ z (put key x ys)) → (z ≡ y) ⊎ Memᴰ z ys → Memᴰ z (put key x (y ∷ ys))
@@ -131,7 +131,7 @@ module _ {A : Type 0} (key : A → Key) where
 
     pub put_rising : {ys : List A} → Rising ys → Rising (put key x ys)
     unfolding put
-    put_rising none = more (λ y m. absurd (Memᴰ.not_nil m)) none
+    put_rising none = more (λ y m. absurd (Memᴰ.not-nil m)) none
     put_rising (more {x = y} {xs = ys} low r) = by (compare (key x) (key y)) (put_rising r)
       where
         by : Compared (key x) (key y) → Rising (put key x ys) → Rising (put key x (y ∷ ys))
@@ -159,7 +159,7 @@ module _ {A : Type 0} (key : A → Key) where
   -- Its members are the first of their keys.
   pub in_order_first : {z : A} (xs : List A) → Memᴰ z (in_order key xs) → First z xs
   unfolding in_order
-  in_order_first [] m = absurd (Memᴰ.not_nil m)
+  in_order_first [] m = absurd (Memᴰ.not-nil m)
   in_order_first {z} (x ∷ xs) m = by (compare (key z) (key x)) (λ l. in_order_first xs l) (put_out x (in_order key xs) m)
     where
       by : Compared (key z) (key x) → (Memᴰ z (in_order key xs) → First z xs) → (z ≡ x) ⊎ Memᴰ z (in_order key xs) → First z (x ∷ xs)
@@ -187,8 +187,8 @@ module _ {A : Type 0} (key : A → Key) where
 
   pub rising_unique : {xs ys : List A} → Rising xs → Rising ys → ((z : A) → Memᴰ z xs → Memᴰ z ys) → ((z : A) → Memᴰ z ys → Memᴰ z xs) → xs ≡ ys
   rising_unique none none f g = refl
-  rising_unique none (more {x = y} low r) f g = absurd (Memᴰ.not_nil (g y (Memᴰ.head refl)))
-  rising_unique (more {x = x} low r) none f g = absurd (Memᴰ.not_nil (f x (Memᴰ.head refl)))
+  rising_unique none (more {x = y} low r) f g = absurd (Memᴰ.not-nil (g y (Memᴰ.head refl)))
+  rising_unique (more {x = x} low r) none f g = absurd (Memᴰ.not-nil (f x (Memᴰ.head refl)))
   rising_unique (more {x = x} {xs = xs} lx rx) (more {x = y} {xs = ys} ly ry) f g =
       by (Memᴰ.cases_cons (f x (Memᴰ.head refl))) (Memᴰ.cases_cons (g y (Memᴰ.head refl))) (λ e. rising_unique rx ry (rest_of e lx f) (rest_of (sym e) ly g))
     where
@@ -251,7 +251,7 @@ module _ {A : Type 0} (key : A → Key) where
 
     pub new_to_member : {x : A} (xs : List A) → Memᴰ x (new_to key held xs) → Memᴰ x xs × (Keyed held (key x) → ⊥)
     unfolding new_to
-    new_to_member [] m = absurd (Memᴰ.not_nil m)
+    new_to_member [] m = absurd (Memᴰ.not-nil m)
     new_to_member {x} (y ∷ ys) m = by (holds_key key held (key y)) refl m (λ l. new_to_member ys l)
       where
         by : (b : Bool) → holds_key key held (key y) ≡ b → Memᴰ x (cond b (new_to key held ys) (y ∷ new_to key held ys)) → (Memᴰ x (new_to key held ys) → Memᴰ x ys × (Keyed held (key x) → ⊥)) → Memᴰ x (y ∷ ys) × (Keyed held (key x) → ⊥)

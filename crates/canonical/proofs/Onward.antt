@@ -42,7 +42,7 @@ module _ (t : Rows) where
     pub answers_out : {e : ℕ} {u : State} (x : ℕ) (rs : List AnswerRow) → Memᴰ {A = ℕ × State} (e, u) (answers_of t c x rs)
         → (j : ℕ) × (j < length rs) × (e ≡ x + j) × (call_key (call_at t.calls (answer_at rs j).call) ≡ c) × ((answer_at rs j).final ≡ u)
     unfolding answers_of
-    answers_out x [] m = absurd (Memᴰ.not_nil m)
+    answers_out x [] m = absurd (Memᴰ.not-nil m)
     answers_out {e} {u} x (r ∷ rs) m = by (same (call_key (call_at t.calls r.call)) c) refl m (λ k. answers_out (suc x) rs k)
       where
         Found : ℕ → List AnswerRow → Type 0
@@ -84,7 +84,7 @@ module _ (t : Rows) where
 
   -- ---- the labels at a step rise
   rise_goes : (o : Onward) → Ordered (λ (p q : ℕ × State). p.0 < q.0) (goes o ++ [])
-  rise_goes (on u) = more (λ y m. absurd (Memᴰ.not_nil m)) none
+  rise_goes (on u) = more (λ y m. absurd (Memᴰ.not-nil m)) none
   rise_goes stuck = none
 
   pub onward_rise : (x : Step) (s : State) → Ordered (λ (p q : ℕ × State). p.0 < q.0) (leads_to t x s)
@@ -97,13 +97,13 @@ module _ (t : Rows) where
     where
       ordered_nil : {xs : List (ℕ × State)} → Ordered (λ (p q : ℕ × State). p.0 < q.0) xs → Ordered (λ (p q : ℕ × State). p.0 < q.0) (xs ++ [])
       ordered_nil none = none
-      ordered_nil (more {xs = xs} low o) = more (λ y m. ⊎_elim (low y) (λ k. absurd (Memᴰ.not_nil k)) (Memᴰ.append_cases xs m)) (ordered_nil o)
+      ordered_nil (more {xs = xs} low o) = more (λ y m. ⊎_elim (low y) (λ k. absurd (Memᴰ.not-nil k)) (Memᴰ.append_cases xs m)) (ordered_nil o)
 
   -- ---- the labels are those of the search
   module _ {b : Tables} {known : ℕ} (shows : Shows t b known) where
     goes_out : {e : ℕ} {u : State} (o : Onward) → Memᴰ {A = ℕ × State} (e, u) (goes o ++ []) → Leads (Of b known) (final b) (front o) e u
     goes_out (on v) m = let f = Memᴰ.eq_of_singleton m in (ap (λ (p : ℕ × State). p.0) f, sym (ap (λ (p : ℕ × State). p.1) f))
-    goes_out stuck m = absurd (Memᴰ.not_nil m)
+    goes_out stuck m = absurd (Memᴰ.not-nil m)
 
     goes_in : (e : ℕ) (u : State) (o : Onward) → Leads (Of b known) (final b) (front o) e u → Memᴰ {A = ℕ × State} (e, u) (goes o ++ [])
     goes_in e u (on v) (z, f) = Memᴰ.head (ap₂ (λ (n : ℕ) (s : State). (n, s)) z (sym f))
@@ -126,7 +126,7 @@ module _ (t : Rows) where
             let f' : (answer_at t.answers e).final ≡ u = rw w at f in
             let g : call_of b e ≡ (a, s) = shows.of_call e h ∙ c' in
             (record { below = h; action = ap (λ (p : ℕ × State). p.0) g; state = ap (λ (p : ℕ × State). p.1) g }, shows.to_final e h ∙ f')
-        by (inr k) = absurd (Memᴰ.not_nil k)
+        by (inr k) = absurd (Memᴰ.not-nil k)
 
     pub leads_onward : (e : ℕ) (u : State) (x : Step) (s : State) → Leads (Of b known) (final b) (move_step x s) e u → Memᴰ {A = ℕ × State} (e, u) (leads_to t x s)
     unfolding leads_to called flat_map elementary move_step

@@ -9,7 +9,7 @@ pub data Ordered {A : Type 0} (R : A → A → Type 0) : List A → Type 0 where
   more : {x : A} {xs : List A} → ((y : A) → Memᴰ y xs → R x y) → Ordered R xs → Ordered R (x ∷ xs)
 
 pub ordered_one : {A : Type 0} {R : A → A → Type 0} (x : A) → Ordered R (x ∷ [])
-ordered_one x = more (λ y m. absurd (Memᴰ.not_nil m)) none
+ordered_one x = more (λ y m. absurd (Memᴰ.not-nil m)) none
 
 pub ordered_append : {A : Type 0} {R : A → A → Type 0} {xs ys : List A} → Ordered R xs → Ordered R ys → ((x y : A) → Memᴰ x xs → Memᴰ y ys → R x y) → Ordered R (xs ++ ys)
 ordered_append none o c = o
@@ -24,7 +24,7 @@ ordered_map {S = S} f up (more {x} {xs} h p) = more (λ y m. let (a, k, e) = Mem
 module _ {A B : Type 0} (f : A → List B) where
   pub flat_out : {b : B} (xs : List A) → Memᴰ b (flat_map f xs) → (a : A) × Memᴰ a xs × Memᴰ b (f a)
   unfolding flat_map
-  flat_out [] m = absurd (Memᴰ.not_nil m)
+  flat_out [] m = absurd (Memᴰ.not-nil m)
   flat_out (x ∷ xs) m = ⊎_elim (λ k. (x, Memᴰ.head refl, k)) (λ k. let (a, l, n) = flat_out xs k in (a, Memᴰ.tail l, n)) (Memᴰ.append_cases (f x) m)
 
   pub flat_in : {a : A} {b : B} {xs : List A} → Memᴰ a xs → Memᴰ b (f a) → Memᴰ b (flat_map f xs)

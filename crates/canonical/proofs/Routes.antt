@@ -29,10 +29,10 @@ front_no_call stuck e = let z : ◌≡◌ {A = ℕ} 0 1 = cc in omega arith
 pub called_move : {c : ℕ × State} (x : Step) (s : State) → Memᴰ c (called x s) → move_step x s ≡ calls c
 unfolding called move_step
 called_move (call a) s m = ap calls (sym (Memᴰ.eq_of_singleton m))
-called_move (query p) s m = absurd (Memᴰ.not_nil m)
-called_move (insert p) s m = absurd (Memᴰ.not_nil m)
-called_move (delete p) s m = absurd (Memᴰ.not_nil m)
-called_move (deny p) s m = absurd (Memᴰ.not_nil m)
+called_move (query p) s m = absurd (Memᴰ.not-nil m)
+called_move (insert p) s m = absurd (Memᴰ.not-nil m)
+called_move (delete p) s m = absurd (Memᴰ.not-nil m)
+called_move (deny p) s m = absurd (Memᴰ.not-nil m)
 
 pub move_called : {c : ℕ × State} (x : Step) (s : State) → move_step x s ≡ calls c → Memᴰ c (called x s)
 unfolding called move_step

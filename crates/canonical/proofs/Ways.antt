@@ -77,7 +77,7 @@ module _ (t : Rows) where
 
   pub comes_out : {c : ℕ × State} (body : Body) (s : State) → Memᴰ c (comes_to t body s) → Comes body s c
   unfolding comes_to
-  comes_out [] s m = absurd (Memᴰ.not_nil m)
+  comes_out [] s m = absurd (Memᴰ.not-nil m)
   comes_out {c} (x ∷ rest) s m = ⊎_elim now (λ k. (let (o, l, n) = flat_out (λ (o : ℕ × State). comes_to t rest o.1) (leads_to t x s) k in past {u = o.1} {e = o.0} l (comes_out rest o.1 n))) (Memᴰ.append_cases (called x s) m)
 
   pub comes_in : {c : ℕ × State} {body : Body} {s : State} → Comes body s c → Memᴰ c (comes_to t body s)

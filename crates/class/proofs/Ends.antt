@@ -87,13 +87,13 @@ module _ {ask : State → Asked} where
   -- No more ends than a table may have answers.
   pub ends_most : {starts : List State} {before last : Lent} {rs : List Told} → Turns ask starts before last rs
       → (r : Told) → Memᴰ r rs → r.refusal ≡ 0 → r.ends ≤ 65536
-  ends_most over r m z = absurd (Memᴰ.not_nil m)
+  ends_most over r m z = absurd (Memᴰ.not-nil m)
   ends_most (turn {start = start} E T) r m z = ⊎_elim (λ e. rw e (omega (arith, (in_rooms (ask start) E).ends, (in_rooms (ask start) E).answers))) (λ k. ends_most T r k z) (Memᴰ.cases_cons m)
 
   -- Each end is one of an accepted start of the class.
   pub ends_of_starts : {starts : List State} {before last : Lent} {rs : List Told} {ends : List State} → Turns ask starts before last rs → InTurn ask starts rs ends
       → (D : State) → Memᴰ D ends → (start : State) × Memᴰ start starts × (refused_with (ask start) ≡ 0) × End (run_asked (ask start)) D
-  ends_of_starts over none D m = absurd (Memᴰ.not_nil m)
+  ends_of_starts over none D m = absurd (Memᴰ.not-nil m)
   ends_of_starts (turn E T) (without n I) D m = let (start, among, ok, d) = ends_of_starts T I D m in (start, Memᴰ.tail among, ok, d)
   ends_of_starts (turn {start = start} E T) (in-turn-more {own = own} z up e c I) D m =
       ⊎_elim

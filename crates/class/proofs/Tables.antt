@@ -15,7 +15,7 @@ use Rattle.class.proofs.Single.{handed_room}
 
 module _ (ask : State → Asked) where
   pub tables_left : {starts : List State} {before last : Lent} {rs : List Told} → Turns ask starts before last rs → TablesLeft ask starts before last
-  tables_left over = untouched (inl (λ s m. absurd (Memᴰ.not_nil m))) refl refl refl
+  tables_left over = untouched (inl (λ s m. absurd (Memᴰ.not-nil m))) refl refl refl
   tables_left (turn {start = start} {later = later} {before = before} {left = left} {last = last} {r = r} {rs = rs} E T) = go (tables_left T) E
     where
       -- a start refused with 20 to 24 before such starts
@@ -57,7 +57,7 @@ module _ (ask : State → Asked) where
   Some starts = (start : State) × Memᴰ start starts × (refused_with (ask start) ≡ 0)
 
   none_or_some : (starts : List State) → NoneAccepted ask starts ⊎ Some starts
-  none_or_some [] = inl (λ s m. absurd (Memᴰ.not_nil m))
+  none_or_some [] = inl (λ s m. absurd (Memᴰ.not-nil m))
   none_or_some (start ∷ later) = by (dec_lt 0 (refused_with (ask start))) (none_or_some later)
     where
       by : Dec (0 < refused_with (ask start)) → NoneAccepted ask later ⊎ Some later → NoneAccepted ask (start ∷ later) ⊎ Some (start ∷ later)
@@ -86,7 +86,7 @@ module _ (ask : State → Asked) where
   -- Where some start is refused with none of 20 to 24 and 34 is not met, the tables and the list of calls left do not depend on what the buffers held.
   pub tables_same : {starts : List State} {b₁ b₂ l₁ l₂ : Lent} {rs₁ rs₂ : List Told} → SameRoom b₁ b₂ → ¬ CallListShort b₁ → Turns ask starts b₁ l₁ rs₁ → Turns ask starts b₂ l₂ rs₂
       → Some starts → SameTables l₁ l₂
-  tables_same s n over over (t, m, e) = absurd (Memᴰ.not_nil m)
+  tables_same s n over over (t, m, e) = absurd (Memᴰ.not-nil m)
   tables_same {b₁ = b₁} {b₂ = b₂} {l₁ = l₁} {l₂ = l₂} s n (turn {start = start} {later = later} {left = left₁} E T) (turn {left = left₂} F U) some =
       by (none_or_some later) (λ rest.
       let k = tables_same (handed_room (one_result (ask start) b₁ b₂ s.calls s.answers s.ends s.list E F) s E F) (λ h. n (short h)) T U rest in

@@ -41,4 +41,4 @@ pub no_rule : (π : Path) (a : ℕ) → Entails [] π (call a ∷ []) → ⊥
 no_rule π a h = no (complete h)
   where
     no : Along [] π (call a ∷ []) → ⊥
-    no (D, D', move (calls r m e) d, f) = Memᴰ.not_nil m
+    no (D, D', move (calls r m e) d, f) = Memᴰ.not-nil m

@@ -69,7 +69,7 @@ module _ (answers : Answers) (row : ℕ) where
   -- The answers of the row below n, and no others.
   pub finals_in : (n : ℕ) {f : State} → Memᴰ f (finals_below answers row n) → (x : ℕ) × (x < n) × AnswerAt answers x row f
   finals_in n {f} = finals_ind (λ n l. Memᴰ f l → (x : ℕ) × (x < n) × AnswerAt answers x row f)
-      (λ m. absurd (mathlib.Core.List.Memᴰ.not_nil m))
+      (λ m. absurd (mathlib.Core.List.Memᴰ.not-nil m))
       (λ x e h m. ⊎_elim
       (λ (k : Memᴰ f (finals_below answers row x)). up x (h k))
       (λ (k : Memᴰ f (answers.final x ∷ [])). (x, omega arith, record { has_call = e; has_final = sym (mathlib.Core.List.Memᴰ.eq_of_singleton k) }))

@@ -64,7 +64,7 @@ module _ {bodies : Bodies} {Root Root' : ℕ → State → Type 0} {t : Tables} 
 -- Tables without a record, where there is no root.
 pub none_valid : (bodies : Bodies) (calls : Calls) (answers : Answers) → calls.count ≡ 0 → answers.count ≡ 0 → Valid bodies (Among []) (tables calls answers)
 none_valid bodies calls answers n m = record {
-  roots = λ b E r. absurd (Memᴰ.not_nil r);
+  roots = λ b E r. absurd (Memᴰ.not-nil r);
   calls_once = λ i j b E l h x y. omega arith;
   answers_once = λ x y row f l h u v. omega arith;
   reached = λ i h. absurd (omega arith);

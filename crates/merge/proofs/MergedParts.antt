@@ -45,7 +45,7 @@ module _ (f : List ℕ → List ℕ) where
   into (Memᴰ.tail m) = Memᴰ.tail (into m)
 
   out_of : (z : List ℕ) (xs : List (List ℕ)) → Memᴰ z (map f xs) → (x : List ℕ) × Memᴰ x xs × (z ≡ f x)
-  out_of z [] m = absurd (Memᴰ.not_nil m)
+  out_of z [] m = absurd (Memᴰ.not-nil m)
   out_of z (x ∷ xs) (Memᴰ.head e) = (x, Memᴰ.head refl, e)
   out_of z (x ∷ xs) (Memᴰ.tail m) = let (y, k, e) = out_of z xs m in (y, Memᴰ.tail k, e)
 

@@ -114,7 +114,7 @@ module _ (a b : Book) (p : Proper a) (q : Proper b) (f : NamesFit a b) where
   }
 
   mapped : (r : List ℕ) (rs : List (List ℕ)) → Memᴰ r (map (rule_in m b.names) rs) → (i : ℕ) × (i < length rs) × (r ≡ rule_in m b.names (get_or rs i []))
-  mapped r [] k = absurd (Memᴰ.not_nil k)
+  mapped r [] k = absurd (Memᴰ.not-nil k)
   mapped r (x ∷ rs) (Memᴰ.head e) = (0, omega arith, e)
   mapped r (x ∷ rs) (Memᴰ.tail k) = let (i, l, e) = mapped r rs k in (suc i, omega arith, e)
 

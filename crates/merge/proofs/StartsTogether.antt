@@ -17,7 +17,7 @@ use Rattle.merge.proofs.Together.{together_place}
 -- a name that holds: its number
 pub holding_at : (n : List ℕ) (k : ℕ) (s : State) (ns : List (List ℕ)) → Memᴰ n (holding k s ns) → (i : ℕ) × (i < length ns) × (get_or ns i [] ≡ n) × (holds s (k + i) ≡ true)
 unfolding holding
-holding_at n k s [] m = absurd (Memᴰ.not_nil m)
+holding_at n k s [] m = absurd (Memᴰ.not-nil m)
 holding_at n k s (x ∷ ns) m = by (holds s k) refl (holding_at n (suc k) s ns) m
   where
     later : (i : ℕ) × (i < length ns) × (get_or ns i [] ≡ n) × (holds s (suc k + i) ≡ true) → (i : ℕ) × (i < suc (length ns)) × (get_or (x ∷ ns) i [] ≡ n) × (holds s (k + i) ≡ true)

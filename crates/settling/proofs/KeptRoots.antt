@@ -27,7 +27,7 @@ roots_in true true x y a D (Memᴰ.head e) = let (b, d) = same e in inl (refl, b
 roots_in true true x y a D (Memᴰ.tail m) = let (b, d) = same (Memᴰ.eq_of_singleton m) in inr (refl, b, d)
 roots_in true false x y a D m = let (e, d) = same (Memᴰ.eq_of_singleton m) in inl (refl, e, d)
 roots_in false true x y a D m = let (e, d) = same (Memᴰ.eq_of_singleton m) in inr (refl, e, d)
-roots_in false false x y a D m = absurd (Memᴰ.not_nil m)
+roots_in false false x y a D m = absurd (Memᴰ.not-nil m)
 
 in_roots : (f s : Bool) (x y : State) (a : ℕ) (D : State) → Root f s x y a D → Among (roots_of f s x y) a D
 in_roots true s x y a D (inl (h, e, d)) = Memᴰ.head (λ k. (e k, d k))

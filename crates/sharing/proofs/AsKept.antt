@@ -66,8 +66,8 @@ module _ (c₁ a₁ c₂ a₂ : ℕ) where
   empty_balanced : (rules : List ℕ) (n m : ℕ) → Balanced rules l (replicate n 0) (replicate m 0)
   unfolding rows
   empty_balanced rules n m = record {
-    calls_held = record { once = none; members = λ c. (λ k. absurd (Memᴰ.not_nil k), λ (p, h, k). absurd (nobody p h)) };
-    answers_held = record { once = none; members = λ c. (λ k. absurd (Memᴰ.not_nil k), λ (p, h, k). absurd (nobody p h)) };
+    calls_held = record { once = none; members = λ c. (λ k. absurd (Memᴰ.not-nil k), λ (p, h, k). absurd (nobody p h)) };
+    answers_held = record { once = none; members = λ c. (λ k. absurd (Memᴰ.not-nil k), λ (p, h, k). absurd (nobody p h)) };
     justified = λ x h. absurd (omega arith);
     calls_past = λ i h. no_place n i;
     answers_past = λ i h. no_place m i;

@@ -44,8 +44,8 @@ module _ {A : Type 0} (P Q : A → Type 0) where
     of_q = [];
     p_once = none;
     q_once = none;
-    p_all = λ x m. absurd (Memᴰ.not_nil m);
-    q_all = λ x m. absurd (Memᴰ.not_nil m);
+    p_all = λ x m. absurd (Memᴰ.not-nil m);
+    q_all = λ x m. absurd (Memᴰ.not-nil m);
     p_in = λ x m. m;
     q_in = λ x m. m;
     both = refl;

@@ -68,13 +68,13 @@ module _ (A : List AnswerRow) where
     where
       go : (b : Bool) → holds D p ≡ b → Memᴰ D₁ (cond b (D ∷ []) []) → Walk Does (InAnswers A) D (query p ∷ rest) E left
       go true e k = walks (asks e) (rw (Memᴰ.eq_of_singleton k) at w)
-      go false e k = absurd (Memᴰ.not_nil k)
+      go false e k = absurd (Memᴰ.not-nil k)
   next_walk (insert p) m w = walks adds (rw (Memᴰ.eq_of_singleton m) at w)
   next_walk (delete p) m w = walks drops (rw (Memᴰ.eq_of_singleton m) at w)
   next_walk (deny p) {D} {D₁} {E} {rest} {left} m w = go (holds D p) refl m
     where
       go : (b : Bool) → holds D p ≡ b → Memᴰ D₁ (cond b [] (D ∷ [])) → Walk Does (InAnswers A) D (deny p ∷ rest) E left
-      go true e k = absurd (Memᴰ.not_nil k)
+      go true e k = absurd (Memᴰ.not-nil k)
       go false e k = walks (lacks e) (rw (Memᴰ.eq_of_singleton k) at w)
   next_walk (call b) {D} {D₁} m w = takes (go (select_out (λ (t : AnswerRow). eqb t.0 b && eqb t.1 D) (λ t. t.2) A m)) w
     where
@@ -107,7 +107,7 @@ body_out run a {body} m =
   where
     goal : (b : Bool) → eqb a Goal ≡ b → Memᴰ body (cond b (run.goal ∷ []) []) → BodyOf run a body
     goal true e k = rw (Memᴰ.eq_of_singleton k) (of_goal (eqb→eq a Goal (true_holds (eqb a Goal) e)))
-    goal false e k = absurd (Memᴰ.not_nil k)
+    goal false e k = absurd (Memᴰ.not-nil k)
 
     rule : ((r : Rule) × Memᴰ r run.book × T (eqb r.head a) × (body ≡ r.body)) → BodyOf run a body
     rule (r, k, t, e) = rw e (of_rule r k (eqb→eq r.head a t))
@@ -257,7 +257,7 @@ some_come run A c k t = go (some_walk (comes_at k) run A c t)
 -- an answer justified by those behind it is a final state of its action
 ends_of : (run : Run) (A : List AnswerRow) → T (justified run A) → (a : ℕ) (D D' : State) → InAnswers A a D D' → Ends Does (BodyOf run) a D D'
 unfolding justified
-ends_of run [] j a D D' m = absurd (Memᴰ.not_nil m)
+ends_of run [] j a D D' m = absurd (Memᴰ.not-nil m)
 ends_of run (t ∷ A) j a D D' (Memᴰ.head e) =
     let (h, js) = both (some_place (ends_at t.2) run A (t.0, t.1)) (justified run A) j in
     let (body, o, w) = some_end run A (t.0, t.1) t.2 h in
@@ -269,7 +269,7 @@ ends_of run (t ∷ A) j a D D' (Memᴰ.tail m) =
 reached_of : (run : Run) (A : List AnswerRow) → ((b : ℕ) (E E' : State) → InAnswers A b E E' → Ends Does (BodyOf run) b E E')
     → (C : List CallRow) → T (reached run A C) → (a : ℕ) (D : State) → InCalls C a D → Reached run a D
 unfolding reached
-reached_of run A ends [] t a D m = absurd (Memᴰ.not_nil m)
+reached_of run A ends [] t a D m = absurd (Memᴰ.not-nil m)
 reached_of run A ends (c ∷ C) t a D (Memᴰ.head e) =
     let (h, ts) = both (call_row c (Goal, run.start) || any (some_place (comes_at c) run A) C) (reached run A C) t in
     subst (λ (c : CallRow). Reached run c.0 c.1) (sym e)

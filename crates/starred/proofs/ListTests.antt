@@ -76,7 +76,7 @@ module _ {X Y : Type 0} where
       later false k = k
 
   pub select_out : (p : X → Bool) (f : X → Y) {y : Y} (xs : List X) → Memᴰ y (select p f xs) → (x : X) × Memᴰ x xs × T (p x) × (y ≡ f x)
-  select_out p f [] m = absurd (Memᴰ.not_nil m)
+  select_out p f [] m = absurd (Memᴰ.not-nil m)
   select_out p f {y} (x ∷ xs) m = go (p x) refl m (λ k. let (z, n, t, e) = select_out p f xs k in (z, Memᴰ.tail n, t, e))
     where
       Found : Type 0
@@ -96,7 +96,7 @@ module _ {X Y : Type 0} where
   flat_in f (Memᴰ.tail {x = x} m) k = Memᴰ.append_right (f x) (flat_in f m k)
 
   pub flat_out : (f : X → List Y) {y : Y} (xs : List X) → Memᴰ y (flat f xs) → (x : X) × Memᴰ x xs × Memᴰ y (f x)
-  flat_out f [] m = absurd (Memᴰ.not_nil m)
+  flat_out f [] m = absurd (Memᴰ.not-nil m)
   flat_out f (x ∷ xs) m = ⊎_elim (λ k. (x, Memᴰ.head refl, k)) (λ k. let (z, n, h) = flat_out f xs k in (z, Memᴰ.tail n, h)) (Memᴰ.append_cases (f x) m)
 
 -- the members are distinct by a test of equality

@@ -34,7 +34,7 @@ module _ {A : Type 0} where
       omega (arith, without_length at, pigeonhole d (λ y m. without_keeps at (new y m) (f y (Memᴰ.tail m))))
 
   take_member : {x : A} (n : ℕ) (xs : List A) → Memᴰ x (take n xs) → Memᴰ x xs
-  take_member zero xs m = absurd (Memᴰ.not_nil m)
+  take_member zero xs m = absurd (Memᴰ.not-nil m)
   take_member (suc n) [] m = m
   take_member (suc n) (x ∷ xs) (Memᴰ.head e) = Memᴰ.head e
   take_member (suc n) (x ∷ xs) (Memᴰ.tail m) = Memᴰ.tail (take_member n xs m)
@@ -79,8 +79,8 @@ rest_of e low f z m = ⊎_elim (λ q. absurd (omega (arith, low z m))) (λ k. k)
 
 pub rising_unique : {xs ys : List ℕ} → Rising xs → Rising ys → ((z : ℕ) → Memᴰ z xs → Memᴰ z ys) → ((z : ℕ) → Memᴰ z ys → Memᴰ z xs) → xs ≡ ys
 rising_unique rising_nil rising_nil f g = refl
-rising_unique rising_nil (rising_cons {x = y} low r) f g = absurd (Memᴰ.not_nil (g y (Memᴰ.head refl)))
-rising_unique (rising_cons {x = x} low r) rising_nil f g = absurd (Memᴰ.not_nil (f x (Memᴰ.head refl)))
+rising_unique rising_nil (rising_cons {x = y} low r) f g = absurd (Memᴰ.not-nil (g y (Memᴰ.head refl)))
+rising_unique (rising_cons {x = x} low r) rising_nil f g = absurd (Memᴰ.not-nil (f x (Memᴰ.head refl)))
 rising_unique (rising_cons {x = x} lx rx) (rising_cons {x = y} ly ry) f g =
     let e : x ≡ y = omega (arith, least ly f, least lx g) in
     ap₂ ◌∷◌ e (rising_unique rx ry (rest_of e lx f) (rest_of (sym e) ly g))

@@ -85,7 +85,7 @@ module _ {book : Book} where
   into_call : {a b : ℕ} {D E : State} {body : Body} (rest : Body) → RuleOf book a body → ComesToCall book D body b E → ComesToCall book D (call a ∷ rest) b E
   into_call rest (rule r m e) (more, d) = (more ++ rest, move (calls r m e) (deduce_before rest d))
 
-  pub of_comes : {b : ℕ} {D E : State} {xs : Body} → Comes Does (RuleOf book) b E D xs → ComesToCall book D xs b E
+  pub of_comes : {b : ℕ} {E D : State} {xs : Body} → Comes Does (RuleOf book) b E D xs → ComesToCall book D xs b E
   of_comes (here {rest = rest} e f) = (rest, rw (e, f) done)
   of_comes (past h p) = let (rest, d) = of_comes p in (rest, move (does_move h) d)
   of_comes (inside {rest = rest} h p) = into_call rest h (of_comes p)

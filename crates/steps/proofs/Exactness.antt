@@ -70,7 +70,7 @@ module _ {run : Run} (separate : Separate run) where
   rule_runs apart (does h p) = does h (rule_runs (apart_tail apart) p)
   rule_runs apart (uses h i p) = let (r, below) = body_rule (apart_head apart) h in uses r (rule_runs below i) (rule_runs (apart_tail apart) p)
 
-  rule_comes : {b : ℕ} {D E : State} {body : Body} → Apart body → Comes Does (BodyOf run) b E D body → Comes Does (RuleOf run.book) b E D body
+  rule_comes : {b : ℕ} {E D : State} {body : Body} → Apart body → Comes Does (BodyOf run) b E D body → Comes Does (RuleOf run.book) b E D body
   rule_comes apart (here e f) = here e f
   rule_comes apart (past h p) = past h (rule_comes (apart_tail apart) p)
   rule_comes apart (inside h p) = let (r, below) = body_rule (apart_head apart) h in inside r (rule_comes below p)
@@ -98,6 +98,7 @@ module _ {run : Run} (separate : Separate run) where
   final_ends {a} {D} {D'} d = by (eqb a Goal) refl d
     where
       one : {E : State} → Runs Does (RuleOf run.book) D (call a ∷ []) E → Ends Does (BodyOf run) a D E
+      one (does h p) = elim h [ ]
       one (uses {body = body} h i ended) = (body, rule_body a body h, runs_map rule_body i)
 
       by : (b : Bool) → eqb a Goal ≡ b → Final run.book D (cond b run.goal (call a ∷ [])) D' → Ends Does (BodyOf run) a D D'

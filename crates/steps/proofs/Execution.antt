@@ -32,10 +32,10 @@ module _ {X : Type 0} {Does : Step → X → X → Type 0} {Has : ℕ → Body �
 
   pub runs_split : {D D' : X} (xs : Body) {ys : Body} → Runs Does Has D (xs ++ ys) D' → (D₁ : X) × Runs Does Has D xs D₁ × Runs Does Has D₁ ys D'
   runs_split {D} [] p = (D, ended, p)
-  runs_split (x ∷ xs) (does h p) = let (m, a, b) = runs_split xs p in (m, does h a, b)
-  runs_split (x ∷ xs) (uses h i p) = let (m, a, b) = runs_split xs p in (m, uses h i a, b)
+  runs_split {D = D} (x ∷ xs) (does {D₁ = D₁} h p) = let (m, a, b) = runs_split {D = D₁} xs p in (m, does h a, b)
+  runs_split {D = D} (x ∷ xs) (uses {D₁ = D₁} h i p) = let (m, a, b) = runs_split {D = D₁} xs p in (m, uses h i a, b)
 
-  pub comes_left : {b : ℕ} {D E : X} {xs : Body} (ys : Body) → Comes Does Has b E D xs → Comes Does Has b E D (xs ++ ys)
+  pub comes_left : {b : ℕ} {E D : X} {xs : Body} (ys : Body) → Comes Does Has b E D xs → Comes Does Has b E D (xs ++ ys)
   comes_left ys (here e f) = here e f
   comes_left ys (past h p) = past h (comes_left ys p)
   comes_left ys (inside h p) = inside h p
@@ -50,12 +50,12 @@ module _ {X : Type 0} {Does : Step → X → X → Type 0} {Has : ℕ → Body �
       → Comes Does Has b E D xs ⊎ ((D₁ : X) × Runs Does Has D xs D₁ × Comes Does Has b E D₁ ys)
   comes_split {D = D} [] p = inr (D, ended, p)
   comes_split (x ∷ xs) (here e f) = inl (here e f)
-  comes_split (x ∷ xs) (past h p) = ⊎_map (past h) (λ (m, a, c). (m, does h a, c)) (comes_split xs p)
+  comes_split {D = D} (x ∷ xs) (past {D₁ = D₁} h p) = ⊎_map (past h) (λ (m, a, c). (m, does h a, c)) (comes_split {D = D₁} xs p)
   comes_split (x ∷ xs) (inside h p) = inl (inside h p)
-  comes_split (x ∷ xs) (after h i p) = ⊎_map (after h i) (λ (m, a, c). (m, uses h i a, c)) (comes_split xs p)
+  comes_split {D = D} (x ∷ xs) (after {D₁ = D₁} h i p) = ⊎_map (after h i) (λ (m, a, c). (m, uses h i a, c)) (comes_split {D = D₁} xs p)
 
   -- what the body of a call comes to, the caller comes to
-  pub comes_through : {a b : ℕ} {C D E : X} {xs body : Body} → Comes Does Has a D C xs → Has a body → Comes Does Has b E D body → Comes Does Has b E C xs
+  pub comes_through : {a b : ℕ} {D E C : X} {xs body : Body} → Comes Does Has a D C xs → Has a body → Comes Does Has b E D body → Comes Does Has b E C xs
   comes_through {b = b} {E = E} {body = body} (here {a = c} e f) h q =
       inside (subst (λ (a : ℕ). Has a body) e h) (subst (λ (D : X). Comes Does Has b E D body) f q)
   comes_through (past d p) h q = past d (comes_through p h q)
@@ -69,7 +69,7 @@ module _ {X : Type 0} {Does : Step → X → X → Type 0} {Has : ℕ → Body �
     runs_map (does h p) = does h (runs_map p)
     runs_map (uses {a = a} {body = body} h i p) = uses (also a body h) (runs_map i) (runs_map p)
 
-    pub comes_map : {b : ℕ} {D E : X} {xs : Body} → Comes Does Has b E D xs → Comes Does Has' b E D xs
+    pub comes_map : {b : ℕ} {E D : X} {xs : Body} → Comes Does Has b E D xs → Comes Does Has' b E D xs
     comes_map (here e f) = here e f
     comes_map (past h p) = past h (comes_map p)
     comes_map (inside {a = a} {body = body} h p) = inside (also a body h) (comes_map p)

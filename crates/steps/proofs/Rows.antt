@@ -18,7 +18,7 @@ module _ {X : Type 0} (row : ℕ → X) where
 
   pub rows_out : (n : ℕ) (x : X) → Memᴰ x (rows row n) → (i : ℕ) × (i < n) × (x ≡ row i)
   unfolding rows
-  rows_out zero x m = absurd (Memᴰ.not_nil m)
+  rows_out zero x m = absurd (Memᴰ.not-nil m)
   rows_out (suc n) x (Memᴰ.head e) = (n, omega arith, e)
   rows_out (suc n) x (Memᴰ.tail m) = let (i, l, e) = rows_out n x m in (i, omega arith, e)
 

@@ -94,6 +94,7 @@ unfolding elementary
 does_elementary (query p) s t l (asks h) = rw h refl
 does_elementary (insert p) s t l adds = rw (lt-ltb p 64 l) refl
 does_elementary (delete p) s t l drops = refl
+does_elementary (call a) s t l h = elim h [ ]
 does_elementary (deny p) s t l (lacks h) = rw h refl
 
 -- An elementary step is the move of its step in front.
@@ -115,7 +116,7 @@ book_at rules k (suc n) (suc i) d l = book_at rules (suc k) n i d (le_of_suc-le-
 
 pub book_member : (rules : List ℕ) (k n : ℕ) (r : Rule) → Memᴰ r (rules_from rules k n) → (i : ℕ) × (i < k + n) × (r ≡ rule_of rules i)
 unfolding rules_from
-book_member rules k zero r m = absurd (Memᴰ.not_nil m)
+book_member rules k zero r m = absurd (Memᴰ.not-nil m)
 book_member rules k (suc n) r (Memᴰ.head e) = (k, omega arith, e)
 book_member rules k (suc n) r (Memᴰ.tail m) = let (i, l, e) = book_member rules (suc k) n r m in (i, omega arith, e)
 

@@ -25,7 +25,7 @@ evaluated_entailed u D = (λ m. ends_entailed.0 ((lists_ends u D).0 m), λ w. (l
 
 -- what is not false of membership is so
 stable : (D : ℕ) (xs : List ℕ) → ¬ ¬ Memᴰ D xs → Memᴰ D xs
-stable D [] n = absurd (n Memᴰ.not_nil)
+stable D [] n = absurd (n Memᴰ.not-nil)
 stable D (x ∷ xs) n = by (stable D xs) (eqb D x) refl
   where
     by : (¬ ¬ Memᴰ D xs → Memᴰ D xs) → (b : Bool) → eqb D x ≡ b → Memᴰ D (x ∷ xs)
