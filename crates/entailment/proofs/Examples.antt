@@ -35,6 +35,7 @@ two_states D h = no (complete h)
 
     no : Along [] ⟨ D ⟩ (insert 0 ∷ []) → ⊥
     no (E, E', move inserts done, e) = true_not_false (ap two e)
+    no (E, E', move inserts (move {T = T} x32 _), e) = elim x32 [ ]
 
 -- A call without a rule is entailed on no path.
 pub no_rule : (π : Path) (a : ℕ) → Entails [] π (call a ∷ []) → ⊥

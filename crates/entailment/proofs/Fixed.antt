@@ -24,18 +24,22 @@ module _ {book : Book} {π : Path} where
   query_along : {p : ℕ} → Along book π (query p ∷ []) → (D : State) × (π ≡ ⟨ D ⟩) × (holds D p ≡ true)
   unfolding execution
   query_along (D, D', move (queries h) done, e) = (D, sym e, h)
+  query_along {p = p} (D, D', move (queries h) (move {T = T} x32 _), e) = elim x32 [ ]
 
   denial_along : {p : ℕ} → Along book π (deny p ∷ []) → (D : State) × (π ≡ ⟨ D ⟩) × (holds D p ≡ false)
   unfolding execution
   denial_along (D, D', move (denies h) done, e) = (D, sym e, h)
+  denial_along {p = p} (D, D', move (denies h) (move {T = T} x32 _), e) = elim x32 [ ]
 
   insert_along : {p : ℕ} → Along book π (insert p ∷ []) → (D : State) × (π ≡ D ▷ ⟨ added D p ⟩)
   unfolding execution
   insert_along (D, D', move inserts done, e) = (D, sym e)
+  insert_along {p = p} (D, D', move inserts (move {T = T} x32 _), e) = elim x32 [ ]
 
   delete_along : {p : ℕ} → Along book π (delete p ∷ []) → (D : State) × (π ≡ D ▷ ⟨ removed D p ⟩)
   unfolding execution
   delete_along (D, D', move deletes done, e) = (D, sym e)
+  delete_along {p = p} (D, D', move deletes (move {T = T} x32 _), e) = elim x32 [ ]
 
 least_fixed : (book : Book) → Fixed (least book)
 unfolding least

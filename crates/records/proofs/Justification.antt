@@ -109,7 +109,7 @@ module _ {bodies : Bodies} {t : Tables} {n : ℕ} where
 
 -- ---- records of grown tables stay justified
 module _ {t u : Tables} (g : Grew t u) (inside : Inside t t.answers.count) {n : ℕ} (l : n < t.answers.count) where
-  follow_up : {x : Step} {s s' : State} {e : ℕ} → Follow t n x s e s' → Follow u n x s e s'
+  follow_up : {x : Step} {e : ℕ} {s s' : State} → Follow t n x s e s' → Follow u n x s e s'
   follow_up {s' = s'} (names {a} {e} {s} h r f k) =
       let b : e < t.answers.count = omega arith in
       let r' : u.answers.round e < u.answers.round n = omega (arith, g.answer_round b, g.answer_round l) in

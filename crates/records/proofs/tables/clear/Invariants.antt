@@ -1,0 +1,14 @@
+-- `clear` meets its contract. The loop's invariant: the length stays, and the words before i are 0; the measure: the words from i on. Assumes nothing.
+use Prim.Native.Nat.{ℕ, ◌≤◌, ◌<◌, ◌-◌}
+use native.Mathlib.Omega.{arith}
+use mathlib.Core.Path.{◌≡◌, refl, ◌∙◌, sym}
+use borrow.Author.Count.{below_none, below_more}
+use lib.ListN.{length, get_or, length-set, length-replicate, get_or-replicate}
+use lib.Seq.{get_or-set_same, get_or-set_other, ext_get_or}
+use Rattle.records.proofs.tables.clear.Given as goal
+
+abbrev pub invariant-loop-i : goal.invariant-loop-i
+invariant-loop-i l = (l.i ≤ length l.initial.words) × (length l.words ≡ length l.initial.words) × ((j : ℕ) → j < l.i → get_or l.words j 0 ≡ 0)
+
+abbrev pub decreases-loop-i : goal.decreases-loop-i
+decreases-loop-i l = length l.initial.words - l.i

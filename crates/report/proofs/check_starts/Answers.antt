@@ -1,0 +1,49 @@
+use Prim.Native.Nat.{◌-◌, ◌<◌}
+use native.Mathlib.Omega.{arith}
+use mathlib.Core.Path.{◌≡◌, sym}
+use mathlib.Core.Logic.{⊎_elim}
+use borrow.Author.Rules.{rules}
+use Rattle.steps.proofs.EachBelow.{true_not_false}
+use Rattle.report.specs.Figures.{starts}
+use Rattle.report.proofs.Results.{Passed, passed_none, passed_run, passed_refused, not_fours, over_1024, over_65536, all_passed}
+use Rattle.report.proofs.check_starts.Goals as goal
+
+pub returns-then-results-ne0 : goal.returns-then-results-ne0
+returns-then-results-ne0 c = record { refused = sym (not_fours _ _ c.if-results-ne0.true); counted = λ z. absurd (true_not_false z) }
+
+pub returns-then-starts-gt1024 : goal.returns-then-starts-gt1024
+returns-then-starts-gt1024 c = record { refused = sym (over_1024 _ _ c.if-starts-gt1024.true); counted = λ z. absurd (true_not_false z) }
+
+pub loop-i-init : goal.loop-i-init
+loop-i-init c = passed_none _
+
+pub returns-then-ends-gt65536 : goal.returns-then-ends-gt65536
+returns-then-ends-gt65536 c =
+    let a = c.args in
+    record {
+      refused = sym (over_65536 a.results.now a.lent c.loop-i.i (omega arith) c.if-results-i-eq0.true c.if-ends-gt65536.true);
+      counted = λ z. absurd (true_not_false z);
+    }
+
+pub overflow_add-runs : goal.overflow_add-runs
+overflow_add-runs c = record { fits = omega (arith, c.loop-i.invariant.counted_le) }
+
+pub overflow_add-sum : goal.overflow_add-sum
+overflow_add-sum c = record { fits = omega (arith, c.loop-i.invariant.summed_le) }
+
+pub loop-i-preserved : goal.loop-i-preserved
+loop-i-preserved c =
+    let results = c.args.results.now in
+    let within : c.loop-i.i < starts results = omega arith in
+    ⊎_elim
+    (λ w. rw (w.3, w.4) (passed_run results c.loop-i.invariant within w.0.taken w.2.left))
+    (λ w. rw (w.1, w.2) (passed_refused results c.loop-i.invariant within w.0.left))
+    c.if-results-i-eq0.branch
+
+pub returns : goal.returns
+returns c =
+    let a = c.args in
+    let e : c.loop-i.i ≡ starts a.results.now = omega (arith, c.loop-i.invariant.within) in
+    let p : Passed a.results.now (starts a.results.now) c.loop-i.runs c.loop-i.sum = rw e at c.loop-i.invariant in
+    let (bad, n) = all_passed a.results.now a.lent c.if-results-ne0.false c.if-starts-gt1024.false p in
+    record { refused = bad; counted = λ z. n }
