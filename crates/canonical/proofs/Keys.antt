@@ -148,6 +148,7 @@ module _ {A : Type 0} (key : A → Key) where
         rising_once {u} {v} (more low r) (Memᴰ.head e) (Memᴰ.tail m) k = absurd (before_not (low v m) (ap key (sym e) ∙ k))
         rising_once {u} {v} (more low r) (Memᴰ.tail m) (Memᴰ.head e) k = absurd (before_not (low u m) (ap key (sym e) ∙ sym k))
         rising_once (more low r) (Memᴰ.tail m) (Memᴰ.tail n) k = rising_once r m n k
+        rising_once {u = u} {v = v} none x8 _ k = elim x8 [ ]
 
   -- ---- `in_order`
 
@@ -264,9 +265,11 @@ module _ {A : Type 0} (key : A → Key) where
     pub first_least : {x : A} {xs : List A} → Ordered R xs → First x xs → (y : A) → Memᴰ y xs → key y ≡ key x → (x ≡ y) ⊎ R x y
     first_least (more {x = h} low r) (here e) y m k = ⊎_elim (λ f. inl (e ∙ sym f)) (λ l. inr (subst (λ (w : A). R w y) (sym e) (low y l))) (Memᴰ.cases_cons m)
     first_least (more {xs = xs} low r) (later n f) y m k = ⊎_elim (λ e. absurd (n (sym k ∙ ap key e))) (λ l. first_least r f y l k) (Memᴰ.cases_cons m)
+    first_least none x8 y m k = elim x8 [ ]
 
     pub least_first : {x : A} {xs : List A} → ((y z : A) → R y z → R z y → ⊥) → Ordered R xs → Memᴰ x xs → ((y : A) → Memᴰ y xs → key y ≡ key x → (x ≡ y) ⊎ R x y) → First x xs
     least_first one (more low r) (Memᴰ.head e) least = here e
     least_first {x} one (more {x = h} {xs = xs} low r) (Memᴰ.tail m) least = later
         (λ k. ⊎_elim (λ e. one x x (subst (λ (w : A). R w x) (sym e) (low x m)) (subst (λ (w : A). R w x) (sym e) (low x m))) (λ l. one x h l (low x m)) (least h (Memᴰ.head refl) (sym k)))
         (least_first one r m (λ y l k. least y (Memᴰ.tail l) k))
+    least_first {x = x} one none x8 least = elim x8 [ ]

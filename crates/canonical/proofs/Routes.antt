@@ -104,6 +104,7 @@ module _ (t : Rows) {b : Tables} {known : ℕ} (shows : Shows t b known) where
         let (p, u, z, h, f) = comes_reach (suc q) xs r k in
         let one : EdgeT b known ws q s x v = (l, rw g (onward_leads t shows (step_of w) s m)) in
         (p, u, more one z, h, f)
+    comes_reach {s = s} {c = c} q [] e x'' = elim x'' [ ]
 
     pub along_reach : {s f : State} {es : List ℕ} (q : ℕ) (xs : List ℕ) → q ≤ length ws → xs ≡ drop q ws → Along t (body_of xs) s es f → Reach (EdgeT b known ws) q s (length ws) f
     along_reach {s} q [] h e ended = let z : q ≡ length ws = omega (arith, ap length e, length-drop q ws) in subst (λ (p : ℕ). Reach (EdgeT b known ws) q s p s) z here

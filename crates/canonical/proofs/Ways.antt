@@ -47,7 +47,7 @@ module _ (t : Rows) where
   ways_out {w} (x ∷ rest) s m =
       let (o, k, n) = flat_out (λ (o : ℕ × State). map (λ (w : Route). (o.0 ∷ w.0, w.1)) (ways t rest o.1)) (leads_to t x s) m in
       let (v, l, e) = Memᴰ.of_map (λ (w : Route). (o.0 ∷ w.0, w.1)) (ways t rest o.1) n in
-      subst (λ (v : Route). Along (x ∷ rest) s v.0 v.1) e (step {u = o.1} k (ways_out rest o.1 l))
+      subst (λ (v : Route). Along (x ∷ rest) s v.0 v.1) e (step {u = o.1} k (ways_out {w = v} rest o.1 l))
 
   pub ways_in : {body : Body} {s f : State} {es : List ℕ} → Along body s es f → Memᴰ {A = Route} (es, f) (ways t body s)
   unfolding ways

@@ -192,7 +192,7 @@ module _ {bodies : Bodies} {Root : ℕ → State → Type 0} {b u v : Tables} (R
         by (yes d) = d
         by (no d) = absurd (omega (arith, (M.answer_found e (omega arith) (omega arith)).1, (M.answer_found y h l).1))
 
-    follow_moved : {z : Step} {s s' : State} {e : ℕ} → Follow u y z s e s' → Follow v x z s e s'
+    follow_moved : {z : Step} {s : State} {e : ℕ} {s' : State} → Follow u y z s e s' → Follow v x z s e s'
     follow_moved (names {a} {e} {s} k t f g) =
         let d = old_named k t in
         let A = R.answer_stays e d in

@@ -156,7 +156,7 @@ module _ {St : Type 0} (Edge : ℕ → St → ℕ → St → Type 0) where
           ⊎_elim
           (λ (i : stop < suc at).
           (let k' : Swept at s' = back at s' s (omega arith) (omega arith) S' l k in
-          unwind stop at (omega arith) (close S' k') k' (λ q u t a b. back q u t a (omega arith))))
+          unwind {s = s'} stop at (omega arith) (close S' k') k' (λ q u t a b. back q u t a (omega arith))))
           (λ z. (s, subst (λ (n : ℕ). Search D mark ev n n s) (sym z) S, subst (λ (n : ℕ). Swept n s) (sym z) k))
           (first_or h)
 

@@ -1,0 +1,15 @@
+-- `clear_from` meets its contract. The loop's invariant: the words from `from` up to i are 0 and all others stay; the measure: the words from i on. Assumes nothing.
+use Prim.Native.Nat.{ℕ, ◌-◌, ◌<◌, ◌≤◌}
+use native.Mathlib.Omega.{arith}
+use lib.ListN.{length-set}
+use mathlib.Core.Path.{◌≡◌}
+use lib.ListN.{length, get_or}
+use Rattle.desk.proofs.AnswerLaws.{Clearing, cleared_none, cleared_more, cleared_all}
+use borrow.Author.Rules.{rules}
+use Rattle.desk.proofs.clear_from.Given as goal
+
+abbrev pub invariant-loop-i : goal.invariant-loop-i
+invariant-loop-i l = (l.from ≤ l.i) × (l.i ≤ length l.initial.words) × Clearing l.initial.words l.from l.i l.words
+
+abbrev pub decreases-loop-i : goal.decreases-loop-i
+decreases-loop-i l = length l.initial.words - l.i

@@ -1,0 +1,24 @@
+-- `put_quarters` meets its contract: four stores. Assumes nothing.
+use native.Mathlib.Omega.{arith}
+use lib.ListN.{length-set}
+use Rattle.desk.proofs.AnswerLaws.{written_one, written_store}
+use Rattle.quarters.proofs.QuarterLaws.{quarter_0, quarter_1, quarter_2, quarter_3}
+use borrow.Author.Rules.{rules}
+use Rattle.desk.proofs.put_quarters.Goals as goal
+
+pub bounds-words-at-2 : goal.bounds-words-at-2
+bounds-words-at-2 c = simp length-set (omega arith)
+
+pub bounds-words-at-3 : goal.bounds-words-at-3
+bounds-words-at-3 c = simp length-set (omega arith)
+
+pub bounds-words-at-4 : goal.bounds-words-at-4
+bounds-words-at-4 c = simp length-set (omega arith)
+
+pub shape_of-words : goal.shape_of-words
+shape_of-words c = simp length-set
+
+pub returns : goal.returns
+returns c =
+    let w = c.args.word in
+    rw (quarter_0 w, quarter_1 w, quarter_2 w, quarter_3 w) (written_store _ (written_store _ (written_store _ (written_one c.args.words.now c.args.at _ (omega arith)) (omega arith)) (omega arith)) (omega arith))

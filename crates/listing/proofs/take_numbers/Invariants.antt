@@ -1,0 +1,22 @@
+-- `take_numbers` meets its contract. The loop's invariant: the length stays, and at each place before i stands the number of its line or, from n on,
+-- 0; the measure: the places from i on. Assumes nothing.
+use Prim.Native.Nat.{ℕ, ◌+◌, ◌≤◌, ◌<◌, ◌-◌}
+use native.Mathlib.Omega.{arith}
+use native.Mathlib.Decide.{ℕ_discrete, dec_lt}
+use mathlib.Core.Path.{◌≡◌, refl, ◌∙◌}
+use mathlib.Core.List.{List}
+use lib.ListN.{length, get_or, set, length-set, get_or-eq_default}
+use lib.Seq.{get_or-set_same, get_or-set_other}
+use Rattle.radix.specs.Lines.{word_of}
+use borrow.Author.Rules.{rules}
+use Rattle.listing.proofs.take_numbers.Given as goal
+
+-- at place j stands the number of line j, or 0
+abbrev pub Own : List ℕ → ℕ → ℕ → List ℕ → ℕ → Type 0
+Own words at n list j = (j < n → get_or list j 0 ≡ word_of words at 2 j) × (n ≤ j → get_or list j 0 ≡ 0)
+
+abbrev pub invariant-loop-i : goal.invariant-loop-i
+invariant-loop-i l = (l.i ≤ length l.initial.list) × (length l.list ≡ length l.initial.list) × ((j : ℕ) → j < l.i → Own l.words l.at l.n l.list j)
+
+abbrev pub decreases-loop-i : goal.decreases-loop-i
+decreases-loop-i l = length l.initial.list - l.i

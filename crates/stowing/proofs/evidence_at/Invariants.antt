@@ -1,0 +1,16 @@
+-- `evidence_at` meets its contract. The loop's invariant: the first q quarters are found; the measure: those left. Assumes nothing.
+use Prim.Native.Nat.{ℕ, ◌+◌, ◌-◌, ◌/◌, ◌%◌, ◌<◌, ◌≤◌}
+use native.Mathlib.Omega.{arith}
+use mathlib.Core.Path.{◌≡◌, refl, ◌∙◌}
+use lib.ListN.{length, get_or, length-set}
+use lib.Seq.{get_or-set_same, get_or-set_other}
+use borrow.Author.Count.{below_none, below_more}
+use Rattle.quarters.specs.Quarters.{quarter}
+use borrow.Author.Rules.{rules}
+use Rattle.stowing.proofs.evidence_at.Given as goal
+
+abbrev pub invariant-loop-q : goal.invariant-loop-q
+invariant-loop-q l = (l.q ≤ 16) × (length l.found ≡ 16) × ((k : ℕ) → k < l.q → get_or l.found k 0 ≡ quarter (get_or l.words (l.at + k / 4) 0) (k % 4))
+
+abbrev pub decreases-loop-q : goal.decreases-loop-q
+decreases-loop-q l = 16 - l.q

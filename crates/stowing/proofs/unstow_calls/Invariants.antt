@@ -1,0 +1,14 @@
+-- `unstow_calls` meets its contract. The loop's invariant: the first i records are given; the measure: those left. Assumes nothing.
+use Prim.Native.Nat.{ℕ, ◌+◌, ◌-◌, ◌≤◌}
+use native.Mathlib.Omega.{arith}
+use mathlib.Core.Path.{◌≡◌, refl, ◌∙◌}
+use lib.ListN.{get_or}
+use Rattle.stowing.proofs.CallStows.{CallsLaying, laid_none, laid_more, laid_all}
+use borrow.Author.Rules.{rules}
+use Rattle.stowing.proofs.unstow_calls.Given as goal
+
+abbrev pub invariant-loop-i : goal.invariant-loop-i
+invariant-loop-i l = (l.i ≤ l.n) × CallsLaying l.i (λ (j : ℕ). get_or l.actions j 0) (λ (j : ℕ). get_or l.initial.calls (l.most + j) 0) l.initial.calls l.calls
+
+abbrev pub decreases-loop-i : goal.decreases-loop-i
+decreases-loop-i l = l.n - l.i
