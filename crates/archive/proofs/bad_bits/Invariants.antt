@@ -1,16 +1,10 @@
 -- `bad_bits` meets its contract. The loop's invariant: the words passed are good; the measure: the words left. Assumes nothing.
-use Prim.Native.Nat.{◌+◌, ◌-◌, ◌*◌, ◌/◌, ◌%◌, ◌^◌, ◌<◌, ◌≤◌}
-use native.Mathlib.Omega.{arith}
-use mathlib.Core.Path.{◌≡◌, refl}
+use Prim.Native.Nat.{◌+◌, ◌-◌, ◌*◌, ◌/◌, ◌%◌, ◌^◌, ◌≤◌}
+use mathlib.Core.Path.{◌≡◌}
 use mathlib.Core.Bool.{true}
 use lib.Dec.{eqb}
 use lib.ListN.{length, get_or}
-use borrow.Author.Rules.{rules}
-use borrow.Author.Tests.{eq-eqb, ne_eqb}
 use Rattle.steps.specs.Acceptance.{each_below}
-use Rattle.steps.proofs.EachBelow.{each_none, each_more, each_not}
-use Rattle.archive.specs.Archived.{bad_bits}
-use Rattle.archive.proofs.Counted.{last_block}
 use Rattle.archive.proofs.bad_bits.Given as goal
 
 abbrev pub invariant-loop-k : goal.invariant-loop-k

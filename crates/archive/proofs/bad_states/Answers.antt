@@ -1,12 +1,11 @@
-use Prim.Native.Nat.{◌-◌, ◌<◌, ◌≤◌}
+use Prim.Native.Nat.{◌<◌}
 use native.Mathlib.Omega.{arith}
 use mathlib.Core.Path.{◌≡◌, sym, ap, ◌∙◌}
 use mathlib.Core.Bool.{true, not}
-use lib.ListN.{length, get_or}
-use Rattle.steps.specs.Acceptance.{each_below, bad_state}
+use lib.ListN.{length}
+use Rattle.steps.specs.Acceptance.{bad_state}
 use Rattle.steps.proofs.EachBelow.{each_none, each_more, each_not}
 use Rattle.archive.specs.Archived.{bad_states}
-use borrow.Author.Rules.{rules}
 use Rattle.archive.proofs.bad_states.Goals as goal
 
 pub loop-i-init : goal.loop-i-init

@@ -1,13 +1,9 @@
 -- `bad_states` meets its contract. The loop's invariant: the states passed are good; the measure: the states left. Assumes nothing.
-use Prim.Native.Nat.{◌-◌, ◌<◌, ◌≤◌}
-use native.Mathlib.Omega.{arith}
-use mathlib.Core.Path.{◌≡◌, sym, ap, ◌∙◌}
+use Prim.Native.Nat.{◌-◌, ◌≤◌}
+use mathlib.Core.Path.{◌≡◌}
 use mathlib.Core.Bool.{true, not}
 use lib.ListN.{length, get_or}
 use Rattle.steps.specs.Acceptance.{each_below, bad_state}
-use Rattle.steps.proofs.EachBelow.{each_none, each_more, each_not}
-use Rattle.archive.specs.Archived.{bad_states}
-use borrow.Author.Rules.{rules}
 use Rattle.archive.proofs.bad_states.Given as goal
 
 abbrev pub invariant-loop-i : goal.invariant-loop-i

@@ -6,7 +6,6 @@ use mathlib.Core.Path.{◌≡◌, refl, sym, ap, ◌∙◌}
 use mathlib.Core.Bool.{not}
 use lib.Dec.{eqb}
 use lib.ListN.{length}
-use borrow.Author.Rules.{rules}
 use Rattle.archive.specs.Archive.{blocks}
 use Rattle.archive.proofs.Counted.{no_multiple, multiple}
 use Rattle.archive.proofs.bad_words.Goals as goal

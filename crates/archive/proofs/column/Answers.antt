@@ -1,8 +1,7 @@
-use Prim.Native.Nat.{ℕ, ◌≤◌}
+use Prim.Native.Nat.{ℕ}
 use native.Mathlib.Omega.{arith}
 use mathlib.Core.Path.{◌≡◌, sym, ap, ◌∙◌}
-use lib.ListN.{length, drop}
-use borrow.Author.Rules.{rules}
+use lib.ListN.{drop}
 use Rattle.archive.specs.Archive.{column}
 use Rattle.archive.proofs.Bits.{column_end, column_next}
 use Rattle.archive.proofs.column.Goals as goal

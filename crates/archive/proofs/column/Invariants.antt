@@ -1,11 +1,8 @@
 -- `column` meets its contract: from the last word down, `word` is the column of the words passed; the measure: the words left. Assumes nothing.
-use Prim.Native.Nat.{ℕ, ◌≤◌}
-use native.Mathlib.Omega.{arith}
-use mathlib.Core.Path.{◌≡◌, sym, ap, ◌∙◌}
+use Prim.Native.Nat.{◌≤◌}
+use mathlib.Core.Path.{◌≡◌}
 use lib.ListN.{length, drop}
-use borrow.Author.Rules.{rules}
 use Rattle.archive.specs.Archive.{column}
-use Rattle.archive.proofs.Bits.{column_end, column_next}
 use Rattle.archive.proofs.column.Given as goal
 
 abbrev pub invariant-loop-i : goal.invariant-loop-i

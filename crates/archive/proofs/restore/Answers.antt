@@ -2,7 +2,6 @@
 use native.Mathlib.Omega.{arith}
 use mathlib.Core.Path.{sym, ◌∙◌}
 use lib.ListN.{length}
-use borrow.Author.Rules.{rules}
 use Rattle.archive.proofs.Outcomes.{refused, restored_outcome, restore_passed}
 use Rattle.archive.proofs.restore.Goals as goal
 

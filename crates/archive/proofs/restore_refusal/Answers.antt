@@ -1,7 +1,6 @@
 -- `restore_refusal` meets its contract: the tests in the request's order. Assumes nothing.
 use native.Mathlib.Omega.{arith}
 use mathlib.Core.Path.{refl, sym, ◌∙◌}
-use borrow.Author.Rules.{rules}
 use borrow.Author.Tests.{lt-ltb, le-ltb, eqb-true, not-false}
 use Rattle.archive.specs.Archived.{restore_refusal}
 use Rattle.archive.proofs.restore_refusal.Goals as goal

@@ -4,7 +4,6 @@ use native.Mathlib.Nat.{mul-le-mul_left, mul-le-mul_right}
 use native.Mathlib.Omega.{arith}
 use mathlib.Core.Path.{sym, ◌∙◌}
 use lib.ListN.{length}
-use borrow.Author.Rules.{rules}
 use Rattle.archive.proofs.Outcomes.{refused, stored_outcome, store_passed}
 use Rattle.archive.proofs.store.Goals as goal
 

@@ -1,6 +1,5 @@
 -- `get` meets its contract: number n is made up of its two parts. Assumes nothing.
 use native.Mathlib.Omega.{arith}
-use borrow.Author.Rules.{rules}
 use Rattle.cells.proofs.NumberLaws.{number_at, there, joined_bytes}
 use Rattle.cells.proofs.get.Goals as goal
 

@@ -1,7 +1,6 @@
 -- `get_two` meets its contract: the bytes by what each counts. Assumes nothing.
 use native.Mathlib.Omega.{arith}
 use native.Mathlib.Nat.{add-zero}
-use borrow.Author.Rules.{rules}
 use Rattle.cells.specs.Numbers.{number}
 use Rattle.cells.proofs.get_two.Goals as goal
 

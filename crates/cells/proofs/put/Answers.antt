@@ -1,6 +1,5 @@
 -- `put` meets its contract: the bytes of number n alone are put anew, in two parts. Assumes nothing.
 use native.Mathlib.Omega.{arith}
-use borrow.Author.Rules.{rules}
 use Rattle.cells.proofs.NumberLaws.{there, numbers_put}
 use Rattle.cells.proofs.put.Goals as goal
 

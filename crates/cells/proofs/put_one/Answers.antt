@@ -1,6 +1,5 @@
 -- `put_one` meets its contract. Assumes nothing.
 use native.Mathlib.Omega.{arith}
-use borrow.Author.Rules.{rules}
 use Rattle.cells.proofs.NumberLaws.{kept_first}
 use Rattle.cells.proofs.put_one.Goals as goal
 

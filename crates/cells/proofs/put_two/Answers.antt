@@ -1,7 +1,6 @@
 -- `put_two` meets its contract: one byte after the other is put. Assumes nothing.
 use native.Mathlib.Omega.{arith}
 use lib.ListN.{length-set}
-use borrow.Author.Rules.{rules}
 use Rattle.cells.proofs.NumberLaws.{kept_first, kept_next}
 use Rattle.cells.proofs.put_two.Goals as goal
 

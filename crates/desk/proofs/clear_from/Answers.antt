@@ -1,10 +1,5 @@
-use Prim.Native.Nat.{ℕ, ◌-◌, ◌<◌, ◌≤◌}
 use native.Mathlib.Omega.{arith}
-use lib.ListN.{length-set}
-use mathlib.Core.Path.{◌≡◌}
-use lib.ListN.{length, get_or}
-use Rattle.desk.proofs.AnswerLaws.{Clearing, cleared_none, cleared_more, cleared_all}
-use borrow.Author.Rules.{rules}
+use Rattle.desk.proofs.AnswerLaws.{cleared_none, cleared_more, cleared_all}
 use Rattle.desk.proofs.clear_from.Goals as goal
 
 pub loop-i-init : goal.loop-i-init

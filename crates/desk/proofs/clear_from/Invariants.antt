@@ -1,11 +1,7 @@
 -- `clear_from` meets its contract. The loop's invariant: the words from `from` up to i are 0 and all others stay; the measure: the words from i on. Assumes nothing.
-use Prim.Native.Nat.{ℕ, ◌-◌, ◌<◌, ◌≤◌}
-use native.Mathlib.Omega.{arith}
-use lib.ListN.{length-set}
-use mathlib.Core.Path.{◌≡◌}
-use lib.ListN.{length, get_or}
-use Rattle.desk.proofs.AnswerLaws.{Clearing, cleared_none, cleared_more, cleared_all}
-use borrow.Author.Rules.{rules}
+use Prim.Native.Nat.{◌-◌, ◌≤◌}
+use lib.ListN.{length}
+use Rattle.desk.proofs.AnswerLaws.{Clearing}
 use Rattle.desk.proofs.clear_from.Given as goal
 
 abbrev pub invariant-loop-i : goal.invariant-loop-i

@@ -1,7 +1,6 @@
 -- `close_answers` meets its contract: the records are spread, the rest is cleared. Assumes nothing.
 use native.Mathlib.Omega.{arith}
 use Rattle.desk.proofs.AnswerLaws.{all_closed}
-use borrow.Author.Rules.{rules}
 use Rattle.desk.proofs.close_answers.Goals as goal
 
 pub returns : goal.returns

@@ -1,12 +1,7 @@
-use Prim.Native.Nat.{◌*◌, ◌-◌, ◌≤◌}
 use native.Mathlib.Omega.{arith}
 use lib.ListN.{length-set}
-use lib.ListN.{length}
 use mathlib.Core.Path.{◌≡◌}
-use Rattle.records.specs.Records.{call_width}
-use Rattle.desk.specs.Desk.{CallsClosed}
 use Rattle.desk.proofs.CallLaws.{closed_none, closed_more}
-use borrow.Author.Rules.{rules}
 use Rattle.desk.proofs.close_calls.Goals as goal
 
 pub loop-i-init : goal.loop-i-init

@@ -3,7 +3,6 @@ use native.Mathlib.Omega.{arith}
 use lib.ListN.{length-set}
 use Prim.Native.Nat.{◌*◌}
 use Rattle.desk.proofs.AnswerLaws.{written_one, written_store}
-use borrow.Author.Rules.{rules}
 use Rattle.desk.proofs.put_answer.Goals as goal
 
 pub bounds-answers-at-2 : goal.bounds-answers-at-2

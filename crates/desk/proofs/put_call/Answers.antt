@@ -1,7 +1,6 @@
 -- `put_call` meets its contract: two stores. Assumes nothing.
 use native.Mathlib.Omega.{arith}
 use lib.ListN.{length-set}
-use borrow.Author.Rules.{rules}
 use Rattle.desk.proofs.put_call.Goals as goal
 
 pub bounds-calls-at-3 : goal.bounds-calls-at-3

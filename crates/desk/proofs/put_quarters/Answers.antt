@@ -3,7 +3,6 @@ use native.Mathlib.Omega.{arith}
 use lib.ListN.{length-set}
 use Rattle.desk.proofs.AnswerLaws.{written_one, written_store}
 use Rattle.quarters.proofs.QuarterLaws.{quarter_0, quarter_1, quarter_2, quarter_3}
-use borrow.Author.Rules.{rules}
 use Rattle.desk.proofs.put_quarters.Goals as goal
 
 pub bounds-words-at-2 : goal.bounds-words-at-2

@@ -1,13 +1,13 @@
 -- `spread` meets its contract: three stores, four words by their quarters, one store. Assumes nothing.
+use mathlib.Core.List.{[]}
 use Prim.Native.Nat.{ℕ, ◌+◌, ◌*◌, ◌≤◌}
-use mathlib.Core.List.{List, [], ◌∷◌}
+use mathlib.Core.List.{List, ◌∷◌}
 use lib.ListN.{length, get_or, set}
 use Rattle.records.specs.Records.{answer_width}
 use Rattle.desk.specs.Desk.{packed_width, Written}
 use native.Mathlib.Omega.{arith}
 use lib.ListN.{length-set}
 use Rattle.desk.proofs.AnswerLaws.{written_three, written_store, written_append}
-use borrow.Author.Rules.{rules}
 use Rattle.desk.proofs.spread.Goals as goal
 
 -- The first three words of record x.

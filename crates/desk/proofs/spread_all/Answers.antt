@@ -1,11 +1,7 @@
-use Prim.Native.Nat.{◌*◌, ◌+◌, ◌-◌, ◌≤◌}
+use Prim.Native.Nat.{◌+◌, ◌-◌}
 use native.Mathlib.Omega.{arith}
 use mathlib.Core.Path.{◌≡◌}
-use lib.ListN.{length}
-use Rattle.records.specs.Records.{answer_width}
-use Rattle.desk.specs.Desk.{AnswersSpread}
 use Rattle.desk.proofs.AnswerLaws.{spread_none, spread_more}
-use borrow.Author.Rules.{rules}
 use Rattle.desk.proofs.spread_all.Goals as goal
 
 pub loop-x-init : goal.loop-x-init

@@ -1,12 +1,8 @@
 -- `spread_all` meets its contract. The loop's invariant: the records from x on are given; the measure: x. Assumes nothing.
-use Prim.Native.Nat.{◌*◌, ◌+◌, ◌-◌, ◌≤◌}
-use native.Mathlib.Omega.{arith}
-use mathlib.Core.Path.{◌≡◌}
+use Prim.Native.Nat.{◌*◌, ◌≤◌}
 use lib.ListN.{length}
 use Rattle.records.specs.Records.{answer_width}
 use Rattle.desk.specs.Desk.{AnswersSpread}
-use Rattle.desk.proofs.AnswerLaws.{spread_none, spread_more}
-use borrow.Author.Rules.{rules}
 use Rattle.desk.proofs.spread_all.Given as goal
 
 abbrev pub invariant-loop-x : goal.invariant-loop-x

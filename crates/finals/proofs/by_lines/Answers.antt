@@ -3,7 +3,6 @@ use native.Mathlib.Omega.{arith}
 use mathlib.Core.Path.{◌∙◌}
 use mathlib.Core.Logic.{inl}
 use Rattle.finals.proofs.LineLaws.{sorted_by}
-use borrow.Author.Rules.{rules}
 use Rattle.finals.proofs.by_lines.Goals as goal
 
 pub sort-requires : goal.sort-requires

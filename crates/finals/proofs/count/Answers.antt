@@ -1,10 +1,7 @@
-use Prim.Native.Nat.{◌≤◌, ◌-◌}
 use native.Mathlib.Omega.{arith}
 use mathlib.Core.Path.{◌≡◌, sym, ◌∙◌}
-use mathlib.Core.Logic.{⊎_elim}
-use lib.ListN.{length, length-append}
+use lib.ListN.{length-append}
 use Rattle.desk.specs.Desk.{packed_answers}
-use Rattle.finals.specs.Finals.{finals_below}
 use Rattle.finals.proofs.FinalsLaws.{finals_none, finals_more, finals_same, finals_short}
 use Rattle.finals.proofs.count.Goals as goal
 use Rattle.finals.proofs.count.Goals.{then-call_of-row, else-call_of-row}

@@ -1,12 +1,9 @@
 -- `count` meets its contract. The loop's invariant: as many are found as records before x are of the call record; the measure: the records from x on. Assumes nothing.
 use Prim.Native.Nat.{◌≤◌, ◌-◌}
-use native.Mathlib.Omega.{arith}
-use mathlib.Core.Path.{◌≡◌, sym, ◌∙◌}
-use mathlib.Core.Logic.{⊎_elim}
-use lib.ListN.{length, length-append}
+use mathlib.Core.Path.{◌≡◌}
+use lib.ListN.{length}
 use Rattle.desk.specs.Desk.{packed_answers}
 use Rattle.finals.specs.Finals.{finals_below}
-use Rattle.finals.proofs.FinalsLaws.{finals_none, finals_more, finals_same, finals_short}
 use Rattle.finals.proofs.count.Given as goal
 
 abbrev pub invariant-loop-x : goal.invariant-loop-x

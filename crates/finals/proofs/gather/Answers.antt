@@ -1,11 +1,10 @@
-use Prim.Native.Nat.{◌<◌, ◌≤◌, ◌-◌}
+use Prim.Native.Nat.{◌<◌}
 use native.Mathlib.Omega.{arith}
 use mathlib.Core.Path.{◌≡◌, sym, ◌∙◌}
-use mathlib.Core.Logic.{⊎_elim}
 use lib.ListN.{length}
 use Rattle.desk.specs.Desk.{packed_answers}
 use Rattle.finals.proofs.FinalsLaws.{finals_place}
-use Rattle.finals.proofs.Listing.{Gathered, gathered_none, gathered_more, gathered_same, gathered_length}
+use Rattle.finals.proofs.Listing.{gathered_none, gathered_more, gathered_same, gathered_length}
 use Rattle.finals.proofs.gather.Goals as goal
 use Rattle.finals.proofs.gather.Goals.{then-call_of-row, else-call_of-row}
 

@@ -1,12 +1,8 @@
 -- `gather` meets its contract. The loop's invariant: the final states of the records before x stand at the head of the list; the measure: the records from x on. Assumes nothing.
-use Prim.Native.Nat.{◌<◌, ◌≤◌, ◌-◌}
-use native.Mathlib.Omega.{arith}
-use mathlib.Core.Path.{◌≡◌, sym, ◌∙◌}
-use mathlib.Core.Logic.{⊎_elim}
+use Prim.Native.Nat.{◌≤◌, ◌-◌}
 use lib.ListN.{length}
 use Rattle.desk.specs.Desk.{packed_answers}
-use Rattle.finals.proofs.FinalsLaws.{finals_place}
-use Rattle.finals.proofs.Listing.{Gathered, gathered_none, gathered_more, gathered_same, gathered_length}
+use Rattle.finals.proofs.Listing.{Gathered}
 use Rattle.finals.proofs.gather.Given as goal
 
 abbrev pub invariant-loop-x : goal.invariant-loop-x

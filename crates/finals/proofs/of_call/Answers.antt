@@ -1,7 +1,6 @@
 -- `of_call` meets its contract, by the room for what is found. Assumes nothing.
 use native.Mathlib.Omega.{arith}
 use mathlib.Core.Path.{refl}
-use borrow.Author.Rules.{rules}
 use Rattle.finals.proofs.of_call.Goals as goal
 
 pub returns-then-ends-found : goal.returns-then-ends-found

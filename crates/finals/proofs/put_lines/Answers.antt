@@ -1,8 +1,6 @@
-use Prim.Native.Nat.{◌+◌, ◌-◌, ◌≤◌}
 use native.Mathlib.Omega.{arith}
 use mathlib.Core.Path.{◌≡◌, refl}
 use lib.ListN.{length-set}
-use Rattle.finals.specs.Finals.{Lined}
 use Rattle.finals.proofs.LineLaws.{lined_none, lined_more}
 use Rattle.finals.proofs.put_lines.Goals as goal
 

@@ -1,7 +1,5 @@
-use Prim.Native.Nat.{◌+◌, ◌-◌, ◌≤◌}
 use native.Mathlib.Omega.{arith}
 use mathlib.Core.Path.{◌≡◌, refl}
-use Rattle.finals.specs.Finals.{Taken}
 use Rattle.finals.proofs.LineLaws.{taken_none, taken_more}
 use Rattle.finals.proofs.take_words.Goals as goal
 

@@ -1,9 +1,6 @@
 -- `take_words` meets its contract. The invariant: the first i places are written; the measure: those left. Assumes nothing.
-use Prim.Native.Nat.{◌+◌, ◌-◌, ◌≤◌}
-use native.Mathlib.Omega.{arith}
-use mathlib.Core.Path.{◌≡◌, refl}
+use Prim.Native.Nat.{◌-◌, ◌≤◌}
 use Rattle.finals.specs.Finals.{Taken}
-use Rattle.finals.proofs.LineLaws.{taken_none, taken_more}
 use Rattle.finals.proofs.take_words.Given as goal
 
 abbrev pub invariant-loop-i : goal.invariant-loop-i

@@ -1,12 +1,10 @@
 -- `add_answer` meets its contract: the answer stood, is noted and added as one record more, or there is no room. Assumes nothing.
-use Prim.Native.Nat.{◌<◌}
 use Prim.Native.Nat.{◌+◌}
 use native.Mathlib.Omega.{arith}
 use mathlib.Core.Path.{refl}
 use Rattle.records.specs.Storage.{answer_stood, answer_no_room}
 use Rattle.desk.specs.Desk.{AnswersOpen}
 use Rattle.index.proofs.Additions.{answers_kept, answer_more_put, answer_more_open, answer_more_index, answer_more_kept}
-use borrow.Author.Rules.{rules}
 use Rattle.index.proofs.add_answer.Goals as goal
 
 pub returns-then-x-m : goal.returns-then-x-m

@@ -2,7 +2,6 @@
 use mathlib.Core.Path.{refl}
 use Rattle.records.specs.Storage.{call_stood}
 use Rattle.index.proofs.Additions.{calls_kept}
-use borrow.Author.Rules.{rules}
 use Rattle.index.proofs.add_call.Goals as goal
 
 pub returns-then-row-n : goal.returns-then-row-n

@@ -4,7 +4,6 @@ use mathlib.Core.Path.{refl}
 use Rattle.records.specs.Storage.{call_no_room}
 use Rattle.index.proofs.IndexLaws.{bucket_small}
 use Rattle.index.proofs.Additions.{calls_kept, call_more_put, call_more_open, call_more_index, call_more_kept}
-use borrow.Author.Rules.{rules}
 use Rattle.index.proofs.add_new.Goals as goal
 
 pub note-requires : goal.note-requires

@@ -1,7 +1,6 @@
 -- `bucket` meets its contract. Assumes nothing.
 use Prim.Native.Nat.{ℕ, ◌+◌, ◌*◌, ◌%◌}
 use mathlib.Core.Path.{ap}
-use borrow.Author.Rules.{rules}
 use Rattle.index.specs.Index.{bucket}
 use Rattle.index.proofs.bucket.Goals as goal
 

@@ -1,8 +1,6 @@
 -- `buckets` meets its contract. Assumes nothing.
-use Prim.Native.Nat.{suc}
 use native.Mathlib.Omega.{arith}
 use lib.Count.{leading_top}
-use borrow.Author.Rules.{rules}
 use Rattle.index.proofs.IndexLaws.{buckets_shl, buckets_some}
 use Rattle.index.proofs.buckets.Goals as goal
 

@@ -1,11 +1,9 @@
 use Prim.Native.Nat.{ℕ, ◌+◌, ◌*◌, ◌<◌, ◌≤◌}
 use native.Mathlib.Omega.{arith}
-use mathlib.Core.Logic.{⊎_elim}
 use lib.ListN.{length}
 use Rattle.records.specs.Storage.{CallAt}
-use Rattle.index.specs.Index.{Reaches, Sought, keys_in}
+use Rattle.index.specs.Index.{Reaches, keys_in}
 use Rattle.index.proofs.IndexLaws.{sought_head, sought_link, bucket_small, some_bucket, record_inside}
-use borrow.Author.Rules.{rules}
 use Rattle.index.proofs.find.Goals as goal
 use Rattle.index.proofs.find.Goals.{then-words-width+else-words-width-2, else-words-width}
 

@@ -1,10 +1,6 @@
 -- `find_answer` meets its contract: an answer is found by the keys of its record. Assumes nothing.
-use Prim.Native.Nat.{◌*◌}
 use native.Mathlib.Omega.{arith}
-use mathlib.Core.Path.{refl}
-use Rattle.desk.specs.Desk.{packed_width}
 use Rattle.index.proofs.IndexLaws.{found_answer, answers_keyed}
-use borrow.Author.Rules.{rules}
 use Rattle.index.proofs.find_answer.Goals as goal
 
 pub find-requires : goal.find-requires

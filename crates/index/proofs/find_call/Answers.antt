@@ -1,7 +1,6 @@
 -- `find_call` meets its contract: a call is found by the keys of its record. Assumes nothing.
 use native.Mathlib.Omega.{arith}
 use Rattle.index.proofs.IndexLaws.{found_call, call_index_keyed}
-use borrow.Author.Rules.{rules}
 use Rattle.index.proofs.find_call.Goals as goal
 
 pub find-requires : goal.find-requires

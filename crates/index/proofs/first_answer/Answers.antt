@@ -1,7 +1,6 @@
 -- `first_answer` meets its contract: what is noted as first is so where it is an answer of the call record, and else there is none. Assumes nothing.
 use native.Mathlib.Omega.{arith}
 use Rattle.index.proofs.IndexLaws.{first_noted, first_not}
-use borrow.Author.Rules.{rules}
 use Rattle.index.proofs.first_answer.Goals as goal
 
 pub is_answer-requires : goal.is_answer-requires

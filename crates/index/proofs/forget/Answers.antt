@@ -1,6 +1,5 @@
 -- `forget` meets its contract, by the quarter it puts. Assumes nothing.
 use Rattle.index.proofs.IndexLaws.{forgotten_by}
-use borrow.Author.Rules.{rules}
 use Rattle.index.proofs.forget.Goals as goal
 
 pub returns : goal.returns

@@ -1,11 +1,8 @@
 -- `forget_answers` meets its contract. The loop's invariant: the first i records are in the index; the measure: i. Assumes nothing.
-use Prim.Native.Nat.{ℕ, ◌+◌, ◌-◌, ◌*◌, ◌<◌, ◌≤◌}
-use native.Mathlib.Omega.{arith}
-use mathlib.Core.Path.{◌≡◌, refl, ◌∙◌}
+use Prim.Native.Nat.{◌≤◌}
 use Rattle.desk.specs.Desk.{packed_width}
 use Rattle.index.specs.Index.{Chained}
-use Rattle.index.proofs.IndexLaws.{bucket_small, key_in, key_same, answers_keyed, answers_keyed_of, chained_start, chained_less}
-use borrow.Author.Rules.{rules}
+use Rattle.index.proofs.IndexLaws.{key_in}
 use Rattle.index.proofs.forget_answers.Given as goal
 
 abbrev pub invariant-loop-i : goal.invariant-loop-i

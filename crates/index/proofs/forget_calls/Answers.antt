@@ -1,11 +1,7 @@
-use Prim.Native.Nat.{ℕ, ◌+◌, ◌-◌, ◌<◌, ◌≤◌}
+use Prim.Native.Nat.{ℕ, ◌+◌, ◌-◌, ◌<◌}
 use native.Mathlib.Omega.{arith}
 use mathlib.Core.Path.{◌≡◌}
-use Rattle.records.specs.Records.{call_width}
-use Rattle.desk.specs.Desk.{action_unit}
-use Rattle.index.specs.Index.{Chained}
-use Rattle.index.proofs.IndexLaws.{bucket_small, key_in, call_index_keyed, call_index_of, chained_start, chained_less}
-use borrow.Author.Rules.{rules}
+use Rattle.index.proofs.IndexLaws.{bucket_small, call_index_keyed, call_index_of, chained_start, chained_less}
 use Rattle.index.proofs.forget_calls.Goals as goal
 
 pub loop-i-init : goal.loop-i-init

@@ -1,12 +1,9 @@
 -- `forget_calls` meets its contract. The loop's invariant: the first i records are in the index; the measure: i. Assumes nothing.
-use Prim.Native.Nat.{ℕ, ◌+◌, ◌-◌, ◌<◌, ◌≤◌}
-use native.Mathlib.Omega.{arith}
-use mathlib.Core.Path.{◌≡◌}
+use Prim.Native.Nat.{◌≤◌}
 use Rattle.records.specs.Records.{call_width}
 use Rattle.desk.specs.Desk.{action_unit}
 use Rattle.index.specs.Index.{Chained}
-use Rattle.index.proofs.IndexLaws.{bucket_small, key_in, call_index_keyed, call_index_of, chained_start, chained_less}
-use borrow.Author.Rules.{rules}
+use Rattle.index.proofs.IndexLaws.{key_in}
 use Rattle.index.proofs.forget_calls.Given as goal
 
 abbrev pub invariant-loop-i : goal.invariant-loop-i

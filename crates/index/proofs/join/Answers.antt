@@ -1,6 +1,5 @@
 -- `join` meets its contract, by the two quarters it puts. Assumes nothing.
 use Rattle.index.proofs.IndexLaws.{joined_by}
-use borrow.Author.Rules.{rules}
 use Rattle.index.proofs.join.Goals as goal
 
 pub returns : goal.returns

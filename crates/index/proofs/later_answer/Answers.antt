@@ -1,13 +1,9 @@
 -- `later_answer` meets its contract: what is noted as next is so where it comes later and is an answer of the same call record, and else there
 -- is none. Assumes nothing.
-use Prim.Native.Nat.{ℕ, ◌+◌}
 use native.Mathlib.Omega.{arith}
-use mathlib.Core.Path.{◌≡◌, sym, ap, ◌∙◌}
-use lib.ListN.{get_or}
-use Rattle.quarters.specs.Quarters.{quarter}
+use mathlib.Core.Path.{◌≡◌, sym, ◌∙◌}
 use Rattle.index.specs.Index.{nexts_in, answer_notes}
 use Rattle.index.proofs.IndexLaws.{later_noted, later_not}
-use borrow.Author.Rules.{rules}
 use Rattle.index.proofs.later_answer.Goals as goal
 
 pub overflow_mul-most : goal.overflow_mul-most

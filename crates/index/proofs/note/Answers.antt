@@ -1,6 +1,5 @@
 -- `note` meets its contract, by the two quarters it puts. Assumes nothing.
 use Rattle.index.proofs.IndexLaws.{noted_by}
-use borrow.Author.Rules.{rules}
 use Rattle.index.proofs.note.Goals as goal
 
 pub returns : goal.returns

@@ -1,9 +1,7 @@
 -- `note_answer` meets its contract: the answer is noted in its bucket and joins the answers of its call record. Assumes nothing.
 use Prim.Native.Nat.{◌<◌}
 use native.Mathlib.Omega.{arith}
-use mathlib.Core.Path.{refl}
 use Rattle.index.proofs.IndexLaws.{bucket_small, last_inside, answer_noted_by}
-use borrow.Author.Rules.{rules}
 use Rattle.index.proofs.note_answer.Goals as goal
 
 pub overflow_mul-base : goal.overflow_mul-base

@@ -1,10 +1,7 @@
-use Prim.Native.Nat.{◌-◌, ◌*◌, ◌<◌, ◌≤◌}
+use Prim.Native.Nat.{◌<◌}
 use native.Mathlib.Omega.{arith}
-use mathlib.Core.Path.{◌≡◌, refl, ◌∙◌}
-use Rattle.desk.specs.Desk.{packed_width}
-use Rattle.index.specs.Index.{Chained}
-use Rattle.index.proofs.IndexLaws.{bucket_small, key_in, key_same, answers_keyed, answers_keyed_of, chained_start, chained_more}
-use borrow.Author.Rules.{rules}
+use mathlib.Core.Path.{◌≡◌, ◌∙◌}
+use Rattle.index.proofs.IndexLaws.{bucket_small, key_same, answers_keyed, answers_keyed_of, chained_start, chained_more}
 use Rattle.index.proofs.note_answers.Goals as goal
 
 pub overflow_mul-base : goal.overflow_mul-base

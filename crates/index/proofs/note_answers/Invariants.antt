@@ -1,11 +1,8 @@
 -- `note_answers` meets its contract. The loop's invariant: the first i records are in the index; the measure: those from i up to m. Assumes nothing.
-use Prim.Native.Nat.{◌-◌, ◌*◌, ◌<◌, ◌≤◌}
-use native.Mathlib.Omega.{arith}
-use mathlib.Core.Path.{◌≡◌, refl, ◌∙◌}
+use Prim.Native.Nat.{◌-◌, ◌≤◌}
 use Rattle.desk.specs.Desk.{packed_width}
 use Rattle.index.specs.Index.{Chained}
-use Rattle.index.proofs.IndexLaws.{bucket_small, key_in, key_same, answers_keyed, answers_keyed_of, chained_start, chained_more}
-use borrow.Author.Rules.{rules}
+use Rattle.index.proofs.IndexLaws.{key_in}
 use Rattle.index.proofs.note_answers.Given as goal
 
 abbrev pub invariant-loop-i : goal.invariant-loop-i

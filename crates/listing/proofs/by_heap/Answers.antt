@@ -1,7 +1,6 @@
 -- `by_heap` meets its contract: the numbers from 0 on are sorted by the records' keys. Assumes nothing.
 use native.Mathlib.Omega.{arith}
 use Rattle.listing.proofs.ListingLaws.{numbers_listed}
-use borrow.Author.Rules.{rules}
 use Rattle.listing.proofs.by_heap.Goals as goal
 
 pub sort-requires : goal.sort-requires

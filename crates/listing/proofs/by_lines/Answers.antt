@@ -3,7 +3,6 @@ use native.Mathlib.Omega.{arith}
 use mathlib.Core.Path.{◌∙◌}
 use mathlib.Core.Logic.{inl}
 use Rattle.listing.proofs.ListingLaws.{lines_listed}
-use borrow.Author.Rules.{rules}
 use Rattle.listing.proofs.by_lines.Goals as goal
 
 pub sort-requires : goal.sort-requires

@@ -1,9 +1,6 @@
-use Prim.Native.Nat.{◌+◌, ◌-◌, ◌≤◌}
 use native.Mathlib.Omega.{arith}
-use mathlib.Core.Path.{◌≡◌, refl}
-use Rattle.listing.specs.Listing.{Lined}
+use mathlib.Core.Path.{◌≡◌}
 use Rattle.listing.proofs.ListingLaws.{lined_none, lined_more}
-use borrow.Author.Rules.{rules}
 use Rattle.listing.proofs.put_lines.Goals as goal
 
 pub loop-i-init : goal.loop-i-init

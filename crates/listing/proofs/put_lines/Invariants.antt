@@ -1,10 +1,6 @@
 -- `put_lines` meets its contract. The invariant: the first i lines are written; the measure: those left. Assumes nothing.
-use Prim.Native.Nat.{◌+◌, ◌-◌, ◌≤◌}
-use native.Mathlib.Omega.{arith}
-use mathlib.Core.Path.{◌≡◌, refl}
+use Prim.Native.Nat.{◌-◌, ◌≤◌}
 use Rattle.listing.specs.Listing.{Lined}
-use Rattle.listing.proofs.ListingLaws.{lined_none, lined_more}
-use borrow.Author.Rules.{rules}
 use Rattle.listing.proofs.put_lines.Given as goal
 
 abbrev pub invariant-loop-i : goal.invariant-loop-i

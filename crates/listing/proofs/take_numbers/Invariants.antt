@@ -1,14 +1,10 @@
 -- `take_numbers` meets its contract. The loop's invariant: the length stays, and at each place before i stands the number of its line or, from n on,
 -- 0; the measure: the places from i on. Assumes nothing.
-use Prim.Native.Nat.{ℕ, ◌+◌, ◌≤◌, ◌<◌, ◌-◌}
-use native.Mathlib.Omega.{arith}
-use native.Mathlib.Decide.{ℕ_discrete, dec_lt}
-use mathlib.Core.Path.{◌≡◌, refl, ◌∙◌}
+use Prim.Native.Nat.{ℕ, ◌≤◌, ◌<◌, ◌-◌}
+use mathlib.Core.Path.{◌≡◌}
 use mathlib.Core.List.{List}
-use lib.ListN.{length, get_or, set, length-set, get_or-eq_default}
-use lib.Seq.{get_or-set_same, get_or-set_other}
+use lib.ListN.{length, get_or}
 use Rattle.radix.specs.Lines.{word_of}
-use borrow.Author.Rules.{rules}
 use Rattle.listing.proofs.take_numbers.Given as goal
 
 -- at place j stands the number of line j, or 0

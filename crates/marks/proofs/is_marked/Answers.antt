@@ -1,7 +1,6 @@
 -- `is_marked` meets its contract. Assumes nothing.
 use mathlib.Core.Path.{ap, ◌∙◌}
 use Prim.Native.Nat.{ℕ}
-use borrow.Author.Rules.{rules}
 use Rattle.steps.specs.State.{holds}
 use Rattle.desk.specs.Desk.{mark_words}
 use Rattle.marks.proofs.MarksLaws.{marked_by}

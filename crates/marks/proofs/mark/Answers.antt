@@ -7,7 +7,6 @@ use Rattle.steps.specs.State.{bit}
 use Rattle.desk.specs.Desk.{mark_words}
 use Rattle.marks.specs.Marks.{word_in}
 use Rattle.marks.proofs.MarksLaws.{word_free, word_fits, put_marked}
-use borrow.Author.Rules.{rules}
 use Rattle.marks.proofs.mark.Goals as goal
 
 pub put_marks-requires : goal.put_marks-requires

@@ -1,7 +1,6 @@
 -- `next_walk` meets its contract: a greater number is new, and among words that are all 0 every number but 0 is. Assumes nothing.
 use native.Mathlib.Omega.{arith}
 use Rattle.marks.proofs.MarksLaws.{fresh_next, zeros_stamped, alone_refl, unmarked_all}
-use borrow.Author.Rules.{rules}
 use Rattle.marks.proofs.next_walk.Goals as goal
 
 pub returns-then-walk-lt65535 : goal.returns-then-walk-lt65535

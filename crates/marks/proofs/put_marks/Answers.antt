@@ -4,7 +4,6 @@ use mathlib.Core.Path.{refl}
 use Prim.Native.Nat.{◌*◌}
 use Rattle.records.specs.Records.{call_width}
 use Rattle.marks.proofs.MarksLaws.{put_alone, put_here}
-use borrow.Author.Rules.{rules}
 use Rattle.marks.proofs.put_marks.Goals as goal
 
 pub overflow_mul-calls : goal.overflow_mul-calls

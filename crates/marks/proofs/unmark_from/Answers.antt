@@ -1,9 +1,6 @@
-use Prim.Native.Nat.{ℕ, ◌≤◌, ◌<◌, ◌-◌}
 use native.Mathlib.Omega.{arith}
-use Rattle.marks.specs.Marks.{Unmarked}
 use Rattle.marks.proofs.MarksLaws.{unmarked_start, unmarked_next}
 use mathlib.Core.Path.{◌≡◌}
-use borrow.Author.Rules.{rules}
 use Rattle.marks.proofs.unmark_from.Goals as goal
 
 pub loop-i-init : goal.loop-i-init

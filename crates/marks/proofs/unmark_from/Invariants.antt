@@ -1,10 +1,6 @@
 -- `unmark_from` meets its contract. The invariant: the records before i are unmarked; the measure: those from i on. Assumes nothing.
-use Prim.Native.Nat.{ℕ, ◌≤◌, ◌<◌, ◌-◌}
-use native.Mathlib.Omega.{arith}
+use Prim.Native.Nat.{◌≤◌, ◌-◌}
 use Rattle.marks.specs.Marks.{Unmarked}
-use Rattle.marks.proofs.MarksLaws.{unmarked_start, unmarked_next}
-use mathlib.Core.Path.{◌≡◌}
-use borrow.Author.Rules.{rules}
 use Rattle.marks.proofs.unmark_from.Given as goal
 
 abbrev pub invariant-loop-i : goal.invariant-loop-i

@@ -1,9 +1,8 @@
 -- `word_in` meets its contract. Assumes nothing.
-use mathlib.Core.Path.{refl, sym, ◌∙◌, ap}
+use mathlib.Core.Path.{refl}
 use native.Mathlib.Omega.{arith}
 use borrow.Author.Tests.{eq-eqb, ne_eqb}
 use Rattle.marks.specs.Marks.{word_in}
-use borrow.Author.Rules.{rules}
 use Rattle.marks.proofs.word_in.Goals as goal
 
 pub returns-then-word-walk : goal.returns-then-word-walk

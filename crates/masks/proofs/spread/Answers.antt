@@ -1,13 +1,9 @@
-use Prim.Native.Nat.{ℕ, ◌-◌, ◌^◌, ◌<◌}
 use native.Mathlib.Omega.{arith}
-use mathlib.Core.Path.{◌≡◌, subst}
-use mathlib.Core.List.{[], ◌∷◌}
+use mathlib.Core.Path.{◌≡◌}
 use lib.Pow.{pow_pos}
 use borrow.Author.Rules.{rules}
-use Rattle.steps.specs.State.{bit}
 use Rattle.steps.proofs.StateLaws.{one_shl, has}
-use Rattle.masks.specs.Masks.{Mask, WalkTo}
-use Rattle.masks.proofs.Walking.{Spread, spread_none, spread_all, spread_rest, spread_more}
+use Rattle.masks.proofs.Walking.{spread_none, spread_all, spread_rest, spread_more}
 use Rattle.masks.proofs.spread.Goals as goal
 
 pub loop-rest-init : goal.loop-rest-init

@@ -1,15 +1,12 @@
 -- `spread` meets its contract. The loop's invariant: the mask is of the places to which the step comes from those of the given mask that are not
 -- left; the measure: the mask of those left. Assumes nothing.
-use Prim.Native.Nat.{ℕ, ◌-◌, ◌^◌, ◌<◌}
-use native.Mathlib.Omega.{arith}
-use mathlib.Core.Path.{◌≡◌, subst}
-use mathlib.Core.List.{[], ◌∷◌}
-use lib.Pow.{pow_pos}
-use borrow.Author.Rules.{rules}
+use mathlib.Core.List.{[]}
+use Prim.Native.Nat.{ℕ, ◌^◌, ◌<◌}
+use mathlib.Core.Path.{◌≡◌}
+use mathlib.Core.List.{◌∷◌}
 use Rattle.steps.specs.State.{bit}
-use Rattle.steps.proofs.StateLaws.{one_shl, has}
 use Rattle.masks.specs.Masks.{Mask, WalkTo}
-use Rattle.masks.proofs.Walking.{Spread, spread_none, spread_all, spread_rest, spread_more}
+use Rattle.masks.proofs.Walking.{Spread}
 use Rattle.masks.proofs.spread.Given as goal
 
 abbrev pub invariant-loop-rest : goal.invariant-loop-rest

@@ -1,10 +1,8 @@
-use Prim.Native.Nat.{ℕ, ◌-◌, ◌+◌, ◌<◌, ◌≤◌}
+use Prim.Native.Nat.{◌≤◌}
 use native.Mathlib.Omega.{arith}
-use mathlib.Core.Path.{◌≡◌, sym, subst, ◌∙◌}
-use lib.ListN.{length, take}
+use lib.ListN.{length}
 use borrow.Author.Rules.{rules}
 use Rattle.steps.proofs.StateLaws.{one_shl}
-use Rattle.masks.specs.Masks.{Mask, WalkTo}
 use Rattle.masks.proofs.Walking.{walk_none, walk_more, walk_all}
 use Rattle.masks.proofs.walk_mask.Reads as reads
 use Rattle.masks.proofs.walk_mask.Lts as lts

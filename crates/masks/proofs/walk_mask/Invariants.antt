@@ -1,13 +1,8 @@
 -- `walk_mask` meets its contract. The loop's invariant: the mask is of the places to which the steps passed come; the measure: the steps left.
 -- Assumes nothing.
-use Prim.Native.Nat.{ℕ, ◌-◌, ◌+◌, ◌<◌, ◌≤◌}
-use native.Mathlib.Omega.{arith}
-use mathlib.Core.Path.{◌≡◌, sym, subst, ◌∙◌}
+use Prim.Native.Nat.{◌-◌, ◌≤◌}
 use lib.ListN.{length, take}
-use borrow.Author.Rules.{rules}
-use Rattle.steps.proofs.StateLaws.{one_shl}
 use Rattle.masks.specs.Masks.{Mask, WalkTo}
-use Rattle.masks.proofs.Walking.{walk_none, walk_more, walk_all}
 use Rattle.masks.proofs.walk_mask.Reads as reads
 use Rattle.masks.proofs.walk_mask.Lts as lts
 use Rattle.masks.proofs.spread.Reads as spread-reads

@@ -1,8 +1,7 @@
-use Prim.Native.Nat.{◌+◌, ◌*◌, ◌-◌, ◌<◌, ◌≤◌}
+use Prim.Native.Nat.{◌+◌, ◌*◌, ◌<◌}
 use native.Mathlib.Omega.{arith}
 use borrow.Author.Count.{below_none, below_more}
 use lib.ListN.{length}
-use Rattle.matching.specs.Flags.{AllFlags}
 use Rattle.matching.proofs.FlagLaws.{flag_inside}
 use borrow.Author.Rules.{rules}
 use Rattle.matching.proofs.all_flags.Goals as goal

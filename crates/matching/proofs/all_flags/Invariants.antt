@@ -1,11 +1,6 @@
 -- `all_flags` meets its contract. The loop's invariant: none of the flags of the first j records is 0; the measure: those left. Assumes nothing.
-use Prim.Native.Nat.{◌+◌, ◌*◌, ◌-◌, ◌<◌, ◌≤◌}
-use native.Mathlib.Omega.{arith}
-use borrow.Author.Count.{below_none, below_more}
-use lib.ListN.{length}
+use Prim.Native.Nat.{◌-◌, ◌≤◌}
 use Rattle.matching.specs.Flags.{AllFlags}
-use Rattle.matching.proofs.FlagLaws.{flag_inside}
-use borrow.Author.Rules.{rules}
 use Rattle.matching.proofs.all_flags.Given as goal
 
 abbrev pub invariant-loop-j : goal.invariant-loop-j

@@ -1,7 +1,6 @@
 -- `answer_of` meets its contract: the answer's call is looked up, then the answer by the record found. Assumes nothing.
 use native.Mathlib.Omega.{arith}
 use Rattle.matching.proofs.RunLaws.{answer_found}
-use borrow.Author.Rules.{rules}
 use Rattle.matching.proofs.answer_of.Goals as goal
 
 pub row_of-row-requires : goal.row_of-row-requires

@@ -1,9 +1,7 @@
-use Prim.Native.Nat.{◌+◌, ◌*◌, ◌-◌, ◌<◌, ◌≤◌}
+use Prim.Native.Nat.{◌+◌, ◌*◌, ◌<◌}
 use native.Mathlib.Omega.{arith}
 use lib.ListN.{length}
-use Rattle.matching.specs.Flags.{Kept, NoFlags}
 use Rattle.matching.proofs.FlagLaws.{kept_none, kept_set, flagged_kept, flag_inside, clear_more}
-use borrow.Author.Rules.{rules}
 use Rattle.matching.proofs.clear_flags.Goals as goal
 
 pub loop-j-init : goal.loop-j-init

@@ -1,10 +1,6 @@
 -- `clear_flags` meets its contract. The loop's invariant: the flags of the first j records are 0; the measure: those left. Assumes nothing.
-use Prim.Native.Nat.{◌+◌, ◌*◌, ◌-◌, ◌<◌, ◌≤◌}
-use native.Mathlib.Omega.{arith}
-use lib.ListN.{length}
+use Prim.Native.Nat.{◌-◌, ◌≤◌}
 use Rattle.matching.specs.Flags.{Kept, NoFlags}
-use Rattle.matching.proofs.FlagLaws.{kept_none, kept_set, flagged_kept, flag_inside, clear_more}
-use borrow.Author.Rules.{rules}
 use Rattle.matching.proofs.clear_flags.Given as goal
 
 abbrev pub invariant-loop-j : goal.invariant-loop-j

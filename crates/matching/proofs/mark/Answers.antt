@@ -3,7 +3,6 @@ use Prim.Native.Nat.{◌+◌, ◌*◌, ◌<◌}
 use native.Mathlib.Omega.{arith}
 use lib.ListN.{length}
 use Rattle.matching.proofs.FlagLaws.{flag_inside}
-use borrow.Author.Rules.{rules}
 use Rattle.matching.proofs.mark.Goals as goal
 
 pub overflow_mul-place : goal.overflow_mul-place

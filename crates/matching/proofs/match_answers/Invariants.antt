@@ -1,16 +1,9 @@
 -- `match_answers` meets its contract. The loop's invariant: the first x answers are told off, and all but flags stays; the measure: those left.
 -- Assumes nothing.
 use Prim.Native.Nat.{◌-◌, ◌≤◌}
-use native.Mathlib.Omega.{arith}
-use mathlib.Core.Path.{◌≡◌, sym}
 use Rattle.desk.specs.Desk.{packed_width}
-use Rattle.matching.specs.Flags.{Kept, flag, Matched, RowFound}
-use Rattle.matching.specs.Matching.{stowed_row, run_row, AnswersReady}
-use Rattle.matching.proofs.Pairs.{matched_none, found_same}
-use Rattle.matching.proofs.FlagLaws.{kept_none, marked_kept, marked_on, marked_refused}
-use Rattle.matching.proofs.RunLaws.{answers_ready_kept, answers_flagged, fewer_kept, stowed_row_kept, run_row_kept}
-use borrow.Author.Rules.{rules}
-use borrow.Author.Tests.{not-true, not-false}
+use Rattle.matching.specs.Flags.{Kept, flag, Matched}
+use Rattle.matching.specs.Matching.{stowed_row, run_row}
 use Rattle.matching.proofs.match_answers.Given as goal
 
 abbrev pub invariant-loop-x : goal.invariant-loop-x

@@ -1,14 +1,12 @@
-use Prim.Native.Nat.{◌-◌, ◌≤◌}
 use native.Mathlib.Omega.{arith}
 use mathlib.Core.Path.{◌≡◌, refl, sym}
 use Rattle.records.specs.Records.{call_width}
 use Rattle.desk.specs.Desk.{open_calls}
-use Rattle.matching.specs.Flags.{Kept, flag, Matched, RowFound}
+use Rattle.matching.specs.Flags.{Kept, RowFound}
 use Rattle.matching.specs.Matching.{call_row, stowed_calls, CallsReady}
 use Rattle.matching.proofs.Pairs.{matched_none, found_same}
 use Rattle.matching.proofs.FlagLaws.{kept_none, marked_kept, marked_on, marked_refused}
 use Rattle.matching.proofs.RunLaws.{calls_ready_kept, calls_flagged, call_row_kept, row_found}
-use borrow.Author.Rules.{rules}
 use borrow.Author.Tests.{not-true, not-false}
 use Rattle.matching.proofs.match_calls.Goals as goal
 

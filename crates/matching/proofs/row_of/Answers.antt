@@ -1,6 +1,5 @@
 -- `row_of` meets its contract: the call's action is a byte, which fits a word. Assumes nothing.
 use native.Mathlib.Omega.{arith}
-use borrow.Author.Rules.{rules}
 use Rattle.matching.proofs.row_of.Goals as goal
 
 pub overflow_cast-call : goal.overflow_cast-call

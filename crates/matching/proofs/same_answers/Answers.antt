@@ -2,7 +2,6 @@
 use Rattle.matching.proofs.Pairs.{told_whether, whether_same}
 use Rattle.matching.proofs.FlagLaws.{kept_on, kept_back}
 use Rattle.matching.proofs.RunLaws.{answers_ready_kept, answers_same_kept, answers_apart}
-use borrow.Author.Rules.{rules}
 use borrow.Author.Tests.{not-true, not-false}
 use Rattle.matching.proofs.same_answers.Goals as goal
 

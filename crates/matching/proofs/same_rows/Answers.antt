@@ -1,7 +1,6 @@
 -- `same_rows` meets its contract: where the answers are the same, the calls tell. Assumes nothing.
 use Rattle.matching.proofs.FlagLaws.{kept_none}
 use Rattle.matching.proofs.RunLaws.{calls_tell}
-use borrow.Author.Rules.{rules}
 use borrow.Author.Tests.{not-true, not-false}
 use Rattle.matching.proofs.same_rows.Goals as goal
 

@@ -1,7 +1,6 @@
 -- `get` meets its contract: the unit is that of `quarter`. Assumes nothing.
 use native.Mathlib.Omega.{arith}
 use mathlib.Core.Path.{refl}
-use borrow.Author.Rules.{rules}
 use Rattle.quarters.specs.Quarters.{quarter}
 use Rattle.quarters.proofs.get.Goals as goal
 

@@ -1,6 +1,5 @@
 -- `unit_of` meets its contract: 16 places up for each quarter below. Assumes nothing.
 use native.Mathlib.Omega.{arith}
-use borrow.Author.Rules.{rules}
 use Rattle.quarters.proofs.QuarterLaws.{unit_shl, unit_positive}
 use Rattle.quarters.proofs.unit_of.Goals as goal
 

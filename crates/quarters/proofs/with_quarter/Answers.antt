@@ -1,6 +1,5 @@
 -- `with_quarter` meets its contract: the laws of a quarter taken away and another given, at this unit. Assumes nothing.
 use native.Mathlib.Omega.{arith}
-use borrow.Author.Rules.{rules}
 use Rattle.quarters.proofs.QuarterLaws.{taken_fits, given_fits, changed_fits, quarter_changed}
 use Rattle.quarters.proofs.with_quarter.Goals as goal
 

@@ -1,7 +1,6 @@
 -- `clear_from` meets its contract: the part of the words that is lent is cleared. Assumes nothing.
 use native.Mathlib.Omega.{arith}
 use Rattle.stowing.proofs.AnswerStows.{part_cleared}
-use borrow.Author.Rules.{rules}
 use Rattle.stowing.proofs.clear_from.Goals as goal
 
 pub returns : goal.returns

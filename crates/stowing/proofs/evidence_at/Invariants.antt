@@ -1,12 +1,8 @@
 -- `evidence_at` meets its contract. The loop's invariant: the first q quarters are found; the measure: those left. Assumes nothing.
 use Prim.Native.Nat.{ℕ, ◌+◌, ◌-◌, ◌/◌, ◌%◌, ◌<◌, ◌≤◌}
-use native.Mathlib.Omega.{arith}
-use mathlib.Core.Path.{◌≡◌, refl, ◌∙◌}
-use lib.ListN.{length, get_or, length-set}
-use lib.Seq.{get_or-set_same, get_or-set_other}
-use borrow.Author.Count.{below_none, below_more}
+use mathlib.Core.Path.{◌≡◌}
+use lib.ListN.{length, get_or}
 use Rattle.quarters.specs.Quarters.{quarter}
-use borrow.Author.Rules.{rules}
 use Rattle.stowing.proofs.evidence_at.Given as goal
 
 abbrev pub invariant-loop-q : goal.invariant-loop-q

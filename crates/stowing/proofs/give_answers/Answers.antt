@@ -2,7 +2,6 @@
 use native.Mathlib.Omega.{arith}
 use mathlib.Core.Logic.{inl}
 use Rattle.stowing.proofs.AnswerStows.{given_all}
-use borrow.Author.Rules.{rules}
 use Rattle.stowing.proofs.give_answers.Goals as goal
 
 pub copy-requires : goal.copy-requires

@@ -1,9 +1,6 @@
-use Prim.Native.Nat.{◌-◌, ◌≤◌}
 use native.Mathlib.Omega.{arith}
 use mathlib.Core.Path.{◌≡◌, ◌∙◌}
-use Rattle.desk.specs.Desk.{open_calls}
-use Rattle.stowing.proofs.CallStows.{CallsLaying, laid_none, laid_more, laid_all}
-use borrow.Author.Rules.{rules}
+use Rattle.stowing.proofs.CallStows.{laid_none, laid_more, laid_all}
 use Rattle.stowing.proofs.give_calls.Goals as goal
 
 pub loop-i-init : goal.loop-i-init

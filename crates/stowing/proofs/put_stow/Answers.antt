@@ -2,7 +2,6 @@
 use native.Mathlib.Omega.{arith}
 use lib.ListN.{length-set}
 use Rattle.desk.proofs.AnswerLaws.{written_three, written_store}
-use borrow.Author.Rules.{rules}
 use Rattle.stowing.proofs.put_stow.Goals as goal
 
 pub bounds-answers-to-2 : goal.bounds-answers-to-2

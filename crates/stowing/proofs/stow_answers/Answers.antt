@@ -1,8 +1,7 @@
-use Prim.Native.Nat.{◌+◌, ◌-◌, ◌≤◌}
+use Prim.Native.Nat.{◌+◌, ◌-◌}
 use native.Mathlib.Omega.{arith}
 use mathlib.Core.Path.{◌≡◌}
-use Rattle.stowing.proofs.AnswerStows.{Stowing, stow_none, stow_more, stow_all}
-use borrow.Author.Rules.{rules}
+use Rattle.stowing.proofs.AnswerStows.{stow_none, stow_more, stow_all}
 use Rattle.stowing.proofs.stow_answers.Goals as goal
 
 pub loop-x-init : goal.loop-x-init

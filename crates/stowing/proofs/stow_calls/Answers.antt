@@ -1,9 +1,8 @@
-use Prim.Native.Nat.{◌*◌, ◌+◌, ◌-◌, ◌≤◌}
+use Prim.Native.Nat.{◌*◌, ◌+◌, ◌-◌}
 use native.Mathlib.Omega.{arith}
 use mathlib.Core.Path.{◌≡◌, refl}
-use lib.ListN.{length, length-set}
-use Rattle.stowing.proofs.CallStows.{CallsStowing, stow_none, stow_more, stow_all}
-use borrow.Author.Rules.{rules}
+use lib.ListN.{length-set}
+use Rattle.stowing.proofs.CallStows.{stow_none, stow_more, stow_all}
 use Rattle.stowing.proofs.stow_calls.Goals as goal
 
 pub loop-i-init : goal.loop-i-init

@@ -1,10 +1,8 @@
 -- `stow_calls` meets its contract. The loop's invariant: the records from i on are put aside; the measure: i. Assumes nothing.
-use Prim.Native.Nat.{◌*◌, ◌+◌, ◌-◌, ◌≤◌}
-use native.Mathlib.Omega.{arith}
-use mathlib.Core.Path.{◌≡◌, refl}
-use lib.ListN.{length, length-set}
-use Rattle.stowing.proofs.CallStows.{CallsStowing, stow_none, stow_more, stow_all}
-use borrow.Author.Rules.{rules}
+use Prim.Native.Nat.{◌≤◌}
+use mathlib.Core.Path.{◌≡◌}
+use lib.ListN.{length}
+use Rattle.stowing.proofs.CallStows.{CallsStowing}
 use Rattle.stowing.proofs.stow_calls.Given as goal
 
 abbrev pub invariant-loop-i : goal.invariant-loop-i

@@ -1,5 +1,4 @@
 -- `stow_of` meets its contract: seven words are read. Assumes nothing.
-use borrow.Author.Rules.{rules}
 use Rattle.stowing.proofs.stow_of.Goals as goal
 
 pub returns : goal.returns

@@ -1,6 +1,5 @@
 -- `unstow_answer` meets its contract: a record is read from 8 words and written. Assumes nothing.
 use mathlib.Core.Path.{◌∙◌}
-use borrow.Author.Rules.{rules}
 use Rattle.stowing.proofs.unstow_answer.Goals as goal
 
 pub returns : goal.returns

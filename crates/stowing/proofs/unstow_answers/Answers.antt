@@ -1,8 +1,6 @@
-use Prim.Native.Nat.{◌-◌, ◌≤◌}
 use native.Mathlib.Omega.{arith}
 use mathlib.Core.Path.{◌≡◌, ◌∙◌}
-use Rattle.stowing.proofs.AnswerStows.{Unstowing, unstow_none, unstow_more, unstow_all}
-use borrow.Author.Rules.{rules}
+use Rattle.stowing.proofs.AnswerStows.{unstow_none, unstow_more, unstow_all}
 use Rattle.stowing.proofs.unstow_answers.Goals as goal
 
 pub loop-x-init : goal.loop-x-init

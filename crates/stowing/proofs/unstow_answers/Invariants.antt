@@ -1,9 +1,6 @@
 -- `unstow_answers` meets its contract. The loop's invariant: the first x records are given; the measure: those left. Assumes nothing.
 use Prim.Native.Nat.{◌-◌, ◌≤◌}
-use native.Mathlib.Omega.{arith}
-use mathlib.Core.Path.{◌≡◌, ◌∙◌}
-use Rattle.stowing.proofs.AnswerStows.{Unstowing, unstow_none, unstow_more, unstow_all}
-use borrow.Author.Rules.{rules}
+use Rattle.stowing.proofs.AnswerStows.{Unstowing}
 use Rattle.stowing.proofs.unstow_answers.Given as goal
 
 abbrev pub invariant-loop-x : goal.invariant-loop-x

@@ -1,10 +1,7 @@
 -- `unstow_calls` meets its contract. The loop's invariant: the first i records are given; the measure: those left. Assumes nothing.
 use Prim.Native.Nat.{ℕ, ◌+◌, ◌-◌, ◌≤◌}
-use native.Mathlib.Omega.{arith}
-use mathlib.Core.Path.{◌≡◌, refl, ◌∙◌}
 use lib.ListN.{get_or}
-use Rattle.stowing.proofs.CallStows.{CallsLaying, laid_none, laid_more, laid_all}
-use borrow.Author.Rules.{rules}
+use Rattle.stowing.proofs.CallStows.{CallsLaying}
 use Rattle.stowing.proofs.unstow_calls.Given as goal
 
 abbrev pub invariant-loop-i : goal.invariant-loop-i

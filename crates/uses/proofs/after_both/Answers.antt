@@ -2,7 +2,6 @@
 use mathlib.Core.Path.{refl}
 use borrow.Author.Tests.{eq-eqb, ne_eqb}
 use Rattle.uses.specs.Uses.{after_both}
-use borrow.Author.Rules.{rules}
 use Rattle.uses.proofs.after_both.Goals as goal
 
 pub returns-then-was-eq0 : goal.returns-then-was-eq0

@@ -1,7 +1,6 @@
 -- `first_looked` meets its contract. Assumes nothing.
 use native.Mathlib.Omega.{arith}
 use mathlib.Core.Path.{sym, ◌∙◌}
-use borrow.Author.Rules.{rules}
 use Rattle.uses.proofs.first_looked.Goals as goal
 
 pub returns-then-heat_of-seen : goal.returns-then-heat_of-seen

@@ -1,7 +1,6 @@
 -- `first_new` meets its contract: the record's own first new answer is noted where it has any. Assumes nothing.
 use native.Mathlib.Omega.{arith}
-use mathlib.Core.Path.{refl, sym, ap, ◌∙◌}
-use borrow.Author.Rules.{rules}
+use mathlib.Core.Path.{sym, ◌∙◌}
 use Rattle.uses.proofs.first_new.Goals as goal
 
 pub returns-then-x-seen : goal.returns-then-x-seen

@@ -1,10 +1,9 @@
 -- `is_noted` meets its contract. Assumes nothing.
 use native.Mathlib.Omega.{arith}
-use mathlib.Core.Path.{◌≡◌, sym, ◌∙◌}
+use mathlib.Core.Path.{sym, ◌∙◌}
 use mathlib.Core.Logic.{inl, inr}
 use borrow.Author.Tests.{eqb-true}
 use Rattle.steps.proofs.EachBelow.{true_not_false}
-use borrow.Author.Rules.{rules}
 use Rattle.uses.proofs.is_noted.Goals as goal
 
 pub returns-then-row-least_of : goal.returns-then-row-least_of

@@ -1,13 +1,12 @@
-use Prim.Native.Nat.{ℕ, ◌+◌, ◌-◌, ◌*◌, ◌<◌, ◌≤◌}
+use Prim.Native.Nat.{ℕ, ◌+◌, ◌-◌, ◌<◌}
 use native.Mathlib.Omega.{arith}
-use mathlib.Core.Path.{◌≡◌, refl, sym, ◌∙◌}
+use mathlib.Core.Path.{◌≡◌, refl, sym}
 use mathlib.Core.Logic.{inl, inr}
 use Rattle.desk.specs.Desk.{packed_answers}
-use Rattle.uses.specs.Uses.{uses_in, Between, least, greatest, Lighted, LooksAlone}
+use Rattle.uses.specs.Uses.{uses_in, least, greatest}
 use Rattle.uses.proofs.UsesLaws.{between_none, between_more, spans}
 use Rattle.uses.proofs.HeatLaws.{light_start, light_next}
 use Rattle.uses.proofs.NoteLaws.{looks_refl, looks_trans}
-use borrow.Author.Rules.{rules}
 use Rattle.uses.proofs.look_at_new.Goals as goal
 
 pub loop-x-init : goal.loop-x-init

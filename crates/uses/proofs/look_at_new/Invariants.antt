@@ -1,15 +1,8 @@
 -- `look_at_new` meets its contract. The invariant: the answers from x on are noted, and the callers of their records lie between; the measure:
 -- the answers from `seen` up to x. Assumes nothing.
-use Prim.Native.Nat.{ℕ, ◌+◌, ◌-◌, ◌*◌, ◌<◌, ◌≤◌}
-use native.Mathlib.Omega.{arith}
-use mathlib.Core.Path.{◌≡◌, refl, sym, ◌∙◌}
-use mathlib.Core.Logic.{inl, inr}
+use Prim.Native.Nat.{◌-◌, ◌≤◌}
 use Rattle.desk.specs.Desk.{packed_answers}
-use Rattle.uses.specs.Uses.{uses_in, Between, least, greatest, Lighted, LooksAlone}
-use Rattle.uses.proofs.UsesLaws.{between_none, between_more, spans}
-use Rattle.uses.proofs.HeatLaws.{light_start, light_next}
-use Rattle.uses.proofs.NoteLaws.{looks_refl, looks_trans}
-use borrow.Author.Rules.{rules}
+use Rattle.uses.specs.Uses.{uses_in, Between, Lighted, LooksAlone}
 use Rattle.uses.proofs.look_at_new.Given as goal
 
 abbrev pub invariant-loop-x : goal.invariant-loop-x

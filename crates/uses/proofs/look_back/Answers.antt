@@ -1,11 +1,10 @@
-use Prim.Native.Nat.{ℕ, ◌+◌, ◌-◌, ◌≤◌}
 use native.Mathlib.Omega.{arith}
-use mathlib.Core.Path.{◌≡◌, refl, sym, ◌∙◌}
+use mathlib.Core.Path.{◌≡◌, sym, ◌∙◌}
 use mathlib.Core.Bool.{true, false}
 use borrow.Author.Tests.{not-true, not-false}
 use Rattle.steps.proofs.EachBelow.{true_not_false}
 use Rattle.desk.specs.Desk.{packed_answers}
-use Rattle.uses.specs.Uses.{uses_in, Looked, LooksAlone}
+use Rattle.uses.specs.Uses.{uses_in}
 use Rattle.uses.proofs.HeatLaws.{look_start, look_stop, look_none}
 use Rattle.uses.proofs.NoteLaws.{looks_refl, looks_trans, held_same}
 use Rattle.uses.proofs.look_back.Goals as goal

@@ -1,14 +1,8 @@
 -- `look_back` meets its contract. The invariant: all is looked at for the new answers before x; the measure: the answers from x on. Assumes nothing.
-use Prim.Native.Nat.{ℕ, ◌+◌, ◌-◌, ◌≤◌}
-use native.Mathlib.Omega.{arith}
-use mathlib.Core.Path.{◌≡◌, refl, sym, ◌∙◌}
-use mathlib.Core.Bool.{true, false}
-use borrow.Author.Tests.{not-true, not-false}
-use Rattle.steps.proofs.EachBelow.{true_not_false}
+use Prim.Native.Nat.{◌-◌, ◌≤◌}
+use mathlib.Core.Bool.{true}
 use Rattle.desk.specs.Desk.{packed_answers}
 use Rattle.uses.specs.Uses.{uses_in, Looked, LooksAlone}
-use Rattle.uses.proofs.HeatLaws.{look_start, look_stop, look_none}
-use Rattle.uses.proofs.NoteLaws.{looks_refl, looks_trans, held_same}
 use Rattle.uses.proofs.look_back.Given as goal
 
 abbrev pub invariant-loop-x : goal.invariant-loop-x

@@ -1,14 +1,13 @@
 use Prim.Native.Nat.{ℕ, ◌+◌, ◌-◌, ◌*◌, ◌<◌, ◌≤◌, min}
 use native.Mathlib.Omega.{arith}
-use mathlib.Core.Path.{◌≡◌, refl, sym, ap, ◌∙◌}
+use mathlib.Core.Path.{◌≡◌, refl, sym, ◌∙◌}
 use mathlib.Core.Bool.{true, false}
-use lib.ListN.{length, get_or}
+use lib.ListN.{get_or}
 use Rattle.steps.proofs.EachBelow.{true_not_false}
 use Rattle.desk.specs.Desk.{packed_answers, packed_width}
-use Rattle.uses.specs.Uses.{Uses, uses_in, via, heat, start, StartPut, Looked, Heating, LooksAlone}
+use Rattle.uses.specs.Uses.{uses_in, via, heat, start, Heating}
 use Rattle.uses.proofs.HeatLaws.{look_other, heat_start, heat_stop, heat_none, heat_done, heat_next}
 use Rattle.uses.proofs.NoteLaws.{looks_refl, looks_trans}
-use borrow.Author.Rules.{rules}
 use Rattle.uses.proofs.look_before.Goals as goal
 
 pub call_of-first-requires : goal.call_of-first-requires

@@ -1,15 +1,7 @@
 -- `look_before` meets its contract. The invariant: the answer `via - 1` is still to be looked at; the measure: a bound on the steps. Assumes nothing.
-use Prim.Native.Nat.{ℕ, ◌+◌, ◌-◌, ◌*◌, ◌<◌, ◌≤◌, min}
-use native.Mathlib.Omega.{arith}
-use mathlib.Core.Path.{◌≡◌, refl, sym, ap, ◌∙◌}
-use mathlib.Core.Bool.{true, false}
-use lib.ListN.{length, get_or}
-use Rattle.steps.proofs.EachBelow.{true_not_false}
-use Rattle.desk.specs.Desk.{packed_answers, packed_width}
-use Rattle.uses.specs.Uses.{Uses, uses_in, via, heat, start, StartPut, Looked, Heating, LooksAlone}
-use Rattle.uses.proofs.HeatLaws.{look_other, heat_start, heat_stop, heat_none, heat_done, heat_next}
-use Rattle.uses.proofs.NoteLaws.{looks_refl, looks_trans}
-use borrow.Author.Rules.{rules}
+use mathlib.Core.Bool.{true}
+use Rattle.desk.specs.Desk.{packed_answers}
+use Rattle.uses.specs.Uses.{Uses, uses_in, via, Looked, Heating, LooksAlone}
 use Rattle.uses.proofs.look_before.Given as goal
 
 abbrev pub invariant-loop-left : goal.invariant-loop-left

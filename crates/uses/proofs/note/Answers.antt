@@ -4,7 +4,6 @@ use native.Mathlib.Omega.{arith}
 use Rattle.uses.specs.Uses.{uses_in}
 use Rattle.uses.proofs.UsesLaws.{uses_refl, noted_none, noted_both}
 use Rattle.uses.proofs.NoteLaws.{alone_refl, alone_trans}
-use borrow.Author.Rules.{rules}
 use Rattle.uses.proofs.note.Goals as goal
 
 pub returns-then-is_noted : goal.returns-then-is_noted

@@ -1,7 +1,6 @@
 -- `note_caller` meets its contract. Assumes nothing.
 use native.Mathlib.Omega.{arith}
 use Rattle.uses.proofs.NoteLaws.{use_added, put_alone, alone_trans}
-use borrow.Author.Rules.{rules}
 use Rattle.uses.proofs.note_caller.Goals as goal
 
 pub returns : goal.returns

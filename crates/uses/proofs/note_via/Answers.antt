@@ -5,7 +5,6 @@ use mathlib.Core.Path.{ap, ◌∙◌}
 use Rattle.uses.specs.Uses.{after_both}
 use Rattle.uses.proofs.UsesLaws.{both_most}
 use Rattle.uses.proofs.NoteLaws.{via_noted, put_alone}
-use borrow.Author.Rules.{rules}
 use Rattle.uses.proofs.note_via.Goals as goal
 
 pub put-requires : goal.put-requires

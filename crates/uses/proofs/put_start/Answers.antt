@@ -1,6 +1,5 @@
 -- `put_start` meets its contract. Assumes nothing.
 use Rattle.uses.proofs.NoteLaws.{start_put, start_alone}
-use borrow.Author.Rules.{rules}
 use Rattle.uses.proofs.put_start.Goals as goal
 
 pub returns : goal.returns

@@ -1,11 +1,9 @@
 -- `span_of` meets its contract. Assumes nothing.
-use native.Mathlib.Omega.{arith}
-use mathlib.Core.Path.{refl, ◌∙◌}
+use mathlib.Core.Path.{◌∙◌}
 use mathlib.Core.Bool.{false}
 use Rattle.uses.proofs.UsesLaws.{spans_same}
 use Rattle.uses.proofs.HeatLaws.{begun, begun_none}
 use Rattle.uses.proofs.NoteLaws.{held_same, looks_trans}
-use borrow.Author.Rules.{rules}
 use Rattle.uses.proofs.span_of.Goals as goal
 
 pub look_back-warm-requires : goal.look_back-warm-requires

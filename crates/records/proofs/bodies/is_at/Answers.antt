@@ -4,7 +4,6 @@ use native.Mathlib.Omega.{arith}
 use mathlib.Core.Path.{refl}
 use borrow.Author.Tests.{lt-ltb, le-ltb, ne_eqb}
 use Rattle.records.specs.Bodies.{number_at}
-use borrow.Author.Rules.{rules}
 use Rattle.steps.specs.Widths.{rule_width}
 use Rattle.records.specs.Records.{goal_rule}
 use Rattle.records.proofs.bodies.is_at.Goals as goal

@@ -1,7 +1,7 @@
 -- `is_goal` meets its contract. Assumes nothing.
 use mathlib.Core.Path.{◌≡◌, refl}
 use mathlib.Core.Bool.{Bool, true, false, ◌&&◌, ◌||◌}
-use borrow.Author.Tests.{eq-eqb, ne_eqb}
+use borrow.Author.Tests.{ne_eqb}
 use Rattle.steps.specs.Run.{Goal}
 use Rattle.records.specs.Bodies.{second_goal, is_goal}
 use Rattle.records.proofs.bodies.is_goal.Goals as goal

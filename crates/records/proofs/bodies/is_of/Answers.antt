@@ -2,7 +2,6 @@
 use Prim.Native.Nat.{◌*◌}
 use native.Mathlib.Omega.{arith}
 use borrow.Author.Tests.{lt-ltb, le-ltb, eq-eqb, ne_eqb}
-use borrow.Author.Rules.{rules}
 use Rattle.steps.specs.Widths.{rule_width}
 use Rattle.records.proofs.bodies.is_of.Reads as reads
 use Rattle.records.proofs.bodies.is_of.Lts as lts

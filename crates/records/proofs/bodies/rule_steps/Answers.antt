@@ -1,6 +1,5 @@
 -- `rule_steps` meets its contract. Assumes nothing.
 use native.Mathlib.Nat.{add-sub_cancel_left}
-use borrow.Author.Rules.{rules}
 use Rattle.records.proofs.bodies.rule_steps.Reads as reads
 use Rattle.records.proofs.bodies.rule_steps.Lts as lts
 use Rattle.records.proofs.bodies.rule_steps.Goals as goal

@@ -1,10 +1,7 @@
 -- `clear` meets its contract. The loop's invariant: the length stays, and the words before i are 0; the measure: the words from i on. Assumes nothing.
 use Prim.Native.Nat.{ℕ, ◌≤◌, ◌<◌, ◌-◌}
-use native.Mathlib.Omega.{arith}
-use mathlib.Core.Path.{◌≡◌, refl, ◌∙◌, sym}
-use borrow.Author.Count.{below_none, below_more}
-use lib.ListN.{length, get_or, length-set, length-replicate, get_or-replicate}
-use lib.Seq.{get_or-set_same, get_or-set_other, ext_get_or}
+use mathlib.Core.Path.{◌≡◌}
+use lib.ListN.{length, get_or}
 use Rattle.records.proofs.tables.clear.Given as goal
 
 abbrev pub invariant-loop-i : goal.invariant-loop-i

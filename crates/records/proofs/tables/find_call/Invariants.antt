@@ -1,8 +1,5 @@
 -- `find_call` meets its contract. The loop's invariant: no record before i is of the call; the measure: the records from i on. Assumes nothing.
 use Prim.Native.Nat.{ℕ, ◌<◌, ◌≤◌, ◌-◌}
-use native.Mathlib.Omega.{arith}
-use mathlib.Core.Logic.{⊎_elim}
-use borrow.Author.Count.{below_none, below_more}
 use Rattle.records.specs.Records.{call_table}
 use Rattle.records.specs.Storage.{CallAt}
 use Rattle.records.proofs.tables.find_call.Given as goal

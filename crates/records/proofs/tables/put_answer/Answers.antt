@@ -1,9 +1,7 @@
-use Prim.Native.Nat.{◌+◌, ◌*◌, ◌≤◌, ◌-◌}
 use native.Mathlib.Omega.{arith}
 use mathlib.Core.Path.{◌≡◌, ◌∙◌}
-use lib.ListN.{length, length-set}
-use Rattle.records.proofs.StorageLaws.{Copied, copied_none, copied_more, answer_words, answer_words_short}
-use borrow.Author.Rules.{rules}
+use lib.ListN.{length-set}
+use Rattle.records.proofs.StorageLaws.{copied_none, copied_more, answer_words, answer_words_short}
 use Rattle.records.proofs.tables.put_answer.Goals as goal
 
 pub overflow_mul-at : goal.overflow_mul-at

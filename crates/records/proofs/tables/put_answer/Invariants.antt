@@ -1,10 +1,7 @@
 -- `put_answer` meets its contract. The loop's invariant: the first q evidence words are copied; the measure: the evidence words from q on. Assumes nothing.
-use Prim.Native.Nat.{◌+◌, ◌*◌, ◌≤◌, ◌-◌}
-use native.Mathlib.Omega.{arith}
-use mathlib.Core.Path.{◌≡◌, ◌∙◌}
-use lib.ListN.{length, length-set}
-use Rattle.records.proofs.StorageLaws.{Copied, copied_none, copied_more, answer_words, answer_words_short}
-use borrow.Author.Rules.{rules}
+use Prim.Native.Nat.{◌+◌, ◌≤◌, ◌-◌}
+use lib.ListN.{length}
+use Rattle.records.proofs.StorageLaws.{Copied}
 use Rattle.records.proofs.tables.put_answer.Given as goal
 
 abbrev pub invariant-loop-q : goal.invariant-loop-q

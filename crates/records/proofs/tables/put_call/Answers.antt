@@ -2,7 +2,6 @@
 use native.Mathlib.Omega.{arith}
 use lib.ListN.{length-set}
 use Rattle.records.proofs.StorageLaws.{call_words, call_words_short}
-use borrow.Author.Rules.{rules}
 use Rattle.records.proofs.tables.put_call.Goals as goal
 
 pub overflow_mul-at : goal.overflow_mul-at

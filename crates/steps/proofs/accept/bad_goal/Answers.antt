@@ -1,11 +1,10 @@
-use Prim.Native.Nat.{◌-◌, ◌<◌, ◌≤◌}
+use Prim.Native.Nat.{◌<◌}
 use native.Mathlib.Omega.{arith}
 use mathlib.Core.Path.{◌≡◌, refl, sym, ◌∙◌}
 use mathlib.Core.Bool.{true}
 use borrow.Author.Tests.{not-true, not-false, lt-ltb, le-ltb}
-use borrow.Author.Rules.{rules}
-use lib.ListN.{length, get_or}
-use Rattle.steps.specs.Acceptance.{each_below, good_step, bad_goal}
+use lib.ListN.{length}
+use Rattle.steps.specs.Acceptance.{good_step, bad_goal}
 use Rattle.steps.proofs.EachBelow.{each_none, each_more, each_not}
 use Rattle.steps.proofs.accept.bad_goal.Goals as goal
 

@@ -1,13 +1,9 @@
 -- `bad_goal` meets its contract. The loop's invariant: the steps passed are good; the measure: the steps left. Assumes nothing.
-use Prim.Native.Nat.{◌-◌, ◌<◌, ◌≤◌}
-use native.Mathlib.Omega.{arith}
-use mathlib.Core.Path.{◌≡◌, refl, sym, ◌∙◌}
+use Prim.Native.Nat.{◌-◌, ◌≤◌}
+use mathlib.Core.Path.{◌≡◌}
 use mathlib.Core.Bool.{true}
-use borrow.Author.Tests.{not-true, not-false, lt-ltb, le-ltb}
-use borrow.Author.Rules.{rules}
 use lib.ListN.{length, get_or}
-use Rattle.steps.specs.Acceptance.{each_below, good_step, bad_goal}
-use Rattle.steps.proofs.EachBelow.{each_none, each_more, each_not}
+use Rattle.steps.specs.Acceptance.{each_below, good_step}
 use Rattle.steps.proofs.accept.bad_goal.Given as goal
 
 abbrev pub invariant-loop-i : goal.invariant-loop-i

@@ -1,12 +1,9 @@
 -- `bad_rules` meets its contract. The loop's invariant: the rules passed are good; the measure: the rules left. Assumes nothing.
-use Prim.Native.Nat.{◌-◌, ◌/◌, ◌<◌, ◌≤◌}
-use native.Mathlib.Omega.{arith}
-use mathlib.Core.Path.{◌≡◌, refl, sym, ◌∙◌}
+use Prim.Native.Nat.{◌-◌, ◌/◌, ◌≤◌}
+use mathlib.Core.Path.{◌≡◌}
 use mathlib.Core.Bool.{true}
-use borrow.Author.Tests.{not-true, not-false}
 use lib.ListN.{length}
-use Rattle.steps.specs.Acceptance.{each_below, good_rule, bad_rules}
-use Rattle.steps.proofs.EachBelow.{each_none, each_more, each_not}
+use Rattle.steps.specs.Acceptance.{each_below, good_rule}
 use Rattle.steps.specs.Widths.{rule_width}
 use Rattle.steps.proofs.accept.bad_rules.Given as goal
 

@@ -4,7 +4,6 @@ use mathlib.Core.Path.{◌≡◌, refl}
 use native.Mathlib.Omega.{arith}
 use native.Mathlib.Nat.{div-eq_of_lt}
 use lib.Pow.{pow_mono}
-use borrow.Author.Rules.{rules}
 use Rattle.steps.specs.Acceptance.{bad_state}
 use Rattle.steps.proofs.accept.bad_state.Goals as goal
 

@@ -1,12 +1,8 @@
-use Prim.Native.Nat.{◌+◌, ◌-◌, ◌*◌, ◌≤◌}
 use native.Mathlib.Omega.{arith}
 use mathlib.Core.Path.{◌≡◌, sym, ◌∙◌}
-use mathlib.Core.Bool.{true}
 use borrow.Author.Tests.{not-true, not-false}
-use lib.ListN.{get_or}
-use Rattle.steps.specs.Acceptance.{each_below, good_word}
+use Rattle.steps.specs.Acceptance.{good_word}
 use Rattle.steps.proofs.EachBelow.{each_none, each_more, each_not}
-use Rattle.steps.specs.Widths.{rule_width}
 use Rattle.steps.proofs.accept.good_body.Goals as goal
 
 pub loop-i-init : goal.loop-i-init

@@ -1,12 +1,9 @@
 -- `good_body` meets its contract. The loop's invariant: the words passed are good; the measure: the words left. Assumes nothing.
 use Prim.Native.Nat.{◌+◌, ◌-◌, ◌*◌, ◌≤◌}
-use native.Mathlib.Omega.{arith}
-use mathlib.Core.Path.{◌≡◌, sym, ◌∙◌}
+use mathlib.Core.Path.{◌≡◌}
 use mathlib.Core.Bool.{true}
-use borrow.Author.Tests.{not-true, not-false}
 use lib.ListN.{get_or}
 use Rattle.steps.specs.Acceptance.{each_below, good_word}
-use Rattle.steps.proofs.EachBelow.{each_none, each_more, each_not}
 use Rattle.steps.specs.Widths.{rule_width}
 use Rattle.steps.proofs.accept.good_body.Given as goal
 

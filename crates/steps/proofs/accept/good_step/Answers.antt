@@ -1,7 +1,6 @@
 -- `good_step` meets its contract, by the kind. Assumes nothing.
 use Prim.Native.Nat.{◌/◌}
 use mathlib.Core.Path.{◌≡◌, refl, sym, ◌∙◌}
-use borrow.Author.Rules.{rules}
 use borrow.Author.Tests.{lt-ltb, le-ltb, ne_eqb}
 use Rattle.steps.specs.Acceptance.{good_step}
 use Rattle.steps.proofs.accept.good_step.Goals as goal

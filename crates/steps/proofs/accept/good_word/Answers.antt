@@ -1,5 +1,4 @@
 -- `good_word` meets its contract. Assumes nothing.
-use borrow.Author.Rules.{rules}
 use borrow.Author.Tests.{lt-ltb, le-ltb}
 use Rattle.steps.specs.Acceptance.{good_word}
 use Rattle.steps.proofs.accept.good_word.Goals as goal

@@ -1,6 +1,5 @@
 -- `refusal` meets its contract: 20 to 23 first, then 24. Assumes nothing.
 use mathlib.Core.Path.{refl}
-use borrow.Author.Rules.{rules}
 use borrow.Author.Tests.{eq-eqb, ne_eqb}
 use Rattle.steps.specs.Acceptance.{refusal_of}
 use Rattle.steps.proofs.accept.refusal.Goals as goal

@@ -1,6 +1,5 @@
 -- `words_refusal` meets its contract: the tests in the table's order. Assumes nothing.
 use mathlib.Core.Path.{refl}
-use borrow.Author.Rules.{rules}
 use Rattle.steps.specs.Acceptance.{words_refusal}
 use Rattle.steps.proofs.accept.words_refusal.Goals as goal
 

@@ -3,7 +3,6 @@ use Prim.Native.Nat.{ℕ, ◌-◌}
 use mathlib.Core.Path.{◌≡◌, refl, sym, ap, ◌∙◌}
 use mathlib.Core.Bool.{true, false}
 use native.Mathlib.Omega.{arith}
-use borrow.Author.Rules.{rules}
 use Rattle.steps.specs.State.{holds}
 use Rattle.steps.proofs.StateLaws.{has, held, held_low, one_shl}
 use Rattle.steps.proofs.state.State.delete.Goals as goal

@@ -1,7 +1,6 @@
 -- `State::holds` meets its contract: a 64-bit number has no bit from 64 on. Assumes nothing.
 use mathlib.Core.Path.{◌≡◌, refl}
 use native.Mathlib.Omega.{arith}
-use borrow.Author.Rules.{rules}
 use Rattle.steps.specs.State.{bit}
 use Rattle.steps.proofs.StateLaws.{high}
 use Rattle.steps.proofs.state.State.holds.Goals as goal
