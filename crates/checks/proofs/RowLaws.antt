@@ -25,7 +25,7 @@ use Rattle.checks.specs.Checks.{all_justified, good_row, bad_plain}
 
 -- the evidence of a step is a smaller record's number, or 0
 module _ {t : Tables} {n : ℕ} where
-  follow_most : {x : Step} {s s' : State} {e : ℕ} → Follow t n x s e s' → e ≤ n
+  follow_most : {x : Step} {s : State} {e : ℕ} {s' : State} → Follow t n x s e s' → e ≤ n
   follow_most (names l r a k) = omega arith
   follow_most (steps d) = omega arith
 

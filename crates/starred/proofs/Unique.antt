@@ -50,3 +50,4 @@ module _ (book : Book) where
       ⊎_elim (λ no. absurd (T_not (eqb r.head a) no (rw e (eqb_refl a)))) (λ h. only_states n (r.body ++ rest) xs h d)
       (either (not (eqb r.head a)) (only n D (r.body ++ rest) xs) (every_at (λ (r : Rule). not (eqb r.head a) || only n D (r.body ++ rest) xs) t m))
   only_states (suc n) (deny p ∷ rest) xs t (move (denies h) d) = only_states n rest xs (rw h at t) d
+  only_states (suc n) {D = D} [] [] t (move x5 d) = elim x5 [ ]

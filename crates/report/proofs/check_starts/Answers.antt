@@ -1,12 +1,12 @@
 use Prim.Native.Nat.{◌-◌, ◌<◌}
 use native.Mathlib.Omega.{arith}
 use mathlib.Core.Path.{◌≡◌, sym}
-use mathlib.Core.Logic.{⊎_elim}
 use borrow.Author.Rules.{rules}
 use Rattle.steps.proofs.EachBelow.{true_not_false}
 use Rattle.report.specs.Figures.{starts}
 use Rattle.report.proofs.Results.{Passed, passed_none, passed_run, passed_refused, not_fours, over_1024, over_65536, all_passed}
 use Rattle.report.proofs.check_starts.Goals as goal
+use Rattle.report.proofs.check_starts.Goals.{then-results-i-eq0+else-ends-gt65536, else-results-i-eq0}
 
 pub returns-then-results-ne0 : goal.returns-then-results-ne0
 returns-then-results-ne0 c = record { refused = sym (not_fours _ _ c.if-results-ne0.true); counted = λ z. absurd (true_not_false z) }
@@ -35,10 +35,10 @@ pub loop-i-preserved : goal.loop-i-preserved
 loop-i-preserved c =
     let results = c.args.results.now in
     let within : c.loop-i.i < starts results = omega arith in
-    ⊎_elim
-    (λ w. rw (w.3, w.4) (passed_run results c.loop-i.invariant within w.0.taken w.2.left))
-    (λ w. rw (w.1, w.2) (passed_refused results c.loop-i.invariant within w.0.left))
-    c.if-results-i-eq0.branch
+    elim c.if-results-i-eq0.branch [
+      | then-results-i-eq0+else-ends-gt65536 w ↦ rw (w.runs-is, w.sum-is) (passed_run results c.loop-i.invariant within w.if-results-i-eq0.true w.if-ends-gt65536.false)
+      | else-results-i-eq0 w ↦ rw (w.runs-is, w.sum-is) (passed_refused results c.loop-i.invariant within w.if-results-i-eq0.false)
+    ]
 
 pub returns : goal.returns
 returns c =

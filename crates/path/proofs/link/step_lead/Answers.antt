@@ -1,0 +1,30 @@
+-- `step_lead` meets its contract, by the step's kind. Assumes nothing.
+use mathlib.Core.Path.{refl, sym, ◌∙◌}
+use mathlib.Core.Logic.{inl, inr}
+use borrow.Author.Rules.{rules}
+use Rattle.steps.proofs.EachBelow.{true_not_false}
+use Rattle.path.proofs.link.step_lead.Goals as goal
+
+pub get-requires : goal.get-requires
+get-requires c = c.requires (sym c.is_call.ensures ∙ c.if-is_call.true)
+
+pub returns-then-is_call : goal.returns-then-is_call
+returns-then-is_call c =
+    record {
+      of_call = λ k. c.get.ensures;
+      of_other = λ k. absurd (true_not_false (sym (sym c.is_call.ensures ∙ c.if-is_call.true) ∙ k));
+    }
+
+pub returns-then-shown-eq0 : goal.returns-then-shown-eq0
+returns-then-shown-eq0 c =
+    record {
+      of_call = λ k. absurd (true_not_false (sym k ∙ sym c.is_call.ensures ∙ c.if-is_call.false));
+      of_other = λ k. inr ((λ t. sym (c.shown.ensures t) ∙ c.if-shown-eq0.true), refl);
+    }
+
+pub returns : goal.returns
+returns c =
+    record {
+      of_call = λ k. absurd (true_not_false (sym k ∙ sym c.is_call.ensures ∙ c.if-is_call.false));
+      of_other = λ k. inl refl;
+    }
