@@ -6,17 +6,13 @@ use lib.Dec.{eqb}
 use lib.ListN.{get_or, drop}
 use borrow.Author.Rules.{rules}
 use Rattle.chars.specs.Bytes.{LF, CR, SPACE, sheet_byte, begins, may_stand}
-use Rattle.chars.proofs.may_stand.Statement.{statement}
-use Rattle.chars.proofs.may_stand.Tie as tie
+use Rattle.chars.proofs.may_stand.Goals as goal
 
-returns : tie.Need-returns
+pub returns : goal.returns
 unfolding may_stand
 returns c =
-    let a = c.before.before.before.before.args in
+    let a = c.args in
     let b = get_or a.s.now a.i 0 in
     let before : c.begins.result ≡ begins LF (drop (a.i + 1) a.s.now) = c.begins.ensures in
-    ap (λ (t : Bool). t || ((a.comment && eqb b SPACE) || (eqb b CR && c.begins.result))) c.before.in-sheet.ensures
+    ap (λ (t : Bool). t || ((a.comment && eqb b SPACE) || (eqb b CR && c.begins.result))) c.in_sheet.ensures
     ∙ ap (λ (t : Bool). sheet_byte b || ((a.comment && eqb b SPACE) || (eqb b CR && t))) before
-
-pub may-stand-spec : {M : Type 1} → statement M
-may-stand-spec = tie.close (tie.spec (λ c. search rules) (λ c κs. search rules) (λ c. search rules) (λ c κs. search rules) returns)
