@@ -6,7 +6,7 @@ use native.Mathlib.Nat.{not-suc-le-zero}
 use native.Mathlib.Omega.{arith}
 use lib.ListN.{length, take, drop, drop_of_length-le}
 use lib.Seq.{slice, length-slice, take-length}
-use Rattle.bytes.specs.Bytes.{index_of}
+use Rattle.chars.specs.Inner.{index_of}
 use native.Mathlib.Decide.{dec_lt}
 use borrow.Author.Tests.{le-leb, lt-leb}
 use Rattle.chars.specs.Pieces.{pieces, lines}

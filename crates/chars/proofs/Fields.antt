@@ -6,7 +6,7 @@ use native.Mathlib.Omega.{arith}
 use native.Mathlib.Decide.{dec_lt}
 use lib.ListN.{length}
 use lib.Seq.{slice}
-use Rattle.bytes.specs.Bytes.{index_of}
+use Rattle.chars.specs.Inner.{index_of}
 use Rattle.chars.specs.Bytes.{TAB}
 use Rattle.chars.specs.Pieces.{fields}
 use Rattle.chars.specs.Inner.{fields_from, FieldEnd}

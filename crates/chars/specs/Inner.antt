@@ -1,7 +1,18 @@
--- Inner contracts: where a line, a line without its CR, or a field ends. Assumes nothing.
-use Rattle.std.specs.Prelude.{◌≡◌, ℕ, ◌+◌, ◌≤◌, cond, List, [], ◌∷◌, leb, length, drop}
+-- Inner contracts: where a byte is, where a line, a line without its CR, or a field ends. Assumes nothing.
+use Rattle.std.specs.Prelude.{◌≡◌, ℕ, suc, ◌+◌, ◌≤◌, Bool, true, false, cond, List, [], ◌∷◌, leb, eqb, length, drop}
 use Rattle.std.proofs.Math.Seq.{slice}
 use Rattle.chars.specs.Pieces.{lines, bare, fields}
+
+-- The index of what is sought: here, or one further than its index among the rest.
+unfoldable pub index_after : Bool → ℕ → ℕ
+index_after true n = 0
+index_after false n = suc n
+
+-- The index of the first b, counted from 0; the list's length where it is not there.
+unfoldable pub index_of : ℕ → List ℕ → ℕ
+unfolding index_after
+index_of b [] = 0
+index_of b (x ∷ xs) = index_after (eqb x b) (index_of b xs)
 
 -- The fields from p on of the line of s that ends at e; none where p is past e.
 unfoldable pub fields_from : ℕ → ℕ → List ℕ → List (List ℕ)

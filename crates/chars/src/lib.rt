@@ -5,7 +5,7 @@ ghost use Rattle.std.specs.Prelude.{◌≡◌, ◌+◌, ◌≤◌, ◌<◌, leng
 ghost use Rattle.std.proofs.Math.Seq.{slice};
 ghost use Rattle.chars.specs.Bytes.{HASH, sheet_byte, begins, may_stand, clean, lower, name_byte, is_name};
 ghost use Rattle.chars.specs.Places.{same};
-ghost use Rattle.chars.specs.Inner.{LineEnd, BareEnd, FieldEnd};
+ghost use Rattle.chars.specs.Inner.{index_of, LineEnd, BareEnd, FieldEnd};
 
 // Whether a byte may stand in a sheet: TAB, LF or 33 to 126.
 fn in_sheet(b: u8) -> bool
@@ -89,12 +89,27 @@ pub fn is_name(s: &[u8], from: usize, to: usize) -> bool
     true
 }
 
+// Where the first b from `from` up to, not including, `to` stands: `to` where there is none.
+fn find(s: &[u8], from: usize, to: usize, b: u8) -> usize
+    requires { (from ≤ to) × (to ≤ length s.now) }
+    ensures { result ≡ from + index_of b (slice from to s.now) }
+{
+    let mut i = from;
+    while i < to {
+        if s[i] == b {
+            return i;
+        }
+        i += 1;
+    }
+    i
+}
+
 // Where the line from `at` ends: at its LF, or at the sheet's end.
 pub fn line_end(s: &[u8], at: usize) -> usize
     requires { at < length s.now }
     ensures { LineEnd s.now at result }
 {
-    bytes::scan::find(s, at, s.len(), b'\n')
+    find(s, at, s.len(), b'\n')
 }
 
 // Whether the line from `at` up to `to` is a comment.
@@ -128,7 +143,7 @@ pub fn field_end(s: &[u8], at: usize, to: usize) -> usize
     requires { (at ≤ to) × (to ≤ length s.now) }
     ensures { FieldEnd s.now at to result }
 {
-    bytes::scan::find(s, at, to, b'\t')
+    find(s, at, to, b'\t')
 }
 
 // Whether two lists are the same bytes.

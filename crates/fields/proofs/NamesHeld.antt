@@ -39,18 +39,22 @@ module _ (s from to : List ℕ) where
       let d : lo ≢ k = omega arith in
       rw (get_or-set_other from k lo p 0 d, get_or-set_other to k lo e 0 d, names_other k p e (suc lo) n (omega arith))
 
+  -- one name more, at the place k
+  names_at : (k p e lo n : ℕ) → k ≡ lo + n → k < length from → k < length to
+      → names_in s (set from k p) (set to k e) lo (n + 1) ≡ names_in s from to lo n ++ (slice p e s ∷ [])
+  unfolding names_in
+  names_at k p e lo zero q h g =
+      let z : lo ≡ k = omega arith in
+      rw (z, get_or-set_same from k p 0 h, get_or-set_same to k e 0 g)
+  names_at k p e lo (suc n) q h g =
+      let o : suc n + 1 ≡ suc (n + 1) = omega arith in
+      let d : lo ≢ k = omega arith in
+      rw (o, get_or-set_other from k lo p 0 d, get_or-set_other to k lo e 0 d, names_at k p e (suc lo) n (omega arith) h g)
+
   -- one name more
   pub names_more : (p e lo n : ℕ) → lo + n < length from → lo + n < length to
       → names_in s (set from (lo + n) p) (set to (lo + n) e) lo (n + 1) ≡ names_in s from to lo n ++ (slice p e s ∷ [])
-  unfolding names_in
-  names_more p e lo zero h k =
-      let z : lo + 0 ≡ lo = omega arith in
-      rw (z, get_or-set_same from lo p 0 (omega arith), get_or-set_same to lo e 0 (omega arith))
-  names_more p e lo (suc n) h k =
-      let z : lo + suc n ≡ suc lo + n = omega arith in
-      let o : suc n + 1 ≡ suc (n + 1) = omega arith in
-      let d : lo ≢ suc lo + n = omega arith in
-      rw (o, z, get_or-set_other from (suc lo + n) lo p 0 d, get_or-set_other to (suc lo + n) lo e 0 d, names_more p e (suc lo) n (omega arith) (omega arith))
+  names_more p e lo n h k = names_at (lo + n) p e lo n refl h k
 
 -- all names, the fluents first
 all_names : (s : List ℕ) (n : Names) → (symbols_of s n).fluents ++ (symbols_of s n).actions ≡ names_in s n.from n.to 0 (n.fluents + n.actions)

@@ -100,6 +100,8 @@ rules_added b last (l ∷ ls) v (more next t r) =
 book_decoded : (y : Symbols) (words : List ℕ) (fss : List (List (List ℕ))) (rs : List (List ℕ)) (k : ℕ) → drop (rule_width * k) words ≡ joined rs → Forall₂ (RuleOf y) fss rs → Forall₂ (WritesRule y) fss (rules_from words k (length rs))
 unfolding rules_from
 book_decoded y words [] [] k e List.Forall₂.nil = List.Forall₂.nil
+book_decoded y words [] (r ∷ rs) k e x = elim x [ ]
+book_decoded y words (fs ∷ fss) [] k e x = elim x [ ]
 book_decoded y words (fs ∷ fss) (r ∷ rs) k e (List.Forall₂.cons g gs) =
     let d = e ∙ ap (λ (x : List ℕ). x ++ joined rs) g.is in
     let n : length (rule_words g.head g.steps) ≡ rule_width = ap (λ (i : ℕ). suc (suc i)) (padded_length g.steps g.few) in

@@ -19,7 +19,7 @@ use Rattle.fields.specs.Book.{Book, Symbols, rule_words}
 use Rattle.fields.specs.Field.{used_name, step_word, step_words, names_of, marks, start_name, start_names}
 use Rattle.fields.specs.Held.{step_from}
 use Rattle.fields.proofs.Verdicts.{followed, required, same_value, not_both}
-use Rattle.sheet.proofs.AcceptedLines.{action, start, goal, judged_accepted}
+use Rattle.sheet.proofs.AcceptedLines.{judged_accepted}
 
 -- the step words of a body are good, where there are so many fluents and actions: at most 16, each of one of the five kinds and with an index below the count
 pub record GoodSteps (fluents actions : ℕ) (steps : List ℕ) : Type 0 where

@@ -7,7 +7,6 @@ use mathlib.Core.List.{List, [], ◌∷◌, ◌++◌, map, append-nil, append_as
 use lib.ListN.{length, get_or, length-append}
 use borrow.Author.Tests.{le-leb}
 use Rattle.chars.specs.Bytes.{text, clean}
-use Rattle.chars.specs.Pieces.{lines}
 use Rattle.chars.specs.Places.{among}
 use Rattle.fields.specs.Verdict.{accept}
 use Rattle.fields.specs.Book.{Symbols, Book}

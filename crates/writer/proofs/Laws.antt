@@ -14,7 +14,7 @@ use Rattle.lines.specs.Reader.{Outcome, read_sheet, refused, written}
 use Rattle.sheet.proofs.RefusalNumbers.{refused_number}
 use Rattle.writer.specs.declared.Written.{Written}
 use Rattle.writer.specs.Text.{text_of}
-use Rattle.writer.specs.Writer.{over, written_in, out_after}
+use Rattle.writer.specs.Writer.{written_in, out_after}
 use Rattle.writer.proofs.Outcomes.{refused_result, short_result, written_result, written_out}
 use Rattle.writer.proofs.ProperSheets.{sheet_proper}
 use Rattle.writer.proofs.Forward.{reads_proper}
