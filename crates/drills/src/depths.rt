@@ -1,9 +1,16 @@
 // How many rounds the drills take (request R-6), with the tables that show the round of each record and where it stands (R-7). Every word lent
 // is 7 before.
 use crate::runs;
+use std::io;
 
 // A goal over two fluents and two actions, in rooms of 3 records, with a list of 1 and one for 3 calls.
-fn asked<'a>(name: &[u8], rules: &'a [u16], goal: &'a [u16], start: u64) {
+fn asked<'a>(
+    rt: &impl Print,
+    name: &[u8],
+    rules: &'a [u16],
+    goal: &'a [u16],
+    start: u64,
+) -> io::Result<()> {
     let mut calls = [7u64; 9];
     let mut answers = [7u64; 60];
     let mut ends = [7u64; 1];
@@ -19,11 +26,11 @@ fn asked<'a>(name: &[u8], rules: &'a [u16], goal: &'a [u16], start: u64) {
         &mut ends,
         &mut list,
     );
-    runs::told(name, r, &calls, &answers, &ends, &list);
+    runs::told(rt, name, r, &calls, &answers, &ends, &list)
 }
 
 // purge: `+open`; light: `!purge ?open +lit -open`.
-fn d1() {
+fn d1(rt: &impl Print) -> io::Result<()> {
     let mut rules = [0u16; 36];
     rules[1] = 1;
     rules[2] = 256;
@@ -32,35 +39,35 @@ fn d1() {
     rules[20] = 768;
     rules[22] = 257;
     rules[23] = 512;
-    asked(b"D1 rounds", &rules, &[769], 0);
+    asked(rt, b"D1 rounds", &rules, &[769], 0)
 }
 
 // g: `!g`; then no rule and no step; then g: `+a`.
-fn few() {
+fn few(rt: &impl Print) -> io::Result<()> {
     let mut itself = [0u16; 18];
     itself[1] = 1;
     itself[2] = 768;
-    asked(b"D3 rounds", &itself, &[768], 0);
-    asked(b"D4 rounds", &[], &[], 2);
-    asked(b"stuck at once", &[], &[1], 0);
+    asked(rt, b"D3 rounds", &itself, &[768], 0)?;
+    asked(rt, b"D4 rounds", &[], &[], 2)?;
+    asked(rt, b"stuck at once", &[], &[1], 0)?;
     let mut inserts = [0u16; 18];
     inserts[1] = 1;
     inserts[2] = 256;
-    asked(b"D7 rounds", &inserts, &[768, 1], 0);
+    asked(rt, b"D7 rounds", &inserts, &[768, 1], 0)
 }
 
 // g: `+a !g`; g: `?a`.
-fn d8() {
+fn d8(rt: &impl Print) -> io::Result<()> {
     let mut rules = [0u16; 36];
     rules[1] = 2;
     rules[2] = 256;
     rules[3] = 768;
     rules[19] = 1;
-    asked(b"D8 rounds", &rules, &[768], 0);
+    asked(rt, b"D8 rounds", &rules, &[768], 0)
 }
 
 // p: `+a -a`; q: `!p !p`.
-fn d9() {
+fn d9(rt: &impl Print) -> io::Result<()> {
     let mut rules = [0u16; 36];
     rules[1] = 2;
     rules[2] = 256;
@@ -69,11 +76,17 @@ fn d9() {
     rules[19] = 2;
     rules[20] = 768;
     rules[21] = 768;
-    asked(b"D9 rounds", &rules, &[769], 0);
+    asked(rt, b"D9 rounds", &rules, &[769], 0)
 }
 
 // A goal over two fluents and an action, in rooms of 6 and 12 records, with a list of 4 and one for 6 calls.
-fn wide<'a>(name: &[u8], rules: &'a [u16], goal: &'a [u16], start: u64) {
+fn wide<'a>(
+    rt: &impl Print,
+    name: &[u8],
+    rules: &'a [u16],
+    goal: &'a [u16],
+    start: u64,
+) -> io::Result<()> {
     let mut calls = [7u64; 18];
     let mut answers = [7u64; 240];
     let mut ends = [7u64; 4];
@@ -89,11 +102,11 @@ fn wide<'a>(name: &[u8], rules: &'a [u16], goal: &'a [u16], start: u64) {
         &mut ends,
         &mut list,
     );
-    runs::told(name, r, &calls, &answers, &ends, &list);
+    runs::told(rt, name, r, &calls, &answers, &ends, &list)
 }
 
 // g: `+b`; g: `+a`; g: `+a +b`; goal `!g !g`: calls by round and state, answers by round, call record and final state, by the lowest rule.
-fn ordered() {
+fn ordered(rt: &impl Print) -> io::Result<()> {
     let mut rules = [0u16; 54];
     rules[1] = 1;
     rules[2] = 257;
@@ -102,13 +115,13 @@ fn ordered() {
     rules[37] = 2;
     rules[38] = 256;
     rules[39] = 257;
-    wide(b"one order", &rules, &[768, 768], 0);
+    wide(rt, b"one order", &rules, &[768, 768], 0)
 }
 
-pub fn all() {
-    d1();
-    few();
-    d8();
-    d9();
-    ordered();
+pub fn all(rt: &impl Print) -> io::Result<()> {
+    d1(rt)?;
+    few(rt)?;
+    d8(rt)?;
+    d9(rt)?;
+    ordered(rt)
 }

@@ -10,11 +10,13 @@ mod depths;
 mod paths;
 mod runs;
 
-fn main() {
-    runs::all();
-    depths::all();
-    cuts::all();
-    denials::all();
-    paths::all();
-    classes::all();
+use std::io;
+
+fn main(rt: HostRuntime) -> io::Result<()> {
+    runs::all(&rt)?;
+    depths::all(&rt)?;
+    cuts::all(&rt)?;
+    denials::all(&rt)?;
+    paths::all(&rt)?;
+    classes::all(&rt)
 }

@@ -6,8 +6,10 @@ mod marks;
 mod reports;
 mod stores;
 
-fn main() {
-    stores::all();
-    reports::all();
-    marks::all();
+use std::io;
+
+fn main(rt: HostRuntime) -> io::Result<()> {
+    stores::all(&rt)?;
+    reports::all(&rt)?;
+    marks::all(&rt)
 }

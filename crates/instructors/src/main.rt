@@ -11,11 +11,13 @@ mod tampered;
 mod traced;
 mod turns;
 
-fn main() {
-    openings::all();
-    turns::all();
-    order::all();
-    afresh::all();
-    tampered::all();
-    traced::all();
+use std::io;
+
+fn main(rt: HostRuntime) -> io::Result<()> {
+    openings::all(&rt)?;
+    turns::all(&rt)?;
+    order::all(&rt)?;
+    afresh::all(&rt)?;
+    tampered::all(&rt)?;
+    traced::all(&rt)
 }

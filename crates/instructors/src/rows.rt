@@ -1,5 +1,6 @@
 // The rows that both tables hold, in the order of their keys: actions 0, 64 and 65, each in the states below 4.
 use accounts::writing::Kept;
+use std::io;
 
 // The word at a place, 0 past the end.
 fn word(table: &[u64], i: usize) -> u64 {
@@ -78,103 +79,98 @@ fn answers_of(calls: &[u64], answers: &[u64], m: u64, action: u64, state: u64, l
 }
 
 // Prints a call, and how often it stands if more than once.
-fn print_call(action: u64, state: u64, count: u64) {
-    print::text(b" ");
-    io::print_decimal(1, action);
-    print::text(b"@");
-    io::print_decimal(1, state);
+fn print_call(rt: &impl Print, action: u64, state: u64, count: u64) -> io::Result<()> {
+    print!(rt; " {action}@{state}")?;
     if 1 < count {
-        print::text(b"x");
-        io::print_decimal(1, count);
+        print!(rt; "x{count}")?;
     }
+    Ok(())
 }
 
 // Prints an answer.
-fn print_answer(action: u64, state: u64, last: u64, count: u64) {
-    print_call(action, state, 1);
-    print::text(b">");
-    io::print_decimal(1, last);
+fn print_answer(rt: &impl Print, action: u64, state: u64, last: u64, count: u64) -> io::Result<()> {
+    print_call(rt, action, state, 1)?;
+    print!(rt; ">{last}")?;
     if 1 < count {
-        print::text(b"x");
-        io::print_decimal(1, count);
+        print!(rt; "x{count}")?;
     }
+    Ok(())
 }
 
 // Prints the first n call records by their keys, and says so where one has none of these.
-fn print_calls(calls: &[u64], n: u64) {
-    print::number(b"call records", n);
+fn print_calls(rt: &impl Print, calls: &[u64], n: u64) -> io::Result<()> {
+    print::number(rt, b"call records", n)?;
     let mut seen: u64 = 0;
     for k in 0..12u64 {
         let action = action_of(k / 4);
         let count = calls_of(calls, n, action, k % 4);
         if 0 < count {
-            print_call(action, k % 4, count);
+            print_call(rt, action, k % 4, count)?;
         }
-        seen = std::num::wrapping_add_u64(seen, count);
+        seen = seen.wrapping_add(count);
     }
     if seen != n {
-        print::text(b" and others");
+        print::text(rt, b" and others")?;
     }
+    Ok(())
 }
 
 // Prints the first m answer records by their keys, and says so where one has none of these.
-fn print_answers(calls: &[u64], answers: &[u64], m: u64) {
-    print::number(b"answer records", m);
+fn print_answers(rt: &impl Print, calls: &[u64], answers: &[u64], m: u64) -> io::Result<()> {
+    print::number(rt, b"answer records", m)?;
     let mut seen: u64 = 0;
     for k in 0..48u64 {
         let action = action_of(k / 16);
         let count = answers_of(calls, answers, m, action, k / 4 % 4, k % 4);
         if 0 < count {
-            print_answer(action, k / 4 % 4, k % 4, count);
+            print_answer(rt, action, k / 4 % 4, k % 4, count)?;
         }
-        seen = std::num::wrapping_add_u64(seen, count);
+        seen = seen.wrapping_add(count);
     }
     if seen != m {
-        print::text(b" and others");
+        print::text(rt, b" and others")?;
     }
+    Ok(())
 }
 
 // Whether every word from a place on is 0.
 fn clear_from(table: &[u64], from: usize) -> bool {
-    let mut i: usize = 0;
-    while i < table.len() {
+    for i in 0..table.len() {
         if from <= i && table[i] != 0 {
             return false;
         }
-        i += 1;
     }
     true
 }
 
 // Says so where a word past the records is not 0.
-fn print_past(calls: &[u64], n: u64, answers: &[u64], m: u64) {
+fn print_past(rt: &impl Print, calls: &[u64], n: u64, answers: &[u64], m: u64) -> io::Result<()> {
     if !clear_from(calls, (n % 65536) as usize * 2) {
-        print::text(b"\tcalls not 0 past them");
+        print::text(rt, b"\tcalls not 0 past them")?;
     }
     if !clear_from(answers, (m % 65536) as usize * 19) {
-        print::text(b"\tanswers not 0 past them");
+        print::text(rt, b"\tanswers not 0 past them")?;
     }
+    Ok(())
 }
 
 // Prints the words kept, and the rows that both tables hold, counted so.
-pub fn print_all(kept: Kept, calls: &[u64], answers: &[u64]) {
+pub fn print_all(rt: &impl Print, kept: Kept, calls: &[u64], answers: &[u64]) -> io::Result<()> {
     let words = kept.words;
-    print::buffer(b"kept", &words);
+    print::buffer(rt, b"kept", &words)?;
     let n = words[42];
     let m = words[43];
-    print_calls(calls, n);
-    print_answers(calls, answers, m);
-    print_past(calls, n, answers, m);
+    print_calls(rt, calls, n)?;
+    print_answers(rt, calls, answers, m)?;
+    print_past(rt, calls, n, answers, m)
 }
 
 // Whether two buffers hold the same words.
 pub fn same(a: &[u64], b: &[u64]) -> bool {
-    let mut i: usize = 0;
-    while i < a.len() {
+    for i in 0..a.len() {
         if a[i] != word(b, i) {
             return false;
         }
-        i += 1;
     }
     a.len() == b.len()
 }

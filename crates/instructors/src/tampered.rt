@@ -3,6 +3,7 @@
 // word is changed so that it is wrong in any record.
 use crate::{rows, turns};
 use panel::Shared;
+use std::io;
 
 // Both tables and the words kept.
 #[derive(Clone, Copy)]
@@ -93,44 +94,53 @@ pub fn with_answer(word: usize, value: u64) -> Handed {
 }
 
 // Prints what a run gives.
-fn told(name: &[u8], r: Shared, ends: &[u64]) {
-    print::text(name);
-    print::number(b"refusal", r.refusal);
-    print::number(b"ends", r.ends);
-    print::number(b"calls", r.calls);
-    print::number(b"answers", r.answers);
-    print::buffer(b"list", ends);
+fn told(rt: &impl Print, name: &[u8], r: Shared, ends: &[u64]) -> io::Result<()> {
+    print::text(rt, name)?;
+    print::number(rt, b"refusal", r.refusal)?;
+    print::number(rt, b"ends", r.ends)?;
+    print::number(rt, b"calls", r.calls)?;
+    print::number(rt, b"answers", r.answers)?;
+    print::buffer(rt, b"list", ends)
 }
 
 // Says that a buffer is as it was, or tells its words.
-fn print_same(name: &[u8], now: &[u64], before: &[u64]) {
+fn print_same(rt: &impl Print, name: &[u8], now: &[u64], before: &[u64]) -> io::Result<()> {
     if rows::same(now, before) {
-        print::text(b"\t");
-        print::text(name);
-        print::text(b" unchanged");
+        print::text(rt, b"\t")?;
+        print::text(rt, name)?;
+        print::text(rt, b" unchanged")?;
     } else {
-        print::buffer(name, now);
+        print::buffer(rt, name, now)?;
     }
+    Ok(())
 }
 
 // A refused run is told with whether the buffers are unchanged, an accepted one with its rows.
-fn left(r: Shared, kept: &[u64], h: Handed, calls: &[u64], answers: &[u64]) {
+fn left(
+    rt: &impl Print,
+    r: Shared,
+    kept: &[u64],
+    h: Handed,
+    calls: &[u64],
+    answers: &[u64],
+) -> io::Result<()> {
     let k = r.kept;
     let words = k.words;
     if r.refusal == 0 {
-        rows::print_all(r.kept, calls, answers);
+        rows::print_all(rt, r.kept, calls, answers)?;
     } else {
         let old_calls = h.calls;
         let old_answers = h.answers;
-        print_same(b"kept", &words, kept);
-        print_same(b"calls", calls, &old_calls);
-        print_same(b"answers", answers, &old_answers);
+        print_same(rt, b"kept", &words, kept)?;
+        print_same(rt, b"calls", calls, &old_calls)?;
+        print_same(rt, b"answers", answers, &old_answers)?;
     }
-    print::text(b"\n");
+    print::text(rt, b"\n")
 }
 
 // Runs a goal over a book for the second party, with these words kept.
 fn asked<'a>(
+    rt: &impl Print,
     name: &[u8],
     fluents: u64,
     rules: &'a [u16],
@@ -138,7 +148,7 @@ fn asked<'a>(
     start: u64,
     kept: &[u64],
     h: Handed,
-) {
+) -> io::Result<()> {
     let mut calls = h.calls;
     let mut answers = h.answers;
     let mut ends = [7u64; 3];
@@ -154,65 +164,73 @@ fn asked<'a>(
         &mut answers,
         &mut ends,
     );
-    told(name, r, &ends);
-    left(r, kept, h, &calls, &answers);
+    told(rt, name, r, &ends)?;
+    left(rt, r, kept, h, &calls, &answers)
 }
 
 // Runs `!g ?b` at 0.
-fn run(name: &[u8], h: Handed) {
+fn run(rt: &impl Print, name: &[u8], h: Handed) -> io::Result<()> {
     let rules = turns::book();
     let kept = h.kept;
-    asked(name, 2, &rules, &[768, 1], 0, &kept, h);
+    asked(rt, name, 2, &rules, &[768, 1], 0, &kept, h)
 }
 
 // The limits, and whether a party holds rows.
-fn limits() {
-    run(b"91 limit of 1 call", with_kept(0, 1));
-    run(b"91 limit of 3 answers", with_kept(1, 3));
-    run(b"91 limits over the call room", with_kept(0, 3));
-    run(b"91 limits over the answer room", with_kept(22, 7));
-    run(b"a limit of 6 answers", with_kept(1, 6));
-    run(b"91 the first holds no rows", with_kept(2, 0));
-    run(b"91 the second holds no rows", with_kept(23, 0));
-    run(b"9 says that it holds rows", with_kept(2, 9));
+fn limits(rt: &impl Print) -> io::Result<()> {
+    run(rt, b"91 limit of 1 call", with_kept(0, 1))?;
+    run(rt, b"91 limit of 3 answers", with_kept(1, 3))?;
+    run(rt, b"91 limits over the call room", with_kept(0, 3))?;
+    run(rt, b"91 limits over the answer room", with_kept(22, 7))?;
+    run(rt, b"a limit of 6 answers", with_kept(1, 6))?;
+    run(rt, b"91 the first holds no rows", with_kept(2, 0))?;
+    run(rt, b"91 the second holds no rows", with_kept(23, 0))?;
+    run(rt, b"9 says that it holds rows", with_kept(2, 9))
 }
 
 // Goals and starts. `?a` holds wherever `!g` ends, so the rows of `!g ?a` are those of `!g`.
-fn goals() {
-    run(b"91 another start", with_kept(3, 2));
-    run(b"91 a start that meets 24", with_kept(24, 4));
-    run(b"goal !g ?a has the same rows", with_kept(4, 2));
-    run(b"91 goal of no steps", with_kept(4, 0));
-    run(b"91 goal of 17 steps", with_kept(4, 17));
-    run(b"91 goal !1", with_kept(5, 769));
-    run(b"91 goal of a word over 65,535", with_kept(26, 66304));
-    run(b"an unused goal word", with_kept(6, 5));
+fn goals(rt: &impl Print) -> io::Result<()> {
+    run(rt, b"91 another start", with_kept(3, 2))?;
+    run(rt, b"91 a start that meets 24", with_kept(24, 4))?;
+    run(rt, b"goal !g ?a has the same rows", with_kept(4, 2))?;
+    run(rt, b"91 goal of no steps", with_kept(4, 0))?;
+    run(rt, b"91 goal of 17 steps", with_kept(4, 17))?;
+    run(rt, b"91 goal !1", with_kept(5, 769))?;
+    run(rt, b"91 goal of a word over 65,535", with_kept(26, 66304))?;
+    run(rt, b"an unused goal word", with_kept(6, 5))
 }
 
-fn counts() {
-    run(b"91 a call fewer", with_kept(42, 2));
-    run(b"91 a call more", with_kept(42, 4));
-    run(b"91 more calls than there is room for", with_kept(42, 5));
-    run(b"91 an answer fewer", with_kept(43, 4));
-    run(b"91 an answer more", with_kept(43, 6));
-    run(b"91 more answers than there is room for", with_kept(43, 11));
+fn counts(rt: &impl Print) -> io::Result<()> {
+    run(rt, b"91 a call fewer", with_kept(42, 2))?;
+    run(rt, b"91 a call more", with_kept(42, 4))?;
+    run(
+        rt,
+        b"91 more calls than there is room for",
+        with_kept(42, 5),
+    )?;
+    run(rt, b"91 an answer fewer", with_kept(43, 4))?;
+    run(rt, b"91 an answer more", with_kept(43, 6))?;
+    run(
+        rt,
+        b"91 more answers than there is room for",
+        with_kept(43, 11),
+    )
 }
 
-fn records() {
-    run(b"91 call word 0 is 63", with_call(0, 63));
-    run(b"91 a call in another state", with_call(1, 1));
-    run(b"91 a word past the calls", with_call(6, 1));
-    run(b"91 the last word of the calls", with_call(7, 1));
+fn records(rt: &impl Print) -> io::Result<()> {
+    run(rt, b"91 call word 0 is 63", with_call(0, 63))?;
+    run(rt, b"91 a call in another state", with_call(1, 1))?;
+    run(rt, b"91 a word past the calls", with_call(6, 1))?;
+    run(rt, b"91 the last word of the calls", with_call(7, 1))
 }
 
-fn answers() {
-    run(b"91 an answer of no call", with_answer(0, 3));
-    run(b"91 another final state", with_answer(1, 2));
-    run(b"91 no such rule", with_answer(2, 2));
-    run(b"91 no such evidence", with_answer(3, 9));
-    run(b"91 evidence past the body", with_answer(18, 1));
-    run(b"91 a word past the answers", with_answer(95, 1));
-    run(b"91 the last word of the answers", with_answer(189, 1));
+fn answers(rt: &impl Print) -> io::Result<()> {
+    run(rt, b"91 an answer of no call", with_answer(0, 3))?;
+    run(rt, b"91 another final state", with_answer(1, 2))?;
+    run(rt, b"91 no such rule", with_answer(2, 2))?;
+    run(rt, b"91 no such evidence", with_answer(3, 9))?;
+    run(rt, b"91 evidence past the body", with_answer(18, 1))?;
+    run(rt, b"91 a word past the answers", with_answer(95, 1))?;
+    run(rt, b"91 the last word of the answers", with_answer(189, 1))
 }
 
 // A call record that stands twice.
@@ -298,15 +316,16 @@ fn in_other_order() -> Handed {
     }
 }
 
-fn other_records() {
-    run(b"91 a call twice", call_twice());
-    run(b"91 a call that nobody needs", call_too_many());
-    run(b"91 an answer twice", answer_twice());
-    run(b"the same rows in another order", in_other_order());
+fn other_records(rt: &impl Print) -> io::Result<()> {
+    run(rt, b"91 a call twice", call_twice())?;
+    run(rt, b"91 a call that nobody needs", call_too_many())?;
+    run(rt, b"91 an answer twice", answer_twice())?;
+    run(rt, b"the same rows in another order", in_other_order())
 }
 
 // Runs a goal over the words of a book from a place on, with the words kept from a place on.
 fn cut<'a>(
+    rt: &impl Print,
     name: &[u8],
     fluents: u64,
     rules: &'a [u16],
@@ -316,14 +335,15 @@ fn cut<'a>(
     kept: &[u64],
     first: usize,
     h: Handed,
-) {
+) -> io::Result<()> {
     if rules.len() < from {
-        return;
+        return Ok(());
     }
     if kept.len() < first {
-        return;
+        return Ok(());
     }
     asked(
+        rt,
         name,
         fluents,
         &rules[from..],
@@ -331,19 +351,20 @@ fn cut<'a>(
         start,
         &kept[first..],
         h,
-    );
+    )
 }
 
 // With the words kept from a place on: they are 44, and come back as 0 where they are not.
-fn shortened(name: &[u8], first: usize) {
+fn shortened(rt: &impl Print, name: &[u8], first: usize) -> io::Result<()> {
     let rules = turns::book();
     let h = prepared();
     let kept = h.kept;
-    cut(name, 2, &rules, 0, &[768, 1], 0, &kept, first, h);
+    cut(rt, name, 2, &rules, 0, &[768, 1], 0, &kept, first, h)
 }
 
 // Runs a goal of two steps, of which the second is `?b`, over the words of the book from a place on, with another word in one place.
 fn varied(
+    rt: &impl Print,
     name: &[u8],
     h: Handed,
     fluents: u64,
@@ -352,44 +373,65 @@ fn varied(
     value: u16,
     step: u16,
     start: u64,
-) {
+) -> io::Result<()> {
     let mut rules = turns::book();
     let kept = h.kept;
     rules[word % 36] = value;
-    cut(name, fluents, &rules, from, &[step, 1], start, &kept, 0, h);
+    cut(
+        rt,
+        name,
+        fluents,
+        &rules,
+        from,
+        &[step, 1],
+        start,
+        &kept,
+        0,
+        h,
+    )
 }
 
-fn lengths() {
-    shortened(b"91 of 43 words kept", 1);
-    shortened(b"91 of no words kept", 44);
-    shortened(b"nothing changed", 0);
+fn lengths(rt: &impl Print) -> io::Result<()> {
+    shortened(rt, b"91 of 43 words kept", 1)?;
+    shortened(rt, b"91 of no words kept", 44)?;
+    shortened(rt, b"nothing changed", 0)
 }
 
 // 20 to 22 come before 91, and 91 before 23 and 24.
-fn before() {
-    varied(b"20 before 91", with_call(0, 63), 65, 0, 35, 0, 768, 0);
-    varied(b"21 before 91", with_call(0, 63), 2, 1, 35, 0, 768, 0);
-    varied(b"22 before 91", with_call(0, 63), 2, 0, 35, 1, 768, 0);
-    varied(b"91 before 23", with_call(0, 63), 2, 0, 35, 0, 769, 0);
-    varied(b"91 before 24", with_call(0, 63), 2, 0, 35, 0, 768, 4);
+fn before(rt: &impl Print) -> io::Result<()> {
+    varied(rt, b"20 before 91", with_call(0, 63), 65, 0, 35, 0, 768, 0)?;
+    varied(rt, b"21 before 91", with_call(0, 63), 2, 1, 35, 0, 768, 0)?;
+    varied(rt, b"22 before 91", with_call(0, 63), 2, 0, 35, 1, 768, 0)?;
+    varied(rt, b"91 before 23", with_call(0, 63), 2, 0, 35, 0, 769, 0)?;
+    varied(rt, b"91 before 24", with_call(0, 63), 2, 0, 35, 0, 768, 4)
 }
 
 // 20 to 22 change nothing; and another book has other rows: g: `!g ?a +b`; g: `+b`.
-fn books() {
-    varied(b"20 of 65 fluents", prepared(), 65, 0, 35, 0, 768, 0);
-    varied(b"21 of 35 words", prepared(), 2, 1, 35, 0, 768, 0);
-    varied(b"22 an unused word not 0", prepared(), 2, 0, 35, 1, 768, 0);
-    varied(b"91 of another book", prepared(), 2, 0, 20, 257, 768, 0);
+fn books(rt: &impl Print) -> io::Result<()> {
+    varied(rt, b"20 of 65 fluents", prepared(), 65, 0, 35, 0, 768, 0)?;
+    varied(rt, b"21 of 35 words", prepared(), 2, 1, 35, 0, 768, 0)?;
+    varied(
+        rt,
+        b"22 an unused word not 0",
+        prepared(),
+        2,
+        0,
+        35,
+        1,
+        768,
+        0,
+    )?;
+    varied(rt, b"91 of another book", prepared(), 2, 0, 20, 257, 768, 0)
 }
 
-pub fn all() {
-    limits();
-    goals();
-    counts();
-    records();
-    answers();
-    other_records();
-    lengths();
-    before();
-    books();
+pub fn all(rt: &impl Print) -> io::Result<()> {
+    limits(rt)?;
+    goals(rt)?;
+    counts(rt)?;
+    records(rt)?;
+    answers(rt)?;
+    other_records(rt)?;
+    lengths(rt)?;
+    before(rt)?;
+    books(rt)
 }

@@ -3,6 +3,7 @@
 use crate::{openings, rows, traced};
 use accounts::writing::Kept;
 use panel::Shared;
+use std::io;
 
 // The book of drill D2.
 pub fn book() -> [u16; 36] {
@@ -16,17 +17,18 @@ pub fn book() -> [u16; 36] {
 }
 
 // Prints what a run gives.
-fn told(name: &[u8], r: Shared, ends: &[u64]) {
-    print::text(name);
-    print::number(b"refusal", r.refusal);
-    print::number(b"ends", r.ends);
-    print::number(b"calls", r.calls);
-    print::number(b"answers", r.answers);
-    print::buffer(b"list", ends);
+fn told(rt: &impl Print, name: &[u8], r: Shared, ends: &[u64]) -> io::Result<()> {
+    print::text(rt, name)?;
+    print::number(rt, b"refusal", r.refusal)?;
+    print::number(rt, b"ends", r.ends)?;
+    print::number(rt, b"calls", r.calls)?;
+    print::number(rt, b"answers", r.answers)?;
+    print::buffer(rt, b"list", ends)
 }
 
 // A run of the second party, or else of the first, with this list; gives the words that are kept then.
 fn listed(
+    rt: &impl Print,
     name: &[u8],
     second: bool,
     goal: &[u16],
@@ -35,20 +37,21 @@ fn listed(
     calls: &mut [u64],
     answers: &mut [u64],
     ends: &mut [u64],
-) -> Kept {
+) -> io::Result<Kept> {
     let rules = book();
     let words = kept.words;
     let r = panel::share(
         second, 2, 1, &rules, goal, start, &words, calls, answers, ends,
     );
-    told(name, r, ends);
-    rows::print_all(r.kept, calls, answers);
-    print::text(b"\n");
-    r.kept
+    told(rt, name, r, ends)?;
+    rows::print_all(rt, r.kept, calls, answers)?;
+    print::text(rt, b"\n")?;
+    Ok(r.kept)
 }
 
 // With a list of so many places, at most 3.
 pub fn turn(
+    rt: &impl Print,
     name: &[u8],
     second: bool,
     goal: &[u16],
@@ -57,10 +60,11 @@ pub fn turn(
     kept: Kept,
     calls: &mut [u64],
     answers: &mut [u64],
-) -> Kept {
+) -> io::Result<Kept> {
     let mut ends = [7u64; 3];
     let from = 3 - places % 4;
     listed(
+        rt,
         name,
         second,
         goal,
@@ -73,8 +77,14 @@ pub fn turn(
 }
 
 // Runs 1 to 3: both parties need g in state 0.
-fn first_three(kept: Kept, calls: &mut [u64], answers: &mut [u64]) -> Kept {
+fn first_three(
+    rt: &impl Print,
+    kept: Kept,
+    calls: &mut [u64],
+    answers: &mut [u64],
+) -> io::Result<Kept> {
     let k = turn(
+        rt,
         b"1 first !g at 0",
         false,
         &[768],
@@ -83,8 +93,9 @@ fn first_three(kept: Kept, calls: &mut [u64], answers: &mut [u64]) -> Kept {
         kept,
         calls,
         answers,
-    );
+    )?;
     let k = turn(
+        rt,
         b"2 second !g at 0, 31",
         true,
         &[768],
@@ -93,8 +104,9 @@ fn first_three(kept: Kept, calls: &mut [u64], answers: &mut [u64]) -> Kept {
         k,
         calls,
         answers,
-    );
+    )?;
     turn(
+        rt,
         b"3 second !g ?b at 0",
         true,
         &[768, 1],
@@ -107,8 +119,14 @@ fn first_three(kept: Kept, calls: &mut [u64], answers: &mut [u64]) -> Kept {
 }
 
 // Runs 4 to 6: the first party's rows that the second does not need go.
-fn next_three(kept: Kept, calls: &mut [u64], answers: &mut [u64]) -> Kept {
+fn next_three(
+    rt: &impl Print,
+    kept: Kept,
+    calls: &mut [u64],
+    answers: &mut [u64],
+) -> io::Result<Kept> {
     let k = turn(
+        rt,
         b"4 first !g at 2",
         false,
         &[768],
@@ -117,9 +135,20 @@ fn next_three(kept: Kept, calls: &mut [u64], answers: &mut [u64]) -> Kept {
         kept,
         calls,
         answers,
-    );
-    let k = turn(b"5 first !1, 23", false, &[769], 0, 2, k, calls, answers);
+    )?;
+    let k = turn(
+        rt,
+        b"5 first !1, 23",
+        false,
+        &[769],
+        0,
+        2,
+        k,
+        calls,
+        answers,
+    )?;
     turn(
+        rt,
         b"6 first !g !g at 0, 30",
         false,
         &[768, 768],
@@ -132,8 +161,14 @@ fn next_three(kept: Kept, calls: &mut [u64], answers: &mut [u64]) -> Kept {
 }
 
 // Then 24 with the other's rows, and 23 before 24.
-fn refused_starts(kept: Kept, calls: &mut [u64], answers: &mut [u64]) -> Kept {
+fn refused_starts(
+    rt: &impl Print,
+    kept: Kept,
+    calls: &mut [u64],
+    answers: &mut [u64],
+) -> io::Result<Kept> {
     let k = turn(
+        rt,
         b"first !g at 0 again",
         false,
         &[768],
@@ -142,9 +177,20 @@ fn refused_starts(kept: Kept, calls: &mut [u64], answers: &mut [u64]) -> Kept {
         kept,
         calls,
         answers,
-    );
-    let k = turn(b"first !g at 4, 24", false, &[768], 4, 2, k, calls, answers);
+    )?;
+    let k = turn(
+        rt,
+        b"first !g at 4, 24",
+        false,
+        &[768],
+        4,
+        2,
+        k,
+        calls,
+        answers,
+    )?;
     turn(
+        rt,
         b"second !1 at 4, 23 before 24",
         true,
         &[769],
@@ -157,10 +203,36 @@ fn refused_starts(kept: Kept, calls: &mut [u64], answers: &mut [u64]) -> Kept {
 }
 
 // Goals without calls, and one of no steps.
-fn plain_goals(kept: Kept, calls: &mut [u64], answers: &mut [u64]) -> Kept {
-    let k = turn(b"second +b at 1", true, &[257], 1, 2, kept, calls, answers);
-    let k = turn(b"first no steps at 3", false, &[], 3, 1, k, calls, answers);
+fn plain_goals(
+    rt: &impl Print,
+    kept: Kept,
+    calls: &mut [u64],
+    answers: &mut [u64],
+) -> io::Result<Kept> {
+    let k = turn(
+        rt,
+        b"second +b at 1",
+        true,
+        &[257],
+        1,
+        2,
+        kept,
+        calls,
+        answers,
+    )?;
+    let k = turn(
+        rt,
+        b"first no steps at 3",
+        false,
+        &[],
+        3,
+        1,
+        k,
+        calls,
+        answers,
+    )?;
     turn(
+        rt,
         b"second ?b at 0, no end",
         true,
         &[1],
@@ -173,8 +245,14 @@ fn plain_goals(kept: Kept, calls: &mut [u64], answers: &mut [u64]) -> Kept {
 }
 
 // A goal of 17 steps.
-fn long_goal(kept: Kept, calls: &mut [u64], answers: &mut [u64]) -> Kept {
+fn long_goal(
+    rt: &impl Print,
+    kept: Kept,
+    calls: &mut [u64],
+    answers: &mut [u64],
+) -> io::Result<Kept> {
     turn(
+        rt,
         b"second 17 steps, 23",
         true,
         &[256; 17],
@@ -187,24 +265,25 @@ fn long_goal(kept: Kept, calls: &mut [u64], answers: &mut [u64]) -> Kept {
 }
 
 // Runs 1 to 6, and the paths of what they leave.
-fn six(kept: Kept, calls: &mut [u64], answers: &mut [u64]) -> Kept {
-    let k = first_three(kept, calls, answers);
-    let k = next_three(k, calls, answers);
-    traced::after_six(k, calls, answers);
-    k
+fn six(rt: &impl Print, kept: Kept, calls: &mut [u64], answers: &mut [u64]) -> io::Result<Kept> {
+    let k = first_three(rt, kept, calls, answers)?;
+    let k = next_three(rt, k, calls, answers)?;
+    traced::after_six(rt, k, calls, answers)?;
+    Ok(k)
 }
 
 // The runs after them.
-fn others(kept: Kept, calls: &mut [u64], answers: &mut [u64]) {
-    let k = refused_starts(kept, calls, answers);
-    let k = plain_goals(k, calls, answers);
-    long_goal(k, calls, answers);
+fn others(rt: &impl Print, kept: Kept, calls: &mut [u64], answers: &mut [u64]) -> io::Result<()> {
+    let k = refused_starts(rt, kept, calls, answers)?;
+    let k = plain_goals(rt, k, calls, answers)?;
+    long_goal(rt, k, calls, answers)?;
+    Ok(())
 }
 
-pub fn all() {
+pub fn all(rt: &impl Print) -> io::Result<()> {
     let mut calls = [7u64; 8];
     let mut answers = [7u64; 190];
-    let k = openings::opened(b"open", 2, 4, 2, 4, &mut calls, &mut answers);
-    let k = six(k, &mut calls, &mut answers);
-    others(k, &mut calls, &mut answers);
+    let k = openings::opened(rt, b"open", 2, 4, 2, 4, &mut calls, &mut answers)?;
+    let k = six(rt, k, &mut calls, &mut answers)?;
+    others(rt, k, &mut calls, &mut answers)
 }

@@ -6,8 +6,10 @@ mod dresses;
 mod merges;
 mod sheets;
 
-fn main() {
-    sheets::all();
-    dresses::all();
-    merges::all();
+use std::io;
+
+fn main(rt: HostRuntime) -> io::Result<()> {
+    sheets::all(&rt)?;
+    dresses::all(&rt)?;
+    merges::all(&rt)
 }
