@@ -5,6 +5,8 @@
 //
 // A book is 7 records of 18 words: the rules, and the goal as the last. A relation table is 32 words, at 8 times the action
 // plus the state. Only safety is proved here, so indices are taken modulo the length of their array.
+#![tactic(auto)]
+
 pub mod depth;
 pub mod order;
 pub mod random;
@@ -86,7 +88,7 @@ fn add_calls(called: &mut [u64; 4], action: u16, set: u64) -> bool {
 }
 
 // What a walk of a body gives: its final states, and whether a call was new.
-#[derive(Drop)]
+#[derive(Clone, Copy)]
 struct Walked {
     set: u64,
     grew: bool,
@@ -104,8 +106,7 @@ fn walk(
     let count = word_at(words, rule, 1);
     let mut set = single(s);
     let mut grew = false;
-    let mut k: u16 = 0;
-    while k < count {
+    for k in 0..count {
         let word = word_at(words, rule, (k % 16) as usize + 2);
         if reached && word / 256 == 3 {
             if add_calls(called, word % 256, set) {
@@ -113,7 +114,6 @@ fn walk(
             }
         }
         set = step_set(word, set, rel);
-        k += 1;
     }
     Walked { set, grew }
 }
@@ -151,9 +151,10 @@ fn round(words: &[u16; 126], rules: usize, rel: &mut [u64; 32], called: &mut [u6
 
 // Rounds until nothing is added: the 32 sets of final states and the 4 of calls have at most 288 states to gain.
 fn solve(words: &[u16; 126], rules: usize, rel: &mut [u64; 32], called: &mut [u64; 4]) {
-    let mut rounds: u64 = 0;
-    while rounds < 300 && round(words, rules, rel, called) {
-        rounds += 1;
+    for _ in 0..300u64 {
+        if !round(words, rules, rel, called) {
+            return;
+        }
     }
 }
 
@@ -178,7 +179,7 @@ fn answers_of(rel: &[u64; 32], action: u64, set: u64) -> u64
 }
 
 // The set of ends, and the counts of calls and answers, the goal's with them.
-#[derive(Drop)]
+#[derive(Clone, Copy)]
 pub struct Found {
     pub ends: u64,
     pub calls: u64,

@@ -98,7 +98,7 @@ fn write_evidence(
 }
 
 // An answer of a round: the number, place and state of its call record, and its final state.
-#[derive(Drop)]
+#[derive(Clone, Copy)]
 struct Row {
     call: u64,
     place: usize,
@@ -266,9 +266,8 @@ pub fn write_tables(
     put(calls, 1, start);
     let mut n: usize = 1;
     let mut m: u64 = 0;
-    let mut round: u64 = 0;
-    while round < rounds {
-        round += 1;
+    for before in 0..rounds {
+        let round = before + 1;
         n = write_calls(&call_rounds, round, &mut order, calls, n);
         m = write_round(
             words,
