@@ -19,7 +19,7 @@ const MOST_STEPS: usize = 16;
 const NO_GOAL: usize = 17;
 
 // A limit of calls and one of answers.
-#[derive(Drop)]
+#[derive(Clone, Copy)]
 pub struct Limits {
     pub calls: u64,
     pub answers: u64,

@@ -11,7 +11,7 @@ use crate::reading::Limits;
 // What is kept beside the tables: of each party the limits of calls and of answers, 1 if it holds rows, the start, the count of goal steps and
 // 16 step words; then the counts of call records and of answer records.
 #[repr(C)]
-#[derive(Drop)]
+#[derive(Clone, Copy)]
 pub struct Kept {
     pub words: [u64; 44],
 }

@@ -6,7 +6,7 @@ use relation::{has, ones, place, random};
 use sheet::Sheet;
 
 // What was seen of one record: its steps that can run, a yes, marks; and whether the two agree.
-#[derive(Drop)]
+#[derive(Clone, Copy)]
 pub struct Seen {
     pub runs: u64,
     pub yes: u64,
@@ -73,7 +73,7 @@ fn bits(table: &[u64]) -> u64 {
     let mut n: u64 = 0;
     let mut i: usize = 0;
     while i < table.len() {
-        n = std::num::wrapping_add_u64(n, ones(table[i]));
+        n = n.wrapping_add(ones(table[i]));
         i += 1;
     }
     n
@@ -83,7 +83,7 @@ fn bits(table: &[u64]) -> u64 {
 fn parts(found: &[u64; 32]) -> u64 {
     let mut n: u64 = 0;
     for at in 0..32usize {
-        n = std::num::wrapping_add_u64(n, ones(found[at]));
+        n = n.wrapping_add(ones(found[at]));
     }
     n
 }
@@ -108,7 +108,7 @@ fn same_marks(marked: Marked, yes: u64, table: &[u64], found: &[u64; 32]) -> boo
     if last != words::MARK {
         return false;
     }
-    if bits(table) != std::num::wrapping_add_u64(parts(found), ones(last)) {
+    if bits(table) != parts(found).wrapping_add(ones(last)) {
         return false;
     }
     same_words(table, found)

@@ -2,7 +2,7 @@
 use crate::words;
 
 // The number of rounds, whether both tables have the other's words, and 0 past them, and whether the list of calls has.
-#[derive(Drop)]
+#[derive(Clone, Copy)]
 pub struct Told {
     pub rounds: u64,
     pub same: bool,

@@ -132,7 +132,7 @@ fn refusal_with(
 }
 
 // How many calls, answers, ends and places for call numbers there is room for.
-#[derive(Drop)]
+#[derive(Clone, Copy)]
 struct Rooms {
     n: u64,
     m: u64,

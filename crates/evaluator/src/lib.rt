@@ -20,7 +20,7 @@ use steps::state::Call;
 
 // The refusal, 0 for none, the counts of ends, calls and answers, and the number of rounds that added something.
 #[repr(C)]
-#[derive(Drop)]
+#[derive(Clone, Copy)]
 pub struct Run {
     pub refusal: u64,
     pub ends: u64,

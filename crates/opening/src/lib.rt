@@ -11,7 +11,7 @@ use records::tables;
 
 // The refusal, 0 for none, and the words kept beside the tables from then on.
 #[repr(C)]
-#[derive(Drop)]
+#[derive(Clone, Copy)]
 pub struct Opened {
     pub refusal: u64,
     pub kept: Kept,

@@ -14,7 +14,7 @@ use steps::accept;
 
 // The refusal, 0 for none, the party's own counts of ends, calls and answers, and the words kept from then on.
 #[repr(C)]
-#[derive(Drop)]
+#[derive(Clone, Copy)]
 pub struct Shared {
     pub refusal: u64,
     pub ends: u64,

@@ -4,7 +4,7 @@ use crate::{held, wanted, words};
 use panel::Shared;
 
 // The refusal, the set of ends, and the counts.
-#[derive(Drop)]
+#[derive(Clone, Copy)]
 pub struct Want {
     pub refusal: u64,
     pub set: u64,

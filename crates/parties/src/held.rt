@@ -2,7 +2,7 @@
 use crate::words;
 
 // The limits, whether the party holds rows, and its goal and start: no steps and 0 where it holds none.
-#[derive(Drop)]
+#[derive(Clone, Copy)]
 pub struct Account {
     pub calls: u64,
     pub answers: u64,

@@ -1,5 +1,7 @@
 // Plays rows of runs of two parties at random (request R-14). Each opening and each run is held to an evaluator and a check of the tables written
 // apart, and each run to one of the library's own evaluator alone in tables of the party's limits. The books have 3 fluents, 4 actions and 6 rules.
+#![tactic(auto)]
+
 mod evidence;
 mod expected;
 mod held;
@@ -13,6 +15,7 @@ mod wanted;
 mod words;
 
 use relation::random;
+use std::io;
 
 // Writes six rules at random over zeros: rule 0 to a last one are base rules; the generator's next number.
 fn random_book(seed: u64, book: &mut [u16; 126], last: usize) -> u64 {
@@ -50,8 +53,8 @@ fn rows(count: u64, from: u64, t: &mut [u64; 30]) {
     }
 }
 
-fn main() {
+fn main(rt: HostRuntime) -> io::Result<()> {
     let mut t = [0u64; 30];
     rows(500, 2026, &mut t);
-    tally::print_all(&t);
+    tally::print_all(&rt, &t)
 }

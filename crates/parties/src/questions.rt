@@ -3,7 +3,7 @@ use crate::held::Account;
 use relation::random::{next, pick};
 
 // A party's question, as the account that it would hold, with so many places for ends.
-#[derive(Drop)]
+#[derive(Clone, Copy)]
 pub struct Asked {
     pub second: bool,
     pub fluents: u64,

@@ -4,7 +4,7 @@ use crate::held::Account;
 use relation::Found;
 
 // The states of each slot's calls, and for each slot and state, at 8 times the slot plus the state, the final states of its answers.
-#[derive(Drop)]
+#[derive(Clone, Copy)]
 pub struct Sets {
     pub calls: [u64; 48],
     pub answers: [u64; 48],

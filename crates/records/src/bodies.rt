@@ -13,7 +13,7 @@ pub const GOAL_RULE: u64 = 256;
 pub const SECOND_GOAL: u64 = 65;
 
 // Which goals stand: the first party's under 64, the second's under 65. A run alone is the first party's.
-#[derive(Drop)]
+#[derive(Clone, Copy)]
 pub struct Goals {
     pub first: bool,
     pub second: bool,

@@ -23,7 +23,7 @@ use steps::word;
 // What does not change while a body is walked: its rule's number, the call record that it is of, how many answers may serve and how many
 // there is room for, and the walk's own number; the records from `first` up to `old` were walked before, with the answers below `seen`;
 // whether the round has noted all that it has to look at again; and the round's number.
-#[derive(Drop)]
+#[derive(Clone, Copy)]
 pub struct Job {
     pub rule: u64,
     pub row: usize,

@@ -12,7 +12,7 @@ use naming::Span;
 
 // What a sheet says beside its rule words. Refusal 0 is none.
 #[repr(C)]
-#[derive(Drop)]
+#[derive(Clone, Copy)]
 pub struct Sheet {
     pub refusal: u64,
     pub line: u64,

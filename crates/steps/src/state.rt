@@ -5,7 +5,7 @@ ghost use Rattle.steps.specs.State.{holds, removed};
 ghost use Rattle.steps.specs.Inner.{inserted};
 
 // A set of at most 64 fluents: fluent k holds exactly if bit k is set.
-#[derive(Drop)]
+#[derive(Clone, Copy)]
 pub struct State(pub u64);
 
 impl State {
@@ -61,7 +61,7 @@ impl State {
 }
 
 // An action and the state in which it is called.
-#[derive(Drop)]
+#[derive(Clone, Copy)]
 pub struct Call {
     pub action: u64,
     pub state: State,
