@@ -6,7 +6,7 @@ ghost use Rattle.fields.specs.Field.{new_name, used_name, step_word, marks};
 ghost use Rattle.fields.specs.Held.{Held, names_in, symbols_of, behind, answer, step_from};
 
 // The names defined so far, the fluents first: name k is the sheet's part from from[k] up to to[k].
-#[derive(Drop)]
+#[derive(Clone, Copy)]
 pub struct Names {
     pub fluents: usize,
     pub actions: usize,

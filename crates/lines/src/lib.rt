@@ -14,7 +14,7 @@ use fields::names::Names;
 use steps::state::State;
 
 // A line's first field: a record word, or another.
-#[derive(Drop)]
+#[derive(Clone, Copy)]
 pub enum Word {
     Fluent,
     Action,
@@ -25,7 +25,7 @@ pub enum Word {
 }
 
 // What the lines so far have said, or a refusal.
-#[derive(Drop)]
+#[derive(Clone, Copy)]
 pub struct Parse {
     pub refusal: u64,
     pub stage: u64,
