@@ -71,10 +71,8 @@ fn same_words(table: &[u64], found: &[u64; 32]) -> bool {
 // How many bits a table has.
 fn bits(table: &[u64]) -> u64 {
     let mut n: u64 = 0;
-    let mut i: usize = 0;
-    while i < table.len() {
+    for i in 0..table.len() {
         n = n.wrapping_add(ones(table[i]));
-        i += 1;
     }
     n
 }
