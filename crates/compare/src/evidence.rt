@@ -116,12 +116,10 @@ fn justified(book: &[u16; 126], calls: &[u64], n: u64, answers: &[u64], x: u64) 
 
 // Whether the first m answer records are justified.
 pub fn all_justified(book: &[u16; 126], calls: &[u64], n: u64, answers: &[u64], m: u64) -> bool {
-    let mut x: u64 = 0;
-    while x < m {
+    for x in 0..m {
         if !justified(book, calls, n, answers, x) {
             return false;
         }
-        x += 1;
     }
     true
 }

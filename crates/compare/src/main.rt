@@ -17,6 +17,7 @@ mod words;
 use evaluator::Run;
 use relation::{Found, random};
 use sheet::Sheet;
+use std::io;
 
 // What was seen: sheets; their comment lines and lines ended by CR LF; rules that call their own action first; sheets in which two actions
 // call each other first; ends, calls, answers and rounds; sheets in which an action called has an answer; recorded steps that can run, records that
@@ -51,7 +52,7 @@ struct Tally {
 }
 
 fn sum(a: u64, b: u64) -> u64 {
-    std::num::wrapping_add_u64(a, b)
+    a.wrapping_add(b)
 }
 
 fn plus(a: Tally, b: Tally) -> Tally {
@@ -362,49 +363,51 @@ fn compare(sheets: u64, from: u64) -> Tally {
     tally
 }
 
-fn line(name: &[u8], n: u64) {
-    io::write_all(1, name);
-    io::write_all(1, b"\t");
-    io::print_decimal(1, n);
-    io::write_all(1, b"\n");
+fn line(rt: &impl Print, name: &str, n: u64) -> io::Result<()> {
+    println!(rt; "{name}\t{n}")
 }
 
-fn print_seen(t: Tally) {
-    line(b"sheets", t.sheets);
-    line(b"comment lines", t.comments);
-    line(b"lines ended by CR LF", t.returns);
-    line(b"rules that call themselves first", t.own);
-    line(b"sheets with mutual recursion first", t.mutual);
-    line(b"ends", t.ends);
-    line(b"calls", t.calls);
-    line(b"answers", t.answers);
-    line(b"rounds", t.rounds);
-    line(b"sheets with answers of inner calls", t.inner);
-    line(b"recorded steps that can run", t.runs);
-    line(b"records that are the goal's", t.yes);
-    line(b"marks", t.marks);
+fn print_seen(rt: &impl Print, t: Tally) -> io::Result<()> {
+    line(rt, "sheets", t.sheets)?;
+    line(rt, "comment lines", t.comments)?;
+    line(rt, "lines ended by CR LF", t.returns)?;
+    line(rt, "rules that call themselves first", t.own)?;
+    line(rt, "sheets with mutual recursion first", t.mutual)?;
+    line(rt, "ends", t.ends)?;
+    line(rt, "calls", t.calls)?;
+    line(rt, "answers", t.answers)?;
+    line(rt, "rounds", t.rounds)?;
+    line(rt, "sheets with answers of inner calls", t.inner)?;
+    line(rt, "recorded steps that can run", t.runs)?;
+    line(rt, "records that are the goal's", t.yes)?;
+    line(rt, "marks", t.marks)
 }
 
-fn print_differences(t: Tally) {
-    line(b"sheets not read as written", t.bad_words);
-    line(b"sheets not written as the plain text", t.bad_text);
-    line(b"texts written and not read as the sheet", t.bad_again);
-    line(b"sheets that differ in ends", t.bad_ends);
-    line(b"sheets that differ in calls", t.bad_calls);
-    line(b"sheets that differ in answers", t.bad_answers);
-    line(b"sheets that differ in rounds", t.bad_rounds);
-    line(b"sheets that differ in a word of the tables", t.bad_tables);
+fn print_differences(rt: &impl Print, t: Tally) -> io::Result<()> {
+    line(rt, "sheets not read as written", t.bad_words)?;
+    line(rt, "sheets not written as the plain text", t.bad_text)?;
+    line(rt, "texts written and not read as the sheet", t.bad_again)?;
+    line(rt, "sheets that differ in ends", t.bad_ends)?;
+    line(rt, "sheets that differ in calls", t.bad_calls)?;
+    line(rt, "sheets that differ in answers", t.bad_answers)?;
+    line(rt, "sheets that differ in rounds", t.bad_rounds)?;
     line(
-        b"sheets that differ in a word of the list of calls",
+        rt,
+        "sheets that differ in a word of the tables",
+        t.bad_tables,
+    )?;
+    line(
+        rt,
+        "sheets that differ in a word of the list of calls",
         t.bad_list,
-    );
-    line(b"sheets with an answer not justified", t.bad_evidence);
-    line(b"sheets refused in wrong rooms", t.bad_rooms);
-    line(b"records marked otherwise", t.bad_marks);
+    )?;
+    line(rt, "sheets with an answer not justified", t.bad_evidence)?;
+    line(rt, "sheets refused in wrong rooms", t.bad_rooms)?;
+    line(rt, "records marked otherwise", t.bad_marks)
 }
 
-fn main() {
+fn main(rt: HostRuntime) -> io::Result<()> {
     let tally = compare(5000, 2026);
-    print_seen(tally);
-    print_differences(tally);
+    print_seen(&rt, tally)?;
+    print_differences(&rt, tally)
 }

@@ -71,10 +71,8 @@ fn same_words(table: &[u64], found: &[u64; 32]) -> bool {
 // How many bits a table has.
 fn bits(table: &[u64]) -> u64 {
     let mut n: u64 = 0;
-    let mut i: usize = 0;
-    while i < table.len() {
-        n = std::num::wrapping_add_u64(n, ones(table[i]));
-        i += 1;
+    for i in 0..table.len() {
+        n = n.wrapping_add(ones(table[i]));
     }
     n
 }
@@ -83,7 +81,7 @@ fn bits(table: &[u64]) -> u64 {
 fn parts(found: &[u64; 32]) -> u64 {
     let mut n: u64 = 0;
     for at in 0..32usize {
-        n = std::num::wrapping_add_u64(n, ones(found[at]));
+        n = n.wrapping_add(ones(found[at]));
     }
     n
 }
@@ -108,7 +106,7 @@ fn same_marks(marked: Marked, yes: u64, table: &[u64], found: &[u64; 32]) -> boo
     if last != words::MARK {
         return false;
     }
-    if bits(table) != std::num::wrapping_add_u64(parts(found), ones(last)) {
+    if bits(table) != parts(found).wrapping_add(ones(last)) {
         return false;
     }
     same_words(table, found)

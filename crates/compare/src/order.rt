@@ -11,12 +11,10 @@ pub struct Told {
 
 // Whether the words of two tables are the same.
 fn same_words(got: &[u64], wanted: &[u64]) -> bool {
-    let mut i: usize = 0;
-    while i < wanted.len() {
+    for i in 0..wanted.len() {
         if words::word(got, i) != wanted[i] {
             return false;
         }
-        i += 1;
     }
     got.len() == wanted.len()
 }

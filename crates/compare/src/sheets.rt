@@ -56,13 +56,11 @@ fn same_counts(book: &[u16; 126], start: u64, read: Sheet) -> bool {
 // Whether words are those of the book from a place on.
 fn same_words(book: &[u16; 126], from: usize, words: &[u16]) -> bool {
     let mut at = from;
-    let mut i: usize = 0;
-    while i < words.len() {
+    for i in 0..words.len() {
         if words[i] != book[at % 126] {
             return false;
         }
         at = at % 126 + 1;
-        i += 1;
     }
     true
 }

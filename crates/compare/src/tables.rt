@@ -33,8 +33,7 @@ fn note(seen: &mut [u64; 48], at: usize, state: u64) -> bool {
 
 // The states of each slot's call records; false if a record is bad or held twice.
 fn calls_seen(calls: &[u64], n: u64, seen: &mut [u64; 48]) -> bool {
-    let mut i: u64 = 0;
-    while i < n {
+    for i in 0..n {
         let at = slot(words::of_call(calls, i, 0));
         if at == 5 {
             return false;
@@ -42,7 +41,6 @@ fn calls_seen(calls: &[u64], n: u64, seen: &mut [u64; 48]) -> bool {
         if !note(seen, at, words::of_call(calls, i, 1)) {
             return false;
         }
-        i += 1;
     }
     true
 }
@@ -63,8 +61,7 @@ pub fn same_calls(calls: &[u64], n: u64, called: &[u64; 4], start: u64) -> bool 
 
 // The final states of each slot and state; false if a record is bad or held twice.
 fn answers_seen(calls: &[u64], n: u64, answers: &[u64], m: u64, seen: &mut [u64; 48]) -> bool {
-    let mut x: u64 = 0;
-    while x < m {
+    for x in 0..m {
         let call = words::of_answer(answers, x, 0);
         if n <= call {
             return false;
@@ -78,7 +75,6 @@ fn answers_seen(calls: &[u64], n: u64, answers: &[u64], m: u64, seen: &mut [u64;
         ) {
             return false;
         }
-        x += 1;
     }
     true
 }

@@ -5,11 +5,12 @@ use relation::random;
 // Writes bytes from a place on, so far as there is room; the place after them.
 fn put(text: &mut [u8], from: usize, bytes: &[u8]) -> usize {
     let mut at = from;
-    let mut i: usize = 0;
-    while i < bytes.len() && at < text.len() {
+    for i in 0..bytes.len() {
+        if text.len() <= at {
+            return at;
+        }
         text[at] = bytes[i];
         at += 1;
-        i += 1;
     }
     at
 }

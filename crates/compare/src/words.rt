@@ -22,26 +22,22 @@ pub fn of_answer(answers: &[u64], x: u64, k: usize) -> u64 {
 
 // Whether every word from a place on is v.
 pub fn all_from(table: &[u64], from: usize, v: u64) -> bool {
-    let mut i: usize = 0;
-    while i < table.len() {
+    for i in 0..table.len() {
         if from <= i {
             if table[i] != v {
                 return false;
             }
         }
-        i += 1;
     }
     true
 }
 
 // Whether a table begins with these words.
 pub fn begins(table: &[u64], first: &[u64]) -> bool {
-    let mut i: usize = 0;
-    while i < first.len() {
+    for i in 0..first.len() {
         if word(table, i) != first[i] {
             return false;
         }
-        i += 1;
     }
     true
 }

@@ -15,6 +15,7 @@ mod wanted;
 mod words;
 
 use relation::random;
+use std::io;
 
 // Writes six rules at random over zeros: rule 0 to a last one are base rules; the generator's next number.
 fn random_book(seed: u64, book: &mut [u16; 126], last: usize) -> u64 {
@@ -52,8 +53,8 @@ fn rows(count: u64, from: u64, t: &mut [u64; 30]) {
     }
 }
 
-fn main() {
+fn main(rt: HostRuntime) -> io::Result<()> {
     let mut t = [0u64; 30];
     rows(500, 2026, &mut t);
-    tally::print_all(&t);
+    tally::print_all(&rt, &t)
 }

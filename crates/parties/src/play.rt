@@ -254,11 +254,7 @@ fn count_rows(p: Panel, q: Asked, w: Want, o: Outcome, t: &mut [u64; 30]) {
     let other = held::account_in(&kept, !q.second);
     count_beside(w, old.holds, other.holds, t);
     if !old.holds && other.holds && 0 < w.calls {
-        count(
-            t,
-            tally::SHARED_ROWS,
-            n < std::num::wrapping_add_u64(before, w.calls),
-        );
+        count(t, tally::SHARED_ROWS, n < before.wrapping_add(w.calls));
     }
 }
 
@@ -309,7 +305,7 @@ fn turn(
 fn other_word(old: u64, x: u64) -> u64 {
     let kind = pick(x, 6);
     if kind == 0 {
-        return std::num::wrapping_add_u64(old, 1);
+        return old.wrapping_add(1);
     }
     if kind == 1 {
         return old ^ 1;

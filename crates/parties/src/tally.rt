@@ -1,4 +1,5 @@
 // What was seen, counted by kinds.
+use std::io;
 
 // The kinds.
 pub const ROWS: usize = 0;
@@ -66,74 +67,73 @@ pub const BAD_91: usize = 29;
 pub fn count(tally: &mut [u64; 30], kind: usize, so: bool) {
     if so {
         let i = kind % 30;
-        tally[i] = std::num::wrapping_add_u64(tally[i], 1);
+        tally[i] = tally[i].wrapping_add(1);
     }
 }
 
-fn line(tally: &[u64; 30], kind: usize, name: &[u8]) {
-    io::write_all(1, name);
-    io::write_all(1, b"\t");
-    io::print_decimal(1, tally[kind % 30]);
-    io::write_all(1, b"\n");
+fn line(rt: &impl Print, tally: &[u64; 30], kind: usize, name: &str) -> io::Result<()> {
+    let n = tally[kind % 30];
+    println!(rt; "{name}\t{n}")
 }
 
-fn print_runs(t: &[u64; 30]) {
-    line(t, ROWS, b"rows of runs");
-    line(t, OPENINGS_REFUSED, b"openings refused with 90");
-    line(t, RUNS, b"runs");
-    line(t, SECOND, b"of the second party");
-    line(t, DONE, b"not refused");
+fn print_runs(rt: &impl Print, t: &[u64; 30]) -> io::Result<()> {
+    line(rt, t, ROWS, "rows of runs")?;
+    line(rt, t, OPENINGS_REFUSED, "openings refused with 90")?;
+    line(rt, t, RUNS, "runs")?;
+    line(rt, t, SECOND, "of the second party")?;
+    line(rt, t, DONE, "not refused")
 }
 
-fn print_refusals(t: &[u64; 30]) {
-    line(t, REFUSED_20, b"refused with 20");
-    line(t, REFUSED_23, b"refused with 23");
-    line(t, REFUSED_24, b"refused with 24");
-    line(t, REFUSED_30, b"refused with 30");
-    line(t, REFUSED_31, b"refused with 31");
-    line(t, REFUSED_91, b"refused with 91");
+fn print_refusals(rt: &impl Print, t: &[u64; 30]) -> io::Result<()> {
+    line(rt, t, REFUSED_20, "refused with 20")?;
+    line(rt, t, REFUSED_23, "refused with 23")?;
+    line(rt, t, REFUSED_24, "refused with 24")?;
+    line(rt, t, REFUSED_30, "refused with 30")?;
+    line(rt, t, REFUSED_31, "refused with 31")?;
+    line(rt, t, REFUSED_91, "refused with 91")
 }
 
-fn print_rows(t: &[u64; 30]) {
-    line(t, BESIDE, b"while the other party holds rows");
-    line(t, BESIDE_30, b"of these refused with 30");
-    line(t, BESIDE_BAD, b"of these refused with 23 or 24");
-    line(t, SHARED_ROWS, b"that leave rows that both need");
-    line(t, GIVEN_UP, b"that give earlier rows up");
+fn print_rows(rt: &impl Print, t: &[u64; 30]) -> io::Result<()> {
+    line(rt, t, BESIDE, "while the other party holds rows")?;
+    line(rt, t, BESIDE_30, "of these refused with 30")?;
+    line(rt, t, BESIDE_BAD, "of these refused with 23 or 24")?;
+    line(rt, t, SHARED_ROWS, "that leave rows that both need")?;
+    line(rt, t, GIVEN_UP, "that give earlier rows up")
 }
 
-fn print_tampered(t: &[u64; 30]) {
-    line(t, TAMPERED, b"with a word changed before");
-    line(t, TAMPERED_KEPT, b"of the words kept");
-    line(t, TAMPERED_CALLS, b"of the calls");
-    line(t, TAMPERED_ANSWERS, b"of the answers");
-    line(t, HARMLESS, b"and yet as kept");
+fn print_tampered(rt: &impl Print, t: &[u64; 30]) -> io::Result<()> {
+    line(rt, t, TAMPERED, "with a word changed before")?;
+    line(rt, t, TAMPERED_KEPT, "of the words kept")?;
+    line(rt, t, TAMPERED_CALLS, "of the calls")?;
+    line(rt, t, TAMPERED_ANSWERS, "of the answers")?;
+    line(rt, t, HARMLESS, "and yet as kept")
 }
 
-fn print_differences(t: &[u64; 30]) {
-    line(t, BAD_OPENING, b"openings that differ");
-    line(t, BAD_REFUSAL, b"runs that differ in the refusal");
-    line(t, BAD_COUNTS, b"runs that differ in the counts");
-    line(t, BAD_LIST, b"runs that differ in the list of ends");
-    line(t, BAD_LONE, b"runs that differ from a run alone");
+fn print_differences(rt: &impl Print, t: &[u64; 30]) -> io::Result<()> {
+    line(rt, t, BAD_OPENING, "openings that differ")?;
+    line(rt, t, BAD_REFUSAL, "runs that differ in the refusal")?;
+    line(rt, t, BAD_COUNTS, "runs that differ in the counts")?;
+    line(rt, t, BAD_LIST, "runs that differ in the list of ends")?;
+    line(rt, t, BAD_LONE, "runs that differ from a run alone")
 }
 
-fn print_faults(t: &[u64; 30]) {
+fn print_faults(rt: &impl Print, t: &[u64; 30]) -> io::Result<()> {
     line(
+        rt,
         t,
         BAD_CHANGE,
-        b"runs refused with 20 or 91 that change a word",
-    );
-    line(t, BAD_KEPT, b"runs that differ in a word kept");
-    line(t, BAD_ROWS, b"runs that leave tables not as kept");
-    line(t, BAD_91, b"runs refused with 91 and no word changed");
+        "runs refused with 20 or 91 that change a word",
+    )?;
+    line(rt, t, BAD_KEPT, "runs that differ in a word kept")?;
+    line(rt, t, BAD_ROWS, "runs that leave tables not as kept")?;
+    line(rt, t, BAD_91, "runs refused with 91 and no word changed")
 }
 
-pub fn print_all(t: &[u64; 30]) {
-    print_runs(t);
-    print_refusals(t);
-    print_rows(t);
-    print_tampered(t);
-    print_differences(t);
-    print_faults(t);
+pub fn print_all(rt: &impl Print, t: &[u64; 30]) -> io::Result<()> {
+    print_runs(rt, t)?;
+    print_refusals(rt, t)?;
+    print_rows(rt, t)?;
+    print_tampered(rt, t)?;
+    print_differences(rt, t)?;
+    print_faults(rt, t)
 }

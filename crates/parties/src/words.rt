@@ -22,26 +22,22 @@ pub fn of_answer(answers: &[u64], x: u64, k: usize) -> u64 {
 
 // Whether every word from a place on is v.
 pub fn all_from(table: &[u64], from: usize, v: u64) -> bool {
-    let mut i: usize = 0;
-    while i < table.len() {
+    for i in 0..table.len() {
         if from <= i {
             if table[i] != v {
                 return false;
             }
         }
-        i += 1;
     }
     true
 }
 
 // Whether two tables hold the same words.
 pub fn same(a: &[u64], b: &[u64]) -> bool {
-    let mut i: usize = 0;
-    while i < a.len() {
+    for i in 0..a.len() {
         if a[i] != word(b, i) {
             return false;
         }
-        i += 1;
     }
     a.len() == b.len()
 }

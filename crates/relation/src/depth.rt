@@ -128,9 +128,10 @@ pub fn rounds(
     calls: &mut [u64; 32],
     answers: &mut [u64; 264],
 ) -> u64 {
-    let mut n: u64 = 0;
-    while n < 300 && round(words, rules, start, calls, answers, n + 1) {
-        n += 1;
+    for n in 0..300u64 {
+        if !round(words, rules, start, calls, answers, n + 1) {
+            return n;
+        }
     }
-    n
+    300
 }

@@ -106,8 +106,7 @@ fn walk(
     let count = word_at(words, rule, 1);
     let mut set = single(s);
     let mut grew = false;
-    let mut k: u16 = 0;
-    while k < count {
+    for k in 0..count {
         let word = word_at(words, rule, (k % 16) as usize + 2);
         if reached && word / 256 == 3 {
             if add_calls(called, word % 256, set) {
@@ -115,7 +114,6 @@ fn walk(
             }
         }
         set = step_set(word, set, rel);
-        k += 1;
     }
     Walked { set, grew }
 }
@@ -153,9 +151,10 @@ fn round(words: &[u16; 126], rules: usize, rel: &mut [u64; 32], called: &mut [u6
 
 // Rounds until nothing is added: the 32 sets of final states and the 4 of calls have at most 288 states to gain.
 fn solve(words: &[u16; 126], rules: usize, rel: &mut [u64; 32], called: &mut [u64; 4]) {
-    let mut rounds: u64 = 0;
-    while rounds < 300 && round(words, rules, rel, called) {
-        rounds += 1;
+    for _ in 0..300u64 {
+        if !round(words, rules, rel, called) {
+            return;
+        }
     }
 }
 

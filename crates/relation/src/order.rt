@@ -266,9 +266,8 @@ pub fn write_tables(
     put(calls, 1, start);
     let mut n: usize = 1;
     let mut m: u64 = 0;
-    let mut round: u64 = 0;
-    while round < rounds {
-        round += 1;
+    for before in 0..rounds {
+        let round = before + 1;
         n = write_calls(&call_rounds, round, &mut order, calls, n);
         m = write_round(
             words,

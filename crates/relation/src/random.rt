@@ -65,8 +65,7 @@ pub fn record(words: &mut [u16; 126], rule: usize, x: u64, base: bool) -> u64 {
     seed = next(seed);
     let count = length(seed);
     words[at + 1] = count as u16;
-    let mut k: u64 = 0;
-    while k < count {
+    for k in 0..count {
         seed = next(next(next(seed)));
         let i = at + 2 + (k % 16) as usize;
         words[i] = if base {
@@ -74,7 +73,6 @@ pub fn record(words: &mut [u16; 126], rule: usize, x: u64, base: bool) -> u64 {
         } else {
             step(seed, k == 0)
         };
-        k += 1;
     }
     seed
 }
