@@ -1,21 +1,20 @@
 -- What the parts of two accepted sheets tell of their merge. Assumes nothing.
-use Prim.Native.Nat.{ℕ, ◌-◌, ◌≤◌, ◌<◌}
+use Prim.Native.Nat.{ℕ, ◌-◌, ◌≤◌}
 use native.Mathlib.Omega.{arith}
 use mathlib.Core.Path.{◌≡◌, refl, ap, sym, ◌∙◌, subst}
 use mathlib.Core.Bool.{Bool, true, false, cond, ◌||◌}
 use mathlib.Core.List.{List, [], ◌∷◌, ◌++◌, map}
-use lib.ListN.{length, get_or, length-map}
+use lib.ListN.{length, length-map}
 use lib.Dec.{ltb}
-use borrow.Author.Tests.{lt-ltb, le-ltb, ltb-false}
+use borrow.Author.Tests.{le-ltb, ltb-false}
 use Rattle.refusals.specs.Sheet.{sheet_refusals, line_refusals}
 use Rattle.refusals.specs.Text.{text_refusals}
 use Rattle.steps.specs.State.{State}
 use Rattle.chars.specs.Bytes.{text}
 use Rattle.chars.specs.Pieces.{lines}
-use Rattle.chars.specs.Places.{place, among, meets}
+use Rattle.chars.specs.Places.{meets}
 use Rattle.fields.specs.Book.{Symbols, Book}
 use Rattle.lines.specs.Reader.{Outcome, read_sheet, refused, written}
-use Rattle.sheet.proofs.Valid.{Valid}
 use Rattle.sheet.proofs.ValidSheets.{sheet_valid}
 use Rattle.writer.specs.Text.{tabbed, step_text, holding, text_of}
 use Rattle.writer.proofs.Shorter.{sheet_whole, whole_told}
@@ -26,10 +25,10 @@ use Rattle.parts.proofs.PartLists.{parts_length}
 use Rattle.parts.proofs.Turns.{holding_few}
 use Rattle.parts.specs.declared.Layout.{Layout}
 use Rattle.parts.specs.Texts.{Ordered, text_parts, text_in}
-use Rattle.merge.specs.Joined.{together, both_names, crossed, start_in, book_over, both_books}
-use Rattle.merge.specs.Merge.{faulty, joins, oversized, judge, merge_of}
+use Rattle.merge.specs.Joined.{together, both_names, crossed, book_over, both_books}
+use Rattle.merge.specs.Merge.{faulty, joins, judge, merge_of}
 use Rattle.merge.specs.Inner.{fault_of, Few, Laid}
-use Rattle.merge.proofs.Together.{or_first, together_right}
+use Rattle.merge.proofs.Together.{together_right}
 use Rattle.merge.proofs.Joins.{NamesFit}
 use Rattle.merge.proofs.SheetParts.{tab, rule_tail, fluent_parts, action_parts, rule_parts, goal_parts}
 use Rattle.merge.proofs.MergedParts.{tabs_together, place_tab, held_tabs, start_tabs, rules_together, goal_first, text_of_parts}

@@ -1,6 +1,6 @@
 -- What a merge that is not refused has: two accepted sheets, no name of both kinds, counts and a text within the limits. Assumes nothing.
 use Prim.Native.Nat.{ℕ, ◌≤◌}
-use mathlib.Core.Path.{◌≡◌, refl, ap, sym, ◌∙◌, subst}
+use mathlib.Core.Path.{◌≡◌, refl, ap, ◌∙◌, subst}
 use mathlib.Core.Bool.{Bool, true, false, cond}
 use mathlib.Core.List.{List}
 use lib.ListN.{length}
@@ -14,7 +14,6 @@ use Rattle.fields.specs.Book.{Book}
 use Rattle.lines.specs.Reader.{Outcome, read_sheet, refused, written}
 use Rattle.writer.specs.Text.{text_of}
 use Rattle.merge.specs.Joined.{both_names, book_over, both_books, crossed}
-use Rattle.merge.specs.Merge as merge
 use Rattle.merge.specs.Merge.{faulty, joins, merge_of, judge, oversized}
 use Rattle.merge.proofs.Together.{or_first}
 

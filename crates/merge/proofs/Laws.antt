@@ -1,6 +1,6 @@
 -- The laws of the merge: its text reads to the two books together, ends of the first are kept, and a sheet with itself is itself. Assumes nothing.
 use Prim.Native.Nat.{ℕ}
-use mathlib.Core.Path.{◌≡◌, refl, ap, sym, ◌∙◌, subst⁻¹}
+use mathlib.Core.Path.{◌≡◌, subst⁻¹}
 use mathlib.Core.List.{List, map, Memᴰ}
 use lib.ListN.{length}
 use Rattle.steps.specs.State.{State}

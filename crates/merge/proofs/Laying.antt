@@ -1,5 +1,5 @@
 -- The parts of words in a list, one word after the other. Assumes nothing.
-use Prim.Native.Nat.{ℕ, ◌+◌, ◌-◌, ◌≤◌, ◌<◌}
+use Prim.Native.Nat.{ℕ, ◌-◌, ◌≤◌}
 use native.Mathlib.Omega.{arith}
 use mathlib.Core.Path.{◌≡◌, refl, ap, sym, ◌∙◌}
 use mathlib.Core.Bool.{Bool, true, false, cond}
@@ -9,10 +9,9 @@ use Rattle.chars.specs.Bytes.{text}
 use Rattle.chars.specs.Pieces.{lines}
 use Rattle.chars.specs.Places.{among}
 use Rattle.parts.specs.Parts.{Inside, Grows, parts_from, section, fresh, news}
-use Rattle.parts.proofs.PartLists.{grows_none, grows_as, grows_then, grows_range}
+use Rattle.parts.proofs.PartLists.{grows_as, grows_then, grows_range}
 use Rattle.parts.proofs.Turns.{fresh_size}
 use Rattle.parts.specs.declared.Word.{Word}
-use Rattle.parts.specs.declared.Layout.{Layout}
 use Rattle.merge.specs.Joined.{together}
 use Rattle.merge.specs.Inner.{Holds, Adds, Few, Laid}
 

@@ -1,12 +1,12 @@
 -- The parts of two sheets together are those of the two books together. Assumes nothing.
-use Prim.Native.Nat.{ℕ, zero, suc, ◌+◌, ◌*◌, ◌/◌, ◌%◌, ◌≤◌, ◌<◌}
+use Prim.Native.Nat.{ℕ, suc, ◌+◌, ◌*◌, ◌/◌, ◌%◌, ◌≤◌, ◌<◌}
 use native.Mathlib.Omega.{arith}
-use mathlib.Core.Path.{◌≡◌, refl, ap, sym, ◌∙◌, subst, subst⁻¹}
+use mathlib.Core.Path.{◌≡◌, refl, ap, sym, ◌∙◌, subst⁻¹}
 use mathlib.Core.Bool.{Bool, true, false, cond}
 use mathlib.Core.List.Memᴰ
 use mathlib.Core.List.{List, [], ◌∷◌, ◌++◌, map, Memᴰ, append-nil, append_assoc}
 use mathlib.Core.Logic.{◌⊎◌, inl, inr}
-use lib.ListN.{length, get_or, take, drop, get_or-append}
+use lib.ListN.{length, get_or, drop, get_or-append}
 use lib.Seq.{take-append_seam}
 use lib.Dec.{ltb, eqb}
 use borrow.Author.Tests.{ltb-true, lt-ltb}
@@ -14,7 +14,6 @@ use Rattle.steps.specs.State.{State, holds, added}
 use Rattle.steps.specs.Inner.{inserted}
 use Rattle.steps.specs.Acceptance.{good_step}
 use Rattle.steps.proofs.EachBelow.{both}
-use Rattle.steps.proofs.Lists.{at_member, member_at}
 use Rattle.chars.specs.Bytes.{text, LF}
 use Rattle.chars.specs.Places.{same, place, place_after, among}
 use Rattle.fields.specs.Book.{Symbols, Book, rule_words, joined}
@@ -22,10 +21,10 @@ use Rattle.fields.specs.Field.{marks, names_of}
 use Rattle.fields.specs.Verdict.{accept}
 use Rattle.fields.proofs.Verdicts.{same_value}
 use Rattle.lines.specs.Line.{Reading, line}
-use Rattle.sheet.proofs.Valid.{GoodSteps, GoodRule, rule_more}
+use Rattle.sheet.proofs.Valid.{GoodRule}
 use Rattle.writer.specs.Text.{tabbed, line_text, step_text, rule_fields, holding, text_of}
 use Rattle.writer.proofs.StepsBack.{Named, names_count}
-use Rattle.writer.proofs.NamesApart.{Adds, adds_named}
+use Rattle.writer.proofs.NamesApart.{adds_named}
 use Rattle.writer.proofs.Undoing.{place_is}
 use Rattle.writer.proofs.LinesBack.{rule_back}
 use Rattle.writer.proofs.TextLines.{rule_line}
@@ -33,7 +32,7 @@ use Rattle.writer.proofs.Proper.{Proper}
 use Rattle.parts.specs.Parts.{inserted_in, wrapped}
 use Rattle.parts.specs.Texts.{text_parts}
 use Rattle.merge.specs.Joined.{together, both_names, step_in, rule_in, start_in, book_over, both_books}
-use Rattle.merge.proofs.Together.{with_one, among_member, member_among, not_member, no_member, member_below, together_more, together_right}
+use Rattle.merge.proofs.Together.{with_one, among_member, member_among, not_member, no_member, member_below, together_more}
 use Rattle.merge.proofs.Joins.{NamesFit}
 use Rattle.merge.proofs.ProperBoth.{fluents_first, actions_alone, both_named, place_of, in_kind, low, rule_in_words, member_good}
 use Rattle.merge.proofs.SheetParts.{tab, rule_tail}

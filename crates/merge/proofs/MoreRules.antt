@@ -1,18 +1,18 @@
 -- More rules, more deductions; and the rules of the first book stand in the book of two. Assumes nothing.
-use Prim.Native.Nat.{ℕ, zero, suc, ◌+◌, ◌*◌, ◌/◌, ◌≤◌, ◌<◌}
+use Prim.Native.Nat.{ℕ, zero, suc, ◌+◌, ◌*◌, ◌/◌, ◌<◌}
 use native.Mathlib.Omega.{arith}
-use mathlib.Core.Path.{◌≡◌, refl, ap, sym, ◌∙◌, subst, subst⁻¹}
+use mathlib.Core.Path.{◌≡◌, refl, ap, sym, ◌∙◌, subst}
 use mathlib.Core.List.{List, [], ◌∷◌, ◌++◌, append_assoc, append-nil, Memᴰ}
 use lib.ListN.{length, get_or, drop, length-append}
-use lib.Seq.{drop-append-add, drop-append-le}
+use lib.Seq.{drop-append-add}
 use Rattle.steps.specs.Step.{Rule, Book}
-use Rattle.steps.specs.Words.{rules_from, book_of, body_of}
+use Rattle.steps.specs.Words.{book_of, body_of}
 use Rattle.steps.specs.Widths.{rule_width}
 use Rattle.steps.specs.Inner.{rule_of}
 use Rattle.steps.specs.Deduction.{Sequent, Move, queries, inserts, deletes, calls, denies, Deduction, done, move}
 use Rattle.steps.proofs.Lists.{at_member}
 use Rattle.steps.proofs.WordLaws.{book_length, book_at, book_member}
-use Rattle.fields.specs.Book.{joined, rule_words}
+use Rattle.fields.specs.Book.{joined}
 use Rattle.sheet.proofs.Valid.{GoodRule}
 use Rattle.sheet.proofs.Acceptance.{padded_length}
 use Rattle.sheet.proofs.Decoding.{rule_at}

@@ -3,8 +3,8 @@
 use Prim.Native.Nat.{ℕ, ◌≤◌, ◌<◌}
 use native.Mathlib.Omega.{arith}
 use native.Mathlib.Decide.{dec_lt}
-use mathlib.Core.Path.{◌≡◌, refl, ap, sym, ◌∙◌, subst⁻¹}
-use mathlib.Core.Bool.{Bool, true, false, cond, ◌||◌}
+use mathlib.Core.Path.{◌≡◌, refl, ap, sym, ◌∙◌}
+use mathlib.Core.Bool.{Bool, true, false, cond}
 use mathlib.Core.List.{List, [], ◌∷◌, Memᴰ}
 use lib.ListN.{length, take, drop}
 use lib.Seq.{take-append_seam}
@@ -12,26 +12,23 @@ use lib.Dec.{ltb}
 use borrow.Author.Tests.{le-ltb}
 use Rattle.refusals.specs.Text.{text_refusals}
 use Rattle.chars.specs.Places.{meets}
-use Rattle.fields.specs.Book.{Book, Symbols}
-use Rattle.lines.specs.Reader.{read_sheet, refused, written}
-use Rattle.sheet.proofs.RefusalNumbers.{refused_number}
+use Rattle.fields.specs.Book.{Book}
+use Rattle.lines.specs.Reader.{read_sheet, written}
 use Rattle.writer.specs.Text.{text_of}
 use Rattle.writer.specs.Writer as writer
 use Rattle.writer.specs.declared.Written.{Written}
 use Rattle.writer.proofs.Laws as laws
-use Rattle.writer.proofs.Outcomes as outcomes
 use Rattle.writer.proofs.Proper.{Proper}
 use Rattle.writer.proofs.ProperSheets.{sheet_proper}
 use Rattle.writer.proofs.Shorter.{sheet_whole, whole_told, text_shorter}
 use Rattle.merge.specs.declared.Merged.{Merged}
 use Rattle.merge.specs.Joined.{crossed, both_books}
-use Rattle.merge.specs.Merge.{Judgement, faulty, joins, said, oversized, judge, merge_of, merged_in, out_after}
-use Rattle.merge.proofs.Together.{not_member, no_member}
-use Rattle.merge.proofs.Joins.{Joins, joins_told}
+use Rattle.merge.specs.Merge.{joins, said, oversized, judge, merge_of, merged_in, out_after}
+use Rattle.merge.proofs.Together.{not_member}
 use Rattle.merge.proofs.ProperBoth.{not_both_kinds}
 use Rattle.merge.proofs.WithItself.{with_itself}
 use Rattle.merge.proofs.Joinings.{both_read}
-use Rattle.merge.proofs.Outcomes.{faulty_result, short_result, merged_result, merged_out}
+use Rattle.merge.proofs.Outcomes.{short_result, merged_result, merged_out}
 use Rattle.merge.proofs.Laws.{reads_back}
 
 -- What merging s and t to `out` says.

@@ -1,31 +1,29 @@
 -- The book of two books that fit is proper. Assumes nothing.
 use Prim.Native.Nat.{ℕ, zero, suc, ◌+◌, ◌*◌, ◌/◌, ◌%◌, ◌^◌, ◌≤◌, ◌<◌}
 use native.Mathlib.Omega.{arith}
-use mathlib.Core.Path.{◌≡◌, refl, ap, sym, ◌∙◌, subst, subst⁻¹}
+use mathlib.Core.Path.{◌≡◌, refl, ap, ◌∙◌, subst, subst⁻¹}
 use mathlib.Core.Bool.{Bool, true, false, cond}
 use mathlib.Core.List.Memᴰ
 use mathlib.Core.List.{List, [], ◌∷◌, ◌++◌, map, append-nil, Memᴰ}
 use mathlib.Core.Logic.{◌⊎◌, inl, inr}
-use lib.ListN.{length, get_or, take, drop, length-append, length-map, get_or-map, replicate}
+use lib.ListN.{length, get_or, length-map}
 use lib.Seq.{take-append_seam}
 use lib.Dec.{ltb, eqb}
 use lib.Pow.{pow_mono}
 use borrow.Author.Tests.{lt-ltb, ltb-true}
 use Rattle.steps.specs.State.{State, holds, added}
-use Rattle.steps.specs.Words.{kind_of, index_of}
 use Rattle.steps.specs.Acceptance.{good_step}
 use Rattle.steps.proofs.EachBelow.{both}
 use Rattle.steps.proofs.StateLaws.{room, not_held}
 use Rattle.steps.proofs.Lists.{at_member, member_at}
-use Rattle.chars.specs.Bytes.{is_name}
-use Rattle.chars.specs.Places.{place, among}
-use Rattle.fields.specs.Book.{Book, Symbols, padded, rule_words}
+use Rattle.chars.specs.Places.{place}
+use Rattle.fields.specs.Book.{Book, Symbols, rule_words}
 use Rattle.fields.specs.Field.{names_of}
 use Rattle.sheet.proofs.Valid.{Valid, GoodSteps, GoodRule, steps_more, rule_more}
 use Rattle.writer.proofs.NamesApart.{Adds, first_part, second_part, fewer}
 use Rattle.writer.proofs.Proper.{Proper}
 use Rattle.merge.specs.Joined.{together, both_names, step_in, rule_in, start_in, book_over, both_books}
-use Rattle.merge.proofs.Together.{member_below, no_member, together_left, together_right, together_out, together_longer, never_meets, adds_member, adds_behind, adds_join, together_adds}
+use Rattle.merge.proofs.Together.{member_below, no_member, together_right, together_out, together_longer, never_meets, adds_member, adds_behind, adds_join, together_adds}
 use Rattle.merge.proofs.Joins.{NamesFit, uncrossed}
 
 -- the words of a rule, its names' numbers taken from other names

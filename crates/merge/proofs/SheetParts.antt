@@ -17,7 +17,7 @@ use Rattle.writer.specs.Text.{tabbed, step_text, rule_fields, holding}
 use Rattle.writer.proofs.Solid.{line_bytes}
 use Rattle.writer.proofs.NamesApart.{same_self}
 use Rattle.writer.proofs.Undoing.{same_eq}
-use Rattle.writer.proofs.TextLines.{fluent_line, action_line, rule_line, start_line, goal_line, lines_of}
+use Rattle.writer.proofs.TextLines.{fluent_line, action_line, rule_line, start_line}
 use Rattle.writer.proofs.Backward.{rewritten, lines_are}
 use Rattle.parts.specs.Parts.{behind_word, section}
 

@@ -1,17 +1,17 @@
 -- Lists of names or of rules put together: what stands in them, and where. Assumes nothing.
-use Prim.Native.Nat.{ℕ, suc, ◌+◌, ◌≤◌, ◌<◌}
+use Prim.Native.Nat.{ℕ, suc, ◌≤◌, ◌<◌}
 use native.Mathlib.Omega.{arith}
 use mathlib.Core.Path.{◌≡◌, refl, ap, sym, ◌∙◌, subst, subst⁻¹}
 use mathlib.Core.Bool.{Bool, true, false, cond, ◌||◌}
 use mathlib.Core.List.Memᴰ
 use mathlib.Core.List.{List, [], ◌∷◌, ◌++◌, append_assoc, append-nil, Memᴰ}
 use mathlib.Core.Logic.{◌⊎◌, inl, inr}
-use lib.ListN.{length, get_or, length-append}
-use borrow.Author.Tests.{lt-ltb, le-ltb, ltb-true, ltb-false}
+use lib.ListN.{length, length-append}
+use borrow.Author.Tests.{lt-ltb, ltb-true}
 use Rattle.steps.proofs.Lists.{at_member}
 use Rattle.chars.specs.Bytes.{is_name}
 use Rattle.chars.specs.Places.{same, place, place_after, among, meets}
-use Rattle.writer.proofs.NamesApart.{Adds, none, more, same_self, place_behind, adds_snoc}
+use Rattle.writer.proofs.NamesApart.{Adds, none, more, same_self, adds_snoc}
 use Rattle.writer.proofs.Undoing.{place_is}
 use Rattle.merge.specs.Joined.{together}
 
@@ -30,6 +30,7 @@ member_below x (y ∷ ys) (Memᴰ.tail m) = by (same x y) (member_below x ys m)
     by : (t : Bool) → place x ys < length ys → place_after t (place x ys) < suc (length ys)
     by true l = omega arith
     by false l = omega arith
+member_below x [] x'' = elim x'' [ ]
 
 pub member_among : (x : List ℕ) (xs : List (List ℕ)) → Memᴰ x xs → among x xs ≡ true
 member_among x xs m = lt-ltb (place x xs) (length xs) (member_below x xs m)
@@ -52,6 +53,7 @@ pub place_before : (x : List ℕ) (xs ys : List (List ℕ)) → Memᴰ x xs → 
 unfolding place
 place_before x (y ∷ xs) ys (Memᴰ.head e) = let s = ap (λ (z : List ℕ). same x z) (sym e) ∙ same_self x in rw s refl
 place_before x (y ∷ xs) ys (Memᴰ.tail m) = ap (place_after (same x y)) (place_before x xs ys m)
+place_before x [] ys x'' = elim x'' [ ]
 
 -- ---- together
 
@@ -93,6 +95,7 @@ pub together_right : (y : List ℕ) (xs ys : List (List ℕ)) → Memᴰ y ys �
 unfolding together
 together_right y xs (x ∷ ys) (Memᴰ.head e) = subst⁻¹ (λ (z : List ℕ). Memᴰ z (together (with_one xs x) ys)) e (together_left x (with_one xs x) ys (one_there xs x))
 together_right y xs (x ∷ ys) (Memᴰ.tail m) = together_right y (with_one xs x) ys m
+together_right y xs [] x' = elim x' [ ]
 
 one_out : (x y : List ℕ) (xs : List (List ℕ)) → Memᴰ x (with_one xs y) → Memᴰ x xs ⊎ (x ≡ y)
 one_out x y xs = by (among y xs)
@@ -138,6 +141,7 @@ or_first false u e = (refl, e)
 pub never_meets : (x : List ℕ) (xs ys : List (List ℕ)) → meets xs ys ≡ false → Memᴰ x xs → Memᴰ x ys → ⊥
 never_meets x (y ∷ xs) ys h (Memᴰ.head e) m = no_member y ys (or_first (among y ys) (meets xs ys) h).0 (subst (λ (z : List ℕ). Memᴰ z ys) e m)
 never_meets x (y ∷ xs) ys h (Memᴰ.tail k) m = never_meets x xs ys (or_first (among y ys) (meets xs ys) h).1 k m
+never_meets x [] ys h x4 m = elim x4 [ ]
 
 -- ---- names one after the other, none twice
 
@@ -146,6 +150,7 @@ adds_member b (y ∷ ys) (more n a r) x (Memᴰ.head e) = rw e (n, a)
 adds_member b (y ∷ ys) (more n a r) x (Memᴰ.tail m) =
     let (i, f) = adds_member (b ++ (y ∷ [])) ys r x m in
     (i, not_member x b (λ k. no_member x (b ++ (y ∷ [])) f (Memᴰ.append_left (y ∷ []) k)))
+adds_member b [] _ x x5 = elim x5 [ ]
 
 -- behind names that none of them is
 pub adds_behind : (p b xs : List (List ℕ)) → Adds b xs → ((x : List ℕ) → Memᴰ x xs → Memᴰ x p → ⊥) → Adds (p ++ b) xs

@@ -1,9 +1,9 @@
 -- A proper book together with itself is itself. Assumes nothing.
-use Prim.Native.Nat.{ℕ, zero, suc, ◌+◌, ◌*◌, ◌/◌, ◌%◌, ◌<◌}
+use Prim.Native.Nat.{ℕ, suc, ◌/◌, ◌%◌, ◌<◌}
 use native.Mathlib.Omega.{arith}
-use mathlib.Core.Path.{◌≡◌, refl, ap, sym, ◌∙◌, subst, subst⁻¹}
+use mathlib.Core.Path.{◌≡◌, refl, ap, sym, ◌∙◌}
 use mathlib.Core.Bool.{Bool, true, false, cond}
-use mathlib.Core.List.{List, [], ◌∷◌, ◌++◌, map, Memᴰ}
+use mathlib.Core.List.{List, [], ◌∷◌, map}
 use lib.ListN.{length, get_or}
 use lib.Dec.{ltb, eqb}
 use borrow.Author.Tests.{ltb-true}
@@ -13,10 +13,10 @@ use Rattle.steps.proofs.EachBelow.{both}
 use Rattle.chars.specs.Places.{place}
 use Rattle.fields.specs.Book.{Book, Symbols, rule_words}
 use Rattle.fields.specs.Field.{names_of}
-use Rattle.sheet.proofs.Valid.{GoodSteps, GoodRule}
+use Rattle.sheet.proofs.Valid.{GoodRule}
 use Rattle.writer.proofs.StepsBack.{Named}
 use Rattle.writer.proofs.Proper.{Proper, fluents_named, actions_named}
-use Rattle.merge.specs.Joined.{together, both_names, step_in, rule_in, start_in, book_over, both_books}
+use Rattle.merge.specs.Joined.{together, both_names, step_in, rule_in, book_over, both_books}
 use Rattle.merge.proofs.Together.{together_same}
 use Rattle.merge.proofs.ProperBoth.{rule_in_words, fluents_first}
 use Rattle.merge.proofs.StartsTogether.{start_kept}

@@ -1,16 +1,14 @@
 -- The fluents' parts that a merge leaves: how many there are, and the second's number of each. Assumes nothing.
-use Prim.Native.Nat.{ℕ, zero, suc, ◌+◌, ◌-◌, ◌≤◌, ◌<◌}
+use Prim.Native.Nat.{ℕ, zero, suc, ◌+◌, ◌-◌, ◌<◌}
 use native.Mathlib.Omega.{arith}
 use mathlib.Core.Path.{◌≡◌, refl, ap, sym, ◌∙◌}
 use mathlib.Core.List.{List, [], ◌∷◌, ◌++◌, map}
 use lib.ListN.{length, get_or, length-map}
-use Rattle.chars.specs.Bytes.{text}
-use Rattle.chars.specs.Pieces.{lines}
 use Rattle.chars.specs.Places.{place}
-use Rattle.parts.specs.Parts.{part_at, parts_from, section}
+use Rattle.parts.specs.Parts.{part_at, parts_from}
 use Rattle.parts.proofs.PartLists.{parts_length, part_getD}
 use Rattle.merge.specs.declared.Joined.{Joined}
-use Rattle.merge.specs.Joined.{together, both_names, book_over, both_books}
+use Rattle.merge.specs.Joined.{book_over, both_books}
 use Rattle.merge.specs.Inner.{Joining}
 use Rattle.merge.proofs.Joins.{joins_told}
 use Rattle.merge.proofs.SheetParts.{tab, fluent_parts}

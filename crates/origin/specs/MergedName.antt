@@ -1,12 +1,12 @@
 -- Where a merged fluent's name stands: a part of whichever sheet brought it first. Assumes nothing.
-use Rattle.std.specs.Prelude.{ℕ, ◌+◌, cond, List, [], length, get_or, ltb, eqb}
+use Rattle.std.specs.Prelude.{ℕ, cond, List, [], length, get_or, ltb, eqb}
 use Rattle.chars.specs.Places.{place}
 use Rattle.fields.specs.Book.{Book}
 use Rattle.naming.specs.Spans.{part_of, address_of, nowhere}
 use Rattle.naming.specs.declared.Span.{Span}
 use Rattle.sheet.specs.FluentName.{name_span}
 use Rattle.merge.specs.Joined.{both_books}
-use Rattle.merge.specs.Merge.{Judgement, faulty, joins, merge_of}
+use Rattle.merge.specs.Merge.{faulty, joins, merge_of}
 use Rattle.origin.specs.declared.Part.{Part}
 
 -- A span of sheet `which`.

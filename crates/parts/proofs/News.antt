@@ -5,7 +5,7 @@ use mathlib.Core.Bool.{Bool, cond}
 use mathlib.Core.List.{List, [], ◌∷◌, ◌++◌}
 use lib.ListN.{length}
 use borrow.Author.Tests.{lt-ltb, le-ltb}
-use Rattle.chars.specs.Places.{place, among}
+use Rattle.chars.specs.Places.{place}
 use Rattle.parts.specs.Parts.{fresh, news}
 
 module _ (xs : List (List ℕ)) (y : List ℕ) where

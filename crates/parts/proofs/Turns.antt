@@ -11,7 +11,7 @@ use Rattle.steps.specs.Inner.{inserted}
 use Rattle.chars.specs.Bytes.{text, LF}
 use Rattle.chars.specs.Places.{place, among}
 use Rattle.writer.specs.Text.{holding}
-use Rattle.parts.specs.Parts.{Lies, At, Grows, part_at, parts_from, fresh, news, inserted_in, wrapped}
+use Rattle.parts.specs.Parts.{At, Grows, part_at, parts_from, fresh, news, inserted_in, wrapped}
 use Rattle.parts.specs.Texts.{start_parts, text_parts}
 use Rattle.parts.proofs.PartLists.{parts_first, grows_range}
 use Rattle.parts.proofs.News.{news_more}

@@ -1,0 +1,49 @@
+use borrow.Author.Tests.{lt-ltb, le-ltb}
+use mathlib.Core.Path.{◌≡◌, refl, sym, ap, ◌∙◌}
+use mathlib.Core.Bool.{Bool, true, false, ◌||◌}
+use mathlib.Core.List.{List, ◌++◌}
+use Prim.Native.Nat.{ℕ, ◌+◌, ◌-◌, ◌≤◌}
+use native.Mathlib.Omega.{arith}
+use lib.ListN.{length}
+use Rattle.chars.specs.Places.{place, among, meets}
+use Rattle.parts.specs.Parts.{part_at, parts_from}
+use Rattle.parts.proofs.PartLists.{parts_first, parts_none, parts_length}
+use Rattle.parts.proofs.meet.Goals as goal
+
+-- the first part and the rest
+turn : (u z : List ℕ) (T : List (List ℕ)) (i hi : ℕ) (v : Bool) → i + 1 ≤ hi → among (part_at u z i) T ≡ v → meets (parts_from u z i (hi - i)) T ≡ (v || meets (parts_from u z (i + 1) (hi - (i + 1))) T)
+turn u z T i hi v h e = ap (λ (x : List (List ℕ)). meets x T) (parts_first u z i hi (omega arith)) ∙ ap (λ (x : Bool). x || meets (parts_from u z (i + 1) (hi - (i + 1))) T) e
+
+pub loop-i-init : goal.loop-i-init
+loop-i-init c = (omega arith, omega arith, refl)
+
+pub find-requires : goal.find-requires
+find-requires c = let p = c.requires in record { at = p.inside c.loop-i.i c.loop-i-test.true; inside = p.inside_2; lo_le_hi = p.lo_le_hi.1 }
+
+pub returns-then-find-to : goal.returns-then-find-to
+returns-then-find-to c =
+    let a = c.args in
+    let u = a.first.now ++ a.second.now in
+    let z = a.list.now in
+    let T = parts_from u z a.from (a.to - a.from) in
+    let n = parts_length u z a.from (a.to - a.from) in
+    let f = c.find.ensures.value in
+    sym (c.loop-i.invariant.2 ∙ turn u z T c.loop-i.i a.hi true (omega (arith, c.loop-i-test.true)) (lt-ltb (place (part_at u z c.loop-i.i) T) (length T) (omega (arith, c.if-find-to.true))))
+
+pub loop-i-preserved : goal.loop-i-preserved
+loop-i-preserved c =
+    let a = c.args in
+    let u = a.first.now ++ a.second.now in
+    let z = a.list.now in
+    let T = parts_from u z a.from (a.to - a.from) in
+    let n = parts_length u z a.from (a.to - a.from) in
+    let f = c.find.ensures.value in
+    let p = c.requires.lo_le_hi.1 in
+    (omega arith, omega arith, c.loop-i.invariant.2 ∙ turn u z T c.loop-i.i a.hi false (omega (arith, c.loop-i-test.true)) (le-ltb (place (part_at u z c.loop-i.i) T) (length T) (omega (arith, c.if-find-to.false))))
+
+pub returns : goal.returns
+returns c =
+    let a = c.args in
+    let u = a.first.now ++ a.second.now in
+    let z = a.list.now in
+    sym (c.loop-i.invariant.2 ∙ ap (λ (x : List (List ℕ)). meets x (parts_from u z a.from (a.to - a.from))) (parts_none u z c.loop-i.i a.hi c.loop-i-test.false))
