@@ -170,14 +170,14 @@ module _ {fluents actions : ℕ} (rules : List ℕ) (l : Ledger) (acc : (p : Par
   rule_runs low (does h p) = does h (rule_runs (low_tail low) p)
   rule_runs low (uses {a = a} h i p) = let (r, below) = low_body (low a (Memᴰ.head refl)) h in uses r (rule_runs below i) (rule_runs (low_tail low) p)
 
-  rule_comes : {b : ℕ} {D E : State} {body : Body} → LowCalls body → Comes Does KeptBody b E D body → Comes Does (RuleOf book) b E D body
+  rule_comes : {b : ℕ} {E D : State} {body : Body} → LowCalls body → Comes Does KeptBody b E D body → Comes Does (RuleOf book) b E D body
   rule_comes low (here e f) = here e f
   rule_comes low (past h p) = past h (rule_comes (low_tail low) p)
   rule_comes low (inside {a = a} h p) = let (r, below) = low_body (low a (Memᴰ.head refl)) h in inside r (rule_comes below p)
   rule_comes low (after {a = a} h i p) = let (r, below) = low_body (low a (Memᴰ.head refl)) h in after r (rule_runs below i) (rule_comes (low_tail low) p)
 
   -- and come to calls below 64
-  comes_low : {b : ℕ} {D E : State} {body : Body} → LowCalls body → Comes Does (RuleOf book) b E D body → b < 64
+  comes_low : {b : ℕ} {E D : State} {body : Body} → LowCalls body → Comes Does (RuleOf book) b E D body → b < 64
   comes_low low (here {a = a} e f) = omega (arith, low a (Memᴰ.head refl), e)
   comes_low low (past h p) = comes_low (low_tail low) p
   comes_low low (inside (rule r m e) p) = comes_low (rule_low r m).1 p
@@ -220,6 +220,7 @@ module _ {fluents actions : ℕ} (rules : List ℕ) (l : Ledger) (acc : (p : Par
       where
         one : Runs Does (RuleOf book) D (call a ∷ []) D' → Ends Does KeptBody a D D'
         one (uses {body = body} b i ended) = (body, rule_body a body b, runs_map rule_body i)
+        one (does {D₁ = D₁} x12 _) = elim x12 [ ]
 
   -- ---- any roots that are the kept goals at their starts
   module _ (Root : ℕ → State → Type 0) (root_in : (a : ℕ) (D : State) → Root a D → KeptRoot a D) (in_root : (a : ℕ) (D : State) → KeptRoot a D → Root a D) where
