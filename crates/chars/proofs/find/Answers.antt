@@ -1,5 +1,5 @@
 -- `chars::find` meets its contract, one byte after the other. Assumes nothing.
-use Rattle.std.proofs.Common.{◌+◌, ◌≡◌, arith}
+use Rattle.std.proofs.Common.{◌≡◌, arith}
 use Rattle.std.proofs.Math.Seq.{slice}
 use Rattle.chars.specs.Inner.{index_of}
 use Rattle.chars.proofs.Pieces.{index_hit, index_miss, index_none}

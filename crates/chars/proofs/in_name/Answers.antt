@@ -1,6 +1,5 @@
 -- `in_name` meets its contract: it computes the definition. Assumes nothing.
 use mathlib.Core.Path.{refl}
-use borrow.Author.Rules.{rules}
 use Rattle.chars.specs.Bytes.{name_byte}
 use Rattle.chars.proofs.in_name.Goals as goal
 

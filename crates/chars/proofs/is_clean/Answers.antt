@@ -1,13 +1,14 @@
+-- `is_clean` meets its contract. Assumes nothing.
 use mathlib.Core.Path.{◌≡◌, refl, sym, ◌∙◌}
-use Prim.Native.Nat.{◌≤◌, ◌-◌, ◌+◌}
+use Prim.Native.Nat.{◌+◌}
 use native.Mathlib.Omega.{arith}
 use borrow.Author.Rules.{rules}
-use borrow.Author.Tests.{eq-eqb, ne_eqb, not-true, not-false}
+use borrow.Author.Tests.{eq-eqb, ne_eqb}
 use Rattle.chars.proofs.is_clean.Goals.{then-s-i-eq10, else-s-i-eq10}
 use mathlib.Core.Bool.{true, cond}
 use lib.Dec.{eqb}
-use lib.ListN.{length, get_or, drop}
-use Rattle.chars.specs.Bytes.{LF, HASH, begins, may_stand, clean, clean_in}
+use lib.ListN.{get_or, drop}
+use Rattle.chars.specs.Bytes.{LF, HASH, begins, may_stand, clean}
 use Rattle.chars.proofs.Clean.{clean_step, clean_past}
 use Rattle.chars.proofs.is_clean.Goals as goal
 
@@ -25,7 +26,7 @@ pub returns-then-not-may_stand : goal.returns-then-not-may_stand
 returns-then-not-may_stand c =
     let s = c.args.s.now in
     let f = clean_step s c.loop-i.i c.loop-i.comment (omega arith) in
-    sym (c.loop-i.invariant.1 ∙ f ∙ rw (sym c.may_stand.ensures ∙ not-true _ c.if-not-may_stand.true-raw) refl)
+    sym (c.loop-i.invariant.1 ∙ f ∙ rw (sym c.may_stand.ensures ∙ c.if-not-may_stand.true) refl)
 
 pub bounds-s-i : goal.bounds-s-i
 bounds-s-i c = search rules
@@ -47,7 +48,7 @@ loop-i-preserved c =
     let s = c.args.s.now in
     let x = get_or s c.loop-i.i 0 in
     let f = clean_step s c.loop-i.i c.loop-i.comment (omega arith) in
-    let e : may_stand c.loop-i.comment x (drop (c.loop-i.i + 1) s) ≡ true = sym c.may_stand.ensures ∙ not-false _ c.if-not-may_stand.false-raw in
+    let e : may_stand c.loop-i.comment x (drop (c.loop-i.i + 1) s) ≡ true = sym c.may_stand.ensures ∙ c.if-not-may_stand.false in
     let g : cond (eqb x LF) (begins HASH (drop (c.loop-i.i + 1) s)) c.loop-i.comment ≡ c.if-s-i-eq10.comment =
     elim c.if-s-i-eq10.branch [ then-s-i-eq10 w ↦ rw (eq-eqb x LF w.if-s-i-eq10.true) (sym w.begins-comment-then-s-i-eq10.ensures ∙ sym w.comment-is) | else-s-i-eq10 w ↦ rw (ne_eqb x LF w.if-s-i-eq10.false) (sym w.comment-is) ] in
     (omega arith, c.loop-i.invariant.1 ∙ f ∙ rw (e, g) refl)

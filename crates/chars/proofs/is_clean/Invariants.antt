@@ -1,16 +1,9 @@
 -- `is_clean` meets its contract. The invariant: the sheet is clean if the bytes from i on are, in a comment line or another.
 -- The measure is what is left of the bytes. Assumes nothing.
-use mathlib.Core.Path.{◌≡◌, refl, sym, ◌∙◌}
-use Prim.Native.Nat.{◌≤◌, ◌-◌, ◌+◌}
-use native.Mathlib.Omega.{arith}
-use borrow.Author.Rules.{rules}
-use borrow.Author.Tests.{eq-eqb, ne_eqb, not-true, not-false}
-use mathlib.Core.Logic.{⊎_elim}
-use mathlib.Core.Bool.{true, cond}
-use lib.Dec.{eqb}
-use lib.ListN.{length, get_or, drop}
-use Rattle.chars.specs.Bytes.{LF, HASH, begins, may_stand, clean, clean_in}
-use Rattle.chars.proofs.Clean.{clean_step, clean_past}
+use mathlib.Core.Path.{◌≡◌}
+use Prim.Native.Nat.{◌≤◌, ◌-◌}
+use lib.ListN.{length, drop}
+use Rattle.chars.specs.Bytes.{clean, clean_in}
 use Rattle.chars.proofs.is_clean.Given as goal
 
 abbrev pub invariant-loop-i : goal.invariant-loop-i

@@ -1,8 +1,7 @@
+-- `is_name` meets its contract. Assumes nothing.
 use mathlib.Core.Path.{◌≡◌, sym, ap, ◌∙◌}
-use Prim.Native.Nat.{ℕ, ◌≤◌, ◌<◌, ◌-◌}
+use Prim.Native.Nat.{ℕ}
 use native.Mathlib.Omega.{arith}
-use borrow.Author.Rules.{rules}
-use borrow.Author.Tests.{not-true, not-false}
 use lib.Seq.{slice}
 use Rattle.chars.specs.Bytes.{is_name, all, name_byte}
 use Rattle.chars.proofs.Names.{all_first, all_none, name_empty, name_long, name_start, name_rest}
@@ -21,24 +20,24 @@ returns-then-to-from-gt16 c =
 pub returns-then-not-is_lower : goal.returns-then-not-is_lower
 returns-then-not-is_lower c =
     let a = c.args in
-    sym (name_start a.s.now a.from a.to (omega arith) c.requires.1 (sym c.is_lower.ensures ∙ not-true _ c.if-not-is_lower.true-raw))
+    sym (name_start a.s.now a.from a.to (omega arith) c.requires.1 (sym c.is_lower.ensures ∙ c.if-not-is_lower.true))
 
 pub loop-i-init : goal.loop-i-init
 loop-i-init c =
     let a = c.args in
-    (omega arith, omega arith, name_rest a.s.now a.from a.to (omega arith) c.requires.1 (sym c.is_lower.ensures ∙ not-false _ c.if-not-is_lower.false-raw) (omega arith))
+    (omega arith, omega arith, name_rest a.s.now a.from a.to (omega arith) c.requires.1 (sym c.is_lower.ensures ∙ c.if-not-is_lower.false) (omega arith))
 
 pub returns-then-not-in_name : goal.returns-then-not-in_name
 returns-then-not-in_name c =
     let at = c.loop-i in
     let a = c.args in
-    sym (at.invariant.2 ∙ all_first name_byte a.s.now at.i a.to (omega arith) c.requires.1 ∙ rw (sym c.in_name.ensures ∙ not-true _ c.if-not-in_name.true-raw))
+    sym (at.invariant.2 ∙ all_first name_byte a.s.now at.i a.to (omega arith) c.requires.1 ∙ rw (sym c.in_name.ensures ∙ c.if-not-in_name.true))
 
 pub loop-i-preserved : goal.loop-i-preserved
 loop-i-preserved c =
     let at = c.loop-i in
     let a = c.args in
-    (omega arith, omega arith, at.invariant.2 ∙ all_first name_byte a.s.now at.i a.to (omega arith) c.requires.1 ∙ rw (sym c.in_name.ensures ∙ not-false _ c.if-not-in_name.false-raw))
+    (omega arith, omega arith, at.invariant.2 ∙ all_first name_byte a.s.now at.i a.to (omega arith) c.requires.1 ∙ rw (sym c.in_name.ensures ∙ c.if-not-in_name.false))
 
 pub returns : goal.returns
 returns c =

@@ -1,13 +1,9 @@
 -- `is_name` meets its contract. The invariant: the part is a name if the bytes from i on are those of a name.
 -- The measure is what is left of the part. Assumes nothing.
-use mathlib.Core.Path.{◌≡◌, sym, ap, ◌∙◌}
-use Prim.Native.Nat.{ℕ, ◌≤◌, ◌<◌, ◌-◌}
-use native.Mathlib.Omega.{arith}
-use borrow.Author.Rules.{rules}
-use borrow.Author.Tests.{not-true, not-false}
+use mathlib.Core.Path.{◌≡◌}
+use Prim.Native.Nat.{◌≤◌, ◌<◌, ◌-◌}
 use lib.Seq.{slice}
 use Rattle.chars.specs.Bytes.{is_name, all, name_byte}
-use Rattle.chars.proofs.Names.{all_first, all_none, name_empty, name_long, name_start, name_rest}
 use Rattle.chars.proofs.is_name.Given as goal
 
 abbrev pub invariant-loop-i : goal.invariant-loop-i

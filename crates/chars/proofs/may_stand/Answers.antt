@@ -4,7 +4,6 @@ use mathlib.Core.Path.{◌≡◌, ap, ◌∙◌}
 use mathlib.Core.Bool.{Bool, ◌&&◌, ◌||◌}
 use lib.Dec.{eqb}
 use lib.ListN.{get_or, drop}
-use borrow.Author.Rules.{rules}
 use Rattle.chars.specs.Bytes.{LF, CR, SPACE, sheet_byte, begins, may_stand}
 use Rattle.chars.proofs.may_stand.Goals as goal
 

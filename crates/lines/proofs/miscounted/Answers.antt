@@ -1,3 +1,4 @@
+-- `miscounted` meets its contract. Assumes nothing.
 use Rattle.lines.proofs.miscounted.Goals as goal
 
 pub returns-in-Fluent : goal.returns-in-Fluent

@@ -1,3 +1,4 @@
+-- `read_lines` meets its contract. Assumes nothing.
 use mathlib.Core.Path.{sym, ap, ◌∙◌, subst⁻¹}
 use Rattle.lines.specs.declared.Parse.{Parse}
 use Prim.Native.Nat.{◌+◌}

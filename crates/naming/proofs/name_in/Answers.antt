@@ -1,3 +1,4 @@
+-- `name_in` meets its contract. Assumes nothing.
 use mathlib.Core.Path.{refl, sym, ap, ◌∙◌}
 use Rattle.naming.proofs.name_in.Goals.{then-is_word+else-left-eq0, else-is_word}
 use Prim.Native.Nat.{ℕ, ◌+◌}

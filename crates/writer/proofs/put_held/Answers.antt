@@ -1,5 +1,4 @@
 -- `put_held` meets its contract: another line, a fluent that does not hold, a fluent that holds. Assumes nothing.
-use borrow.Author.Tests.{not-true, not-false}
 use mathlib.Core.Path.{◌≡◌, ap, sym, ◌∙◌}
 use mathlib.Core.Bool.{Bool, true, false}
 use mathlib.Core.List.{List, []}
@@ -34,7 +33,7 @@ returns-then-not-is_word c =
     let this = slice a.a a.e s in
     let end = c.bare_end-end.result in
     let q = c.field_end-q.result in
-    let w = word s a.a a.e end q c.is_word.result c.bare_end-end.ensures c.field_end-q.ensures c.is_word.ensures false (not-true _ c.if-not-is_word.true-raw) in
+    let w = word s a.a a.e end q c.is_word.result c.bare_end-end.ensures c.field_end-q.ensures c.is_word.ensures false (c.if-not-is_word.true) in
     let p = held_other a.k st this w in
     let n = ap length p in
     record { puts = (omega arith, gives_as o o [] (held_piece a.k st this) a.at a.at (sym p) (gives_none o a.at)); fluent_value = (sym (next_other a.k st this w), omega arith) }
@@ -48,8 +47,8 @@ returns-then-not-holds c =
     let this = slice a.a a.e s in
     let end = c.bare_end-end.result in
     let q = c.field_end-q.result in
-    let w = word s a.a a.e end q c.is_word.result c.bare_end-end.ensures c.field_end-q.ensures c.is_word.ensures true (not-false _ c.if-not-is_word.false-raw) in
-    let p = held_not a.k st this (sym c.holds.ensures ∙ not-true _ c.if-not-holds.true-raw) in
+    let w = word s a.a a.e end q c.is_word.result c.bare_end-end.ensures c.field_end-q.ensures c.is_word.ensures true (c.if-not-is_word.false) in
+    let p = held_not a.k st this (sym c.holds.ensures ∙ c.if-not-holds.true) in
     let n = ap length p in
     let x = next_fluent a.k st this w in
     record { puts = (omega arith, gives_as o o [] (held_piece a.k st this) a.at a.at (sym p) (gives_none o a.at)); fluent_value = (omega arith, omega arith) }
@@ -63,9 +62,9 @@ put_part-r-requires c =
     let this = slice a.a a.e s in
     let end = c.bare_end-end.result in
     let q = c.field_end-q.result in
-    let v = not-false _ c.if-not-is_word.false-raw in
+    let v = c.if-not-is_word.false in
     let w = word s a.a a.e end q c.is_word.result c.bare_end-end.ensures c.field_end-q.ensures c.is_word.ensures true v in
-    let p = held_here a.k st this w (sym c.holds.ensures ∙ not-false _ c.if-not-holds.false-raw) ∙ piece s a.a a.e end q c.is_word.result c.bare_end-end.ensures c.field_end-q.ensures c.is_word.ensures c.requires.a_le_e.1 v in
+    let p = held_here a.k st this w (sym c.holds.ensures ∙ c.if-not-holds.false) ∙ piece s a.a a.e end q c.is_word.result c.bare_end-end.ensures c.field_end-q.ensures c.is_word.ensures c.requires.a_le_e.1 v in
     let n = ap length p in
     let i = c.field_end-q.ensures.within in
     let j = c.bare_end-end.ensures.within in
@@ -83,9 +82,9 @@ returns c =
     let this = slice a.a a.e s in
     let end = c.bare_end-end.result in
     let q = c.field_end-q.result in
-    let v = not-false _ c.if-not-is_word.false-raw in
+    let v = c.if-not-is_word.false in
     let w = word s a.a a.e end q c.is_word.result c.bare_end-end.ensures c.field_end-q.ensures c.is_word.ensures true v in
-    let p = held_here a.k st this w (sym c.holds.ensures ∙ not-false _ c.if-not-holds.false-raw) ∙ piece s a.a a.e end q c.is_word.result c.bare_end-end.ensures c.field_end-q.ensures c.is_word.ensures c.requires.a_le_e.1 v in
+    let p = held_here a.k st this w (sym c.holds.ensures ∙ c.if-not-holds.false) ∙ piece s a.a a.e end q c.is_word.result c.bare_end-end.ensures c.field_end-q.ensures c.is_word.ensures c.requires.a_le_e.1 v in
     let n = ap length p in
     let i = c.field_end-q.ensures.within in
     let j = c.bare_end-end.ensures.within in

@@ -2,7 +2,6 @@
 use mathlib.Core.Path.{◌≡◌, sym, ◌∙◌}
 use Prim.Native.Nat.{◌+◌, ◌-◌}
 use native.Mathlib.Omega.{arith}
-use borrow.Author.Tests.{not-true, not-false}
 use lib.Seq.{slice}
 use Rattle.fields.specs.Held.{symbols_of}
 use Rattle.fields.proofs.FieldVerdicts.{new_no_name}
@@ -17,7 +16,7 @@ pub returns-then-not-is_name : goal.returns-then-not-is_name
 returns-then-not-is_name c =
     let a = c.args in
     let s = a.s.now in
-    let e = not-true c.is_name.result c.if-not-is_name.true-raw in
+    let e = c.if-not-is_name.true in
     sym (new_no_name (symbols_of s a.n) (slice a.a a.e s) (sym c.is_name.ensures ∙ e))
 
 pub overflow_add-all : goal.overflow_add-all
@@ -32,7 +31,7 @@ returns-then-find_name-all c =
     let s = a.s.now in
     let f = slice a.a a.e s in
     let i = c.is_name in
-    let t = sym i.ensures ∙ not-false i.result c.if-not-is_name.false-raw in
+    let t = sym i.ensures ∙ c.if-not-is_name.false in
     let g : a.n.fluents + a.n.actions - 0 ≡ a.n.fluents + a.n.actions = omega arith in
     let q = c.find_name.ensures.value in
     let r = rw g at q in
@@ -44,7 +43,7 @@ returns c =
     let s = a.s.now in
     let f = slice a.a a.e s in
     let i = c.is_name in
-    let t = sym i.ensures ∙ not-false i.result c.if-not-is_name.false-raw in
+    let t = sym i.ensures ∙ c.if-not-is_name.false in
     let g : a.n.fluents + a.n.actions - 0 ≡ a.n.fluents + a.n.actions = omega arith in
     let q = c.find_name.ensures.value in
     let r = rw g at q in

@@ -2,7 +2,6 @@
 use mathlib.Core.Path.{◌≡◌, sym, ap, ◌∙◌}
 use Prim.Native.Nat.{ℕ, ◌-◌}
 use native.Mathlib.Omega.{arith}
-use borrow.Author.Tests.{not-true, not-false}
 use lib.Seq.{slice}
 use Rattle.chars.specs.Places.{place}
 use Rattle.fields.specs.Verdict.{accept}
@@ -19,7 +18,7 @@ pub returns-then-not-is_name : goal.returns-then-not-is_name
 returns-then-not-is_name c =
     let a = c.args in
     let s = a.s.now in
-    let e = not-true c.is_name.result c.if-not-is_name.true-raw in
+    let e = c.if-not-is_name.true in
     record { value_value = sym (used_no_name (names_in s a.n.from a.n.to a.lo (a.hi - a.lo)) (slice a.a a.e s) (sym c.is_name.ensures ∙ e)); value_bound = omega arith }
 
 pub find_name-k-requires : goal.find_name-k-requires
@@ -29,7 +28,7 @@ pub returns-then-k-hi : goal.returns-then-k-hi
 returns-then-k-hi c =
     let a = c.args in
     let s = a.s.now in
-    let e = not-false c.is_name.result c.if-not-is_name.false-raw in
+    let e = c.if-not-is_name.false in
     let l = names_length s a.n.from a.n.to a.lo (a.hi - a.lo) in
     record { value_value = sym (used_unknown (names_in s a.n.from a.n.to a.lo (a.hi - a.lo)) (slice a.a a.e s) (sym c.is_name.ensures ∙ e) (omega arith)); value_bound = omega arith }
 
@@ -40,7 +39,7 @@ pub returns : goal.returns
 returns c =
     let a = c.args in
     let s = a.s.now in
-    let e = not-false c.is_name.result c.if-not-is_name.false-raw in
+    let e = c.if-not-is_name.false in
     let l = names_length s a.n.from a.n.to a.lo (a.hi - a.lo) in
     let f = c.find_name-k.ensures.value in
     let p = place (slice a.a a.e s) (names_in s a.n.from a.n.to a.lo (a.hi - a.lo)) in
