@@ -150,7 +150,7 @@ module _ {fluents actions : ℕ} (rules : List ℕ) (l : Ledger) (acc : (p : Par
   kept_short (of_goal p h e) = omega (arith, length-map (account_of l p).goal step_of, (acc p).short)
   kept_short (of_rule r m h) =
       let (i, k, e) = book_member rules 0 (length rules / rule_width) r m in
-      rw e (omega (arith, length-map (words_of rules i) step_of, words_short rules i, (acc first).counts i (omega arith)))
+      subst (λ (z : Rule). length z.body ≤ 16) (sym e) (omega (arith, length-map (words_of rules i) step_of, words_short rules i, (acc first).counts i (omega arith)))
 
   kept_indexed : {a : ℕ} {body : Body} → KeptBody a body → IndexedBody fluents actions body
   kept_indexed (of_goal p h e) = goal_indexed (acc p)
