@@ -28,7 +28,8 @@ pub fn store(fluents: u64, states: &[u64], words: &mut [u64]) -> Archived
             count: 0,
         };
     }
-    let count = blocks(states.len() as u64) * fluents;
+    let parts = blocks(states.len() as u64);
+    let count = parts * fluents;
     columns(states, 64, fluents as usize, count as usize, words);
     Archived {
         refusal: 0,

@@ -57,6 +57,9 @@ pub fn report(fluents: u64, results: &[u64], ends: &[u64], out: &mut [u64]) -> u
     0
 }
 
+// The most ends of a start.
+const MOST_ENDS: u64 = 65536;
+
 // Checks the results against the number of ends lent and counts the unrefused starts. A start's ends are tested before they are added,
 // so that no sum is over 2^26.
 fn check_starts(results: &[u64], lent: usize) -> Starts
@@ -76,7 +79,7 @@ fn check_starts(results: &[u64], lent: usize) -> Starts
     while i < starts {
         if results[4 * i] == 0 {
             let ends = results[4 * i + 1];
-            if 65536 < ends {
+            if MOST_ENDS < ends {
                 return refused;
             }
             runs += 1;

@@ -6,7 +6,7 @@ use Rattle.steps.proofs.EachBelow.{true_not_false}
 use Rattle.report.specs.Figures.{starts}
 use Rattle.report.proofs.Results.{Passed, passed_none, passed_run, passed_refused, not_fours, over_1024, over_65536, all_passed}
 use Rattle.report.proofs.check_starts.Goals as goal
-use Rattle.report.proofs.check_starts.Goals.{then-results-i-eq0+else-ends-gt65536, else-results-i-eq0}
+use Rattle.report.proofs.check_starts.Goals.{then-results-i-eq0+else-ends-gt-MOST_ENDS, else-results-i-eq0}
 
 pub returns-then-results-ne0 : goal.returns-then-results-ne0
 returns-then-results-ne0 c = record { refused = sym (not_fours _ _ c.if-results-ne0.true); counted = λ z. absurd (true_not_false z) }
@@ -17,11 +17,11 @@ returns-then-starts-gt1024 c = record { refused = sym (over_1024 _ _ c.if-starts
 pub loop-i-init : goal.loop-i-init
 loop-i-init c = passed_none _
 
-pub returns-then-ends-gt65536 : goal.returns-then-ends-gt65536
-returns-then-ends-gt65536 c =
+pub returns-then-ends-gt-MOST_ENDS : goal.returns-then-ends-gt-MOST_ENDS
+returns-then-ends-gt-MOST_ENDS c =
     let a = c.args in
     record {
-      refused = sym (over_65536 a.results.now a.lent c.loop-i.i (omega arith) c.if-results-i-eq0.true c.if-ends-gt65536.true);
+      refused = sym (over_65536 a.results.now a.lent c.loop-i.i (omega arith) c.if-results-i-eq0.true c.if-ends-gt-MOST_ENDS.true);
       counted = λ z. absurd (true_not_false z);
     }
 
@@ -36,7 +36,7 @@ loop-i-preserved c =
     let results = c.args.results.now in
     let within : c.loop-i.i < starts results = omega arith in
     elim c.if-results-i-eq0.branch [
-      | then-results-i-eq0+else-ends-gt65536 w ↦ rw (w.runs-is, w.sum-is) (passed_run results c.loop-i.invariant within w.if-results-i-eq0.true w.if-ends-gt65536.false)
+      | then-results-i-eq0+else-ends-gt-MOST_ENDS w ↦ rw (w.runs-is, w.sum-is) (passed_run results c.loop-i.invariant within w.if-results-i-eq0.true w.if-ends-gt-MOST_ENDS.false)
       | else-results-i-eq0 w ↦ rw (w.runs-is, w.sum-is) (passed_refused results c.loop-i.invariant within w.if-results-i-eq0.false)
     ]
 
