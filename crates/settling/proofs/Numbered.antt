@@ -45,7 +45,7 @@ module _ (t : Tables) where
         (λ q s w. record { ends = λ e. held_now row s (w.ends e); called = λ h. known_now (move (get_or body q 0) s) (w.called h) }) k
 
   module _ (n : ℕ) where
-    follow_now : {x : Step} {s s' : State} {e : ℕ} → Follow t n x s e s' → Follow numbered n x s e s'
+    follow_now : {x : Step} {s : State} {e : ℕ} {s' : State} → Follow t n x s e s' → Follow numbered n x s e s'
     follow_now (names l r a b) = names l l a b
     follow_now (steps d) = steps d
 

@@ -3,7 +3,6 @@ use Prim.Native.Nat.{ℕ, ◌*◌}
 use mathlib.Core.Path.{◌≡◌, sym, ◌∙◌}
 use mathlib.Core.Bool.{Bool, true, false}
 use mathlib.Core.List.{List}
-use borrow.Author.Rules.{rules}
 use borrow.Author.Tests.{not-true, not-false}
 use Rattle.steps.proofs.EachBelow.{true_not_false}
 use Rattle.records.specs.Records.{Bodies}
@@ -12,16 +11,7 @@ use Rattle.checks.proofs.ClearLaws.{clear_out, clear_in}
 use Rattle.stowing.specs.Stowing.{call_words, answer_words, plain_calls, plain_answers}
 use Rattle.matching.specs.Flags.{Whether}
 use Rattle.balancing.specs.Balancing.{GoodTables}
-use Rattle.balancing.proofs.rows.good_tables.Statement.{statement}
-use Rattle.balancing.proofs.rows.good_tables.Tie as tie
-
-returns : tie.Need-returns
-returns c g = let b = c.before.bad_rows in true_not_false (sym c.if1.true ∙ b.ensures ∙ g.right)
-
-returns-2 : tie.Need-returns-2
-returns-2 c g =
-    let p = c.before.clear_past in
-    true_not_false (sym (clear_in _ _ g.calls_past) ∙ sym p.ensures ∙ not-true p.result c.if2.true)
+use Rattle.balancing.proofs.rows.good_tables.Goals as goal
 
 -- The last test tells.
 last : (first second : Bool) (fluents actions : ℕ) (bodies : Bodies) (calls : List ℕ) (n : ℕ) (answers : List ℕ) (m : ℕ)
@@ -33,23 +23,17 @@ last first second fluents actions bodies calls n answers m r c true e =
 last first second fluents actions bodies calls n answers m r c false e =
     λ g. true_not_false (sym (clear_in answers (answer_words * m) g.answers_past) ∙ sym e)
 
-returns-3 : tie.Need-returns-3
-returns-3 c =
-    let passed = c.before in
-    let p = c.before.before.clear_past in
-    let left = c.before.before.before.if1.false in
-    let b = c.before.before.before.before.bad_rows in
-    last _ _ _ _ _ _ _ _ _ (sym b.ensures ∙ left) (sym p.ensures ∙ not-false p.result passed.if2.false) c.clear-past2.result c.clear-past2.ensures
+pub returns-then-bad_rows : goal.returns-then-bad_rows
+returns-then-bad_rows c = λ g. (let b = c.bad_rows in true_not_false (sym c.if-bad_rows.true ∙ b.ensures ∙ g.right))
 
-pub good-tables-spec : {M : Type 1} → statement M
-good-tables-spec =
-    tie.close
-    (tie.spec
-    (λ c κs. search rules)
-    returns
-    (λ c. search rules)
-    (λ c κs. search rules)
-    returns-2
-    (λ c. search rules)
-    (λ c κs. search rules)
-    returns-3)
+pub returns-then-not-clear_past : goal.returns-then-not-clear_past
+returns-then-not-clear_past c =
+    λ g. (let p = c.clear_past in
+    true_not_false (sym (clear_in _ _ g.calls_past) ∙ sym p.ensures ∙ not-true p.result c.if-not-clear_past.true-raw))
+
+pub returns : goal.returns
+returns c =
+    let p = c.clear_past in
+    let left = c.if-bad_rows.false in
+    let b = c.bad_rows in
+    last _ _ _ _ _ _ _ _ _ (sym b.ensures ∙ left) (sym p.ensures ∙ not-false p.result c.if-not-clear_past.false-raw) c.clear_past-2.result c.clear_past-2.ensures

@@ -1,0 +1,33 @@
+-- `compare_aside` meets its contract: the free words are filled, and the rows of the run are told off against those put aside. Assumes nothing.
+use mathlib.Core.Path.{refl, ap, ◌∙◌}
+use Rattle.steps.proofs.EachBelow.{true_not_false}
+use Rattle.records.specs.Records.{room}
+use Rattle.stowing.specs.Stowing.{call_words, answer_words}
+use Rattle.balancing.proofs.PutAside.{ready_at, compared_at, compared_spared}
+use Rattle.balancing.proofs.aside.compare_aside.Goals as goal
+
+pub returns-then-filled : goal.returns-then-filled
+returns-then-filled c =
+    let F = c.fill_aside-filled.ensures in
+    record { spared = F.spared; compared = record { outgrown = λ e. (F.outgrown c.if-filled.true, refl); found = λ e. absurd (true_not_false e) } }
+
+pub same_rows-same-requires : goal.same_rows-same-requires
+same_rows-same-requires c =
+    let F = c.fill_aside-filled.ensures in
+    let r = c.room_of-places in
+    let s = c.room_of-most in
+    ready_at F c.if-filled.false c.requires.rows_len.1 r.result s.result
+    (r.ensures ∙ ap (room call_words) F.spared.calls_long) (s.ensures ∙ ap (room answer_words) F.spared.answers_long)
+
+pub returns : goal.returns
+returns c =
+    let F = c.fill_aside-filled.ensures in
+    let left = c.if-filled.false in
+    let a = c.requires.rows_len.1 in
+    let r = c.room_of-places in
+    let s = c.room_of-most in
+    let m = c.same_rows-same in record {
+      spared = compared_spared F left a m.ensures.kept.0 m.ensures.kept.1;
+      compared = compared_at F left a r.result s.result m.result (r.ensures ∙ ap (room call_words) F.spared.calls_long)
+          (s.ensures ∙ ap (room answer_words) F.spared.answers_long) m.ensures.whether;
+    }
