@@ -4,7 +4,7 @@
 #![tactic(auto)]
 
 mod evidence;
-mod marks;
+mod markings;
 mod order;
 mod rooms;
 mod sheets;
@@ -232,10 +232,16 @@ fn checked(
 }
 
 // Compares the marks of a record over what is read from the sheet.
-fn marked(book: &[u16; 126], wide: &[u16; 126], start: u64, base: u64, dress: u64) -> marks::Seen {
+fn marked(
+    book: &[u16; 126],
+    wide: &[u16; 126],
+    start: u64,
+    base: u64,
+    dress: u64,
+) -> markings::Seen {
     let mut rules = [0u16; 108];
     let read = sheets::read(wide, spread::state(start, base), dress, &mut rules);
-    marks::compare(book, start, base, read, &rules, dress)
+    markings::compare(book, start, base, read, &rules, dress)
 }
 
 // Evaluates what was read; the states then stand in the buffers as the book's own.
