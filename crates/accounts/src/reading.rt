@@ -75,6 +75,9 @@ pub fn step(kept: &[u64], at: usize, i: usize) -> u64
     kept[at + GOAL + i]
 }
 
+// The highest word of 16 bits.
+const MOST_WORD: u64 = 65535;
+
 // Reads its goal into 16 places and gives the count of steps; 17 where there are more than 16 or one is no word of 16 bits.
 pub fn goal_into(kept: &[u64], at: usize, goal: &mut [u16]) -> usize
     requires { (at + 22 ≤ length kept.now) × (16 ≤ length goal.old) }
@@ -87,7 +90,7 @@ pub fn goal_into(kept: &[u64], at: usize, goal: &mut [u16]) -> usize
     let mut i = 0;
     while i < count {
         let word = step(kept, at, i);
-        if 65535 < word {
+        if MOST_WORD < word {
             return NO_GOAL;
         }
         goal[i] = word as u16;

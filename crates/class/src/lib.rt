@@ -7,6 +7,9 @@ ghost use Rattle.class.specs.Class.{four, places, Ran};
 
 use evaluator::Run;
 
+// The most starts of a class.
+const MOST_STARTS: usize = 1024;
+
 // Runs the goal from each start in turn. The four words of a start stand in `results` in the starts' order; the ends of unrefused starts follow
 // one another in `ends`; the tables and the list of calls are those of the last start that was refused with none of 20 to 24 and 34. The result is
 // 0, or 25 and nothing done.
@@ -26,7 +29,7 @@ pub fn class<'a>(
         results.old (lent calls.old answers.old ends.old list.old)
         results.new (lent calls.new answers.new ends.new list.new) result }
 {
-    if 1024 < starts.len() {
+    if MOST_STARTS < starts.len() {
         return refusals::BAD_CLASS;
     }
     if results.len() < 4 * starts.len() {

@@ -56,6 +56,9 @@ pub fn merged_span<'a>(first: &'a [u8], second: &'a [u8], number: u64) -> Part
     part_in(2, sheet::fluent_span(second, (k - f.lo) as u64))
 }
 
+// The second of two sheets, by its number.
+const SECOND: u64 = 2;
+
 // The very part of the sheet that brought the merged fluent's name first; else the empty part at the first sheet's first byte.
 pub fn merged_fluent<'a>(first: &'a [u8], second: &'a [u8], number: u64) -> &'a [u8]
     ensures result_value { result.now ≡ part_of_two first.now second.now
@@ -66,7 +69,7 @@ pub fn merged_fluent<'a>(first: &'a [u8], second: &'a [u8], number: u64) -> &'a 
     let name = merged_span(first, second, number);
     let at = name.at;
     let end = at + name.len;
-    if name.sheet == 2 {
+    if name.sheet == SECOND {
         return &second[at..end];
     }
     &first[at..end]

@@ -6,6 +6,9 @@ ghost use Rattle.steps.specs.Widths.{rule_width};
 
 use crate::word;
 
+// The kinds of steps.
+const KINDS: u64 = 5;
+
 // Whether a step word is a step of these fluents and actions.
 pub fn good_step(fluents: u64, actions: u64, step: u16) -> bool
     ensures { result ≡ good_step fluents actions step }
@@ -15,7 +18,7 @@ pub fn good_step(fluents: u64, actions: u64, step: u16) -> bool
     if kind == 3 {
         return index < actions;
     }
-    if kind < 5 {
+    if kind < KINDS {
         return index < fluents;
     }
     false

@@ -38,6 +38,13 @@ pub enum Next {
     Stuck,
 }
 
+// The most fluents of a state, and the kinds of a delete and a call, as `elementary` asks for them.
+const FLUENTS: u64 = 64;
+
+const DELETE: u64 = 2;
+
+const CALL: u64 = 3;
+
 // One elementary step on a state: what a query, an insert, a delete and a denial do is said here alone.
 pub fn elementary(word: u16, state: State) -> Next
     ensures { onward result ≡ elementary (step_of word) state.0 }
@@ -51,15 +58,15 @@ pub fn elementary(word: u16, state: State) -> Next
         return Next::Stuck;
     }
     if which == 1 {
-        if k < 64 {
+        if k < FLUENTS {
             return Next::On(state.insert(k));
         }
         return Next::Stuck;
     }
-    if which == 2 {
+    if which == DELETE {
         return Next::On(state.delete(k));
     }
-    if which == 3 {
+    if which == CALL {
         return Next::Stuck;
     }
     if state.holds(k) {

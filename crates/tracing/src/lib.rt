@@ -83,7 +83,8 @@ fn fault<'a>(
     }
     let n = kept[CALLS];
     let m = kept[ANSWERS];
-    if m <= record {
+    let among = m;
+    if among <= record {
         return refusals::NO_RECORD;
     }
     let goals = Goals {

@@ -12,11 +12,11 @@ use Rattle.class.proofs.Turns.{places_fit}
 use Rattle.class.proofs.Running.{done_none, done_fits, done_room, done_long, done_more, done_as, done_all, too_many, too_short, part_left, part_back}
 use Rattle.class.proofs.class.Goals as goal
 
-pub returns-then-starts-gt1024 : goal.returns-then-starts-gt1024
-returns-then-starts-gt1024 c = too_many _ _ _ _ c.if-starts-gt1024.true
+pub returns-then-starts-gt-MOST_STARTS : goal.returns-then-starts-gt-MOST_STARTS
+returns-then-starts-gt-MOST_STARTS c = too_many _ _ _ _ c.if-starts-gt-MOST_STARTS.true
 
 pub returns-then-results-starts : goal.returns-then-results-starts
-returns-then-results-starts c = too_short _ _ _ _ c.if-starts-gt1024.false c.if-results-starts.true
+returns-then-results-starts c = too_short _ _ _ _ c.if-starts-gt-MOST_STARTS.false c.if-results-starts.true
 
 pub loop-i-init : goal.loop-i-init
 loop-i-init c = (done_none _ _ _ _, omega arith)
@@ -100,4 +100,4 @@ shape_of-list c =
     (lent c.args.calls.now c.args.answers.now c.args.ends.now c.args.list.now) = done_room _ _ _ _ c.loop-i.invariant.0 in same-room)).list
 
 pub returns : goal.returns
-returns c = done_all _ _ _ _ c.if-starts-gt1024.false c.if-results-starts.false c.loop-i.invariant.1 c.loop-i-test.false c.loop-i.invariant.0
+returns c = done_all _ _ _ _ c.if-starts-gt-MOST_STARTS.false c.if-results-starts.false c.loop-i.invariant.1 c.loop-i-test.false c.loop-i.invariant.0

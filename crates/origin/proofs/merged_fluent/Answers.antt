@@ -25,23 +25,23 @@ pub overflow_add-end : goal.overflow_add-end
 overflow_add-end c = omega (arith, below (eqb c.merged_span-name.result.sheet 2) (c.merged_span-name.result.at + c.merged_span-name.result.len) c.args.first.now c.args.second.now 18446744073709551615 (omega arith) (omega arith) (within c.args.first.now c.args.second.now c.args.number c.merged_span-name.result c.merged_span-name.ensures))
 
 pub slice_bounds-result-end : goal.slice_bounds-result-end
-slice_bounds-result-end c = rw (eq-eqb c.merged_span-name.result.sheet 2 c.if-name-eq2.true) at (within c.args.first.now c.args.second.now c.args.number c.merged_span-name.result c.merged_span-name.ensures)
+slice_bounds-result-end c = rw (eq-eqb c.merged_span-name.result.sheet 2 c.if-name-eq-SECOND.true) at (within c.args.first.now c.args.second.now c.args.number c.merged_span-name.result c.merged_span-name.ensures)
 
-pub returns-then-name-eq2 : goal.returns-then-name-eq2
-returns-then-name-eq2 c =
+pub returns-then-name-eq-SECOND : goal.returns-then-name-eq-SECOND
+returns-then-name-eq-SECOND c =
     let a = c.args in
     let p = c.merged_span-name in
     let r = p.result in
-    let v = eq-eqb r.sheet 2 c.if-name-eq2.true in
+    let v = eq-eqb r.sheet 2 c.if-name-eq-SECOND.true in
     let e : r.at + r.len - r.at ≡ r.len = omega arith in record { result_value = ap (λ (n : ℕ). take n (drop r.at a.second.now)) e ∙ ap (λ (w : Bool). take r.len (drop r.at (cond w a.second.now a.first.now))) (sym v) ∙ ap (part_of_two a.first.now a.second.now) p.ensures; ref_ptr_value = ap (λ (w : Bool). ((cond w a.second.ref_ptr a.first.ref_ptr).0, r.at + (cond w a.second.ref_ptr a.first.ref_ptr).1)) (sym v) ∙ ap (address_of_two a.first.ref_ptr a.second.ref_ptr) p.ensures }
 
 pub slice_bounds-result-end-2 : goal.slice_bounds-result-end-2
-slice_bounds-result-end-2 c = rw (ne_eqb c.merged_span-name.result.sheet 2 c.if-name-eq2.false) at (within c.args.first.now c.args.second.now c.args.number c.merged_span-name.result c.merged_span-name.ensures)
+slice_bounds-result-end-2 c = rw (ne_eqb c.merged_span-name.result.sheet 2 c.if-name-eq-SECOND.false) at (within c.args.first.now c.args.second.now c.args.number c.merged_span-name.result c.merged_span-name.ensures)
 
 pub returns : goal.returns
 returns c =
     let a = c.args in
     let p = c.merged_span-name in
     let r = p.result in
-    let v = ne_eqb r.sheet 2 c.if-name-eq2.false in
+    let v = ne_eqb r.sheet 2 c.if-name-eq-SECOND.false in
     let e : r.at + r.len - r.at ≡ r.len = omega arith in record { result_value = ap (λ (n : ℕ). take n (drop r.at a.first.now)) e ∙ ap (λ (w : Bool). take r.len (drop r.at (cond w a.second.now a.first.now))) (sym v) ∙ ap (part_of_two a.first.now a.second.now) p.ensures; ref_ptr_value = ap (λ (w : Bool). ((cond w a.second.ref_ptr a.first.ref_ptr).0, r.at + (cond w a.second.ref_ptr a.first.ref_ptr).1)) (sym v) ∙ ap (address_of_two a.first.ref_ptr a.second.ref_ptr) p.ensures }

@@ -11,10 +11,10 @@ returns-then-over_rooms c =
     let a = c.args in
     too_many a.fluents a.actions a.rules.now a.kept.now a.calls.now a.answers.now a.«record» (none_refused a.fluents a.actions a.rules.now a.kept.now a.calls.now a.answers.now c.requires) (sym c.over_rooms.ensures ∙ c.if-over_rooms.true)
 
-pub returns-then-m-record : goal.returns-then-m-record
-returns-then-m-record c =
+pub returns-then-among-record : goal.returns-then-among-record
+returns-then-among-record c =
     let a = c.args in
-    not_below a.fluents a.actions a.rules.now a.kept.now a.calls.now a.answers.now a.«record» (none_refused a.fluents a.actions a.rules.now a.kept.now a.calls.now a.answers.now c.requires) (sym c.over_rooms.ensures ∙ c.if-over_rooms.false) (omega (arith, answers_placed a.kept.now c.requires.long, c.if-m-record.true))
+    not_below a.fluents a.actions a.rules.now a.kept.now a.calls.now a.answers.now a.«record» (none_refused a.fluents a.actions a.rules.now a.kept.now a.calls.now a.answers.now c.requires) (sym c.over_rooms.ensures ∙ c.if-over_rooms.false) (omega (arith, answers_placed a.kept.now c.requires.long, c.if-among-record.true))
 
 pub bad_rows-requires : goal.bad_rows-requires
 bad_rows-requires c =
@@ -29,10 +29,10 @@ pub returns-then-bad_rows : goal.returns-then-bad_rows
 returns-then-bad_rows c =
     let a = c.args in
     let bad = rows_checked a.fluents a.actions a.rules.now a.kept.now a.calls.now a.answers.now c.requires c.holds.ensures c.holds-2.ensures refl refl c.bad_rows.ensures in
-    not_right a.fluents a.actions a.rules.now a.kept.now a.calls.now a.answers.now a.«record» (none_refused a.fluents a.actions a.rules.now a.kept.now a.calls.now a.answers.now c.requires) (sym c.over_rooms.ensures ∙ c.if-over_rooms.false) _ (omega (arith, answers_placed a.kept.now c.requires.long, c.if-m-record.false)) (sym bad ∙ c.if-bad_rows.true)
+    not_right a.fluents a.actions a.rules.now a.kept.now a.calls.now a.answers.now a.«record» (none_refused a.fluents a.actions a.rules.now a.kept.now a.calls.now a.answers.now c.requires) (sym c.over_rooms.ensures ∙ c.if-over_rooms.false) _ (omega (arith, answers_placed a.kept.now c.requires.long, c.if-among-record.false)) (sym bad ∙ c.if-bad_rows.true)
 
 pub returns : goal.returns
 returns c =
     let a = c.args in
     let bad = rows_checked a.fluents a.actions a.rules.now a.kept.now a.calls.now a.answers.now c.requires c.holds.ensures c.holds-2.ensures refl refl c.bad_rows.ensures in
-    not_right a.fluents a.actions a.rules.now a.kept.now a.calls.now a.answers.now a.«record» (none_refused a.fluents a.actions a.rules.now a.kept.now a.calls.now a.answers.now c.requires) (sym c.over_rooms.ensures ∙ c.if-over_rooms.false) _ (omega (arith, answers_placed a.kept.now c.requires.long, c.if-m-record.false)) (sym bad ∙ c.if-bad_rows.false)
+    not_right a.fluents a.actions a.rules.now a.kept.now a.calls.now a.answers.now a.«record» (none_refused a.fluents a.actions a.rules.now a.kept.now a.calls.now a.answers.now c.requires) (sym c.over_rooms.ensures ∙ c.if-over_rooms.false) _ (omega (arith, answers_placed a.kept.now c.requires.long, c.if-among-record.false)) (sym bad ∙ c.if-bad_rows.false)

@@ -13,11 +13,11 @@ returns-then-count-gt-MOST_STEPS c = record { long = refl; read = λ l. absurd (
 pub loop-i-init : goal.loop-i-init
 loop-i-init c = (omega arith, omega (arith, c.if-count-gt-MOST_STEPS.false), refl, c.steps-count.ensures.few (omega arith), below_none _)
 
-pub shape_of-goal-then-word-gt65535 : goal.shape_of-goal-then-word-gt65535
-shape_of-goal-then-word-gt65535 c = c.loop-i.invariant.2
+pub shape_of-goal-then-word-gt-MOST_WORD : goal.shape_of-goal-then-word-gt-MOST_WORD
+shape_of-goal-then-word-gt-MOST_WORD c = c.loop-i.invariant.2
 
-pub returns-then-word-gt65535 : goal.returns-then-word-gt65535
-returns-then-word-gt65535 c =
+pub returns-then-word-gt-MOST_WORD : goal.returns-then-word-gt-MOST_WORD
+returns-then-word-gt-MOST_WORD c =
     let l = c.loop-i in
     let w = c.step-word.ensures.word (omega arith) in
     record { long = l.invariant.2; read = λ k. absurd (omega arith); none = λ k f a. step_bad f a _ (omega arith) l.i (omega arith) (word_bad f a _ (omega (arith, w))) }

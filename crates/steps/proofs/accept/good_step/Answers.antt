@@ -11,14 +11,14 @@ returns-then-kind-eq3 c =
     let e : c.args.step / 256 ≡ 3 = sym c.kind-kind.ensures ∙ c.if-kind-eq3.true in
     rw (e, c.index-index.ensures) refl
 
-pub returns-then-kind-lt5 : goal.returns-then-kind-lt5
+pub returns-then-kind-lt-KINDS : goal.returns-then-kind-lt-KINDS
 unfolding good_step
-returns-then-kind-lt5 c =
+returns-then-kind-lt-KINDS c =
     let e = c.kind-kind.ensures in
-    rw (← e, lt-ltb _ 5 c.if-kind-lt5.true, ne_eqb _ 3 c.if-kind-eq3.false, c.index-index.ensures) refl
+    rw (← e, lt-ltb _ 5 c.if-kind-lt-KINDS.true, ne_eqb _ 3 c.if-kind-eq3.false, c.index-index.ensures) refl
 
 pub returns : goal.returns
 unfolding good_step
 returns c =
     let e = c.kind-kind.ensures in
-    rw (← e, le-ltb _ 5 c.if-kind-lt5.false) refl
+    rw (← e, le-ltb _ 5 c.if-kind-lt-KINDS.false) refl

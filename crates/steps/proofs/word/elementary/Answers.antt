@@ -19,41 +19,41 @@ returns-then-which-eq0 c =
     let a = c.args in
     rw (query_word a.word a.state.0 (sym c.kind-which.ensures ∙ c.if-which-eq0.true), ← c.index-k.ensures, ← c.holds.ensures, c.if-holds.false) refl
 
-pub returns-then-k-lt64 : goal.returns-then-k-lt64
+pub returns-then-k-lt-FLUENTS : goal.returns-then-k-lt-FLUENTS
 unfolding onward
-returns-then-k-lt64 c =
+returns-then-k-lt-FLUENTS c =
     let a = c.args in
-    let low : c.index-k.result < 64 = omega (arith, c.if-k-lt64.true) in
+    let low : c.index-k.result < 64 = omega (arith, c.if-k-lt-FLUENTS.true) in
     rw (insert_word a.word a.state.0 (sym c.kind-which.ensures ∙ c.if-which-eq1.true), c.insert.ensures, ← c.index-k.ensures, lt-ltb _ 64 low) refl
 
 pub returns-then-which-eq1 : goal.returns-then-which-eq1
 unfolding onward
 returns-then-which-eq1 c =
     let a = c.args in
-    rw (insert_word a.word a.state.0 (sym c.kind-which.ensures ∙ c.if-which-eq1.true), ← c.index-k.ensures, le-ltb _ 64 c.if-k-lt64.false) refl
+    rw (insert_word a.word a.state.0 (sym c.kind-which.ensures ∙ c.if-which-eq1.true), ← c.index-k.ensures, le-ltb _ 64 c.if-k-lt-FLUENTS.false) refl
 
-pub returns-then-which-eq2 : goal.returns-then-which-eq2
+pub returns-then-which-eq-DELETE : goal.returns-then-which-eq-DELETE
 unfolding onward
-returns-then-which-eq2 c =
+returns-then-which-eq-DELETE c =
     let a = c.args in
-    rw (delete_word a.word a.state.0 (sym c.kind-which.ensures ∙ c.if-which-eq2.true), c.delete.ensures, c.index-k.ensures) refl
+    rw (delete_word a.word a.state.0 (sym c.kind-which.ensures ∙ c.if-which-eq-DELETE.true), c.delete.ensures, c.index-k.ensures) refl
 
-pub returns-then-which-eq3 : goal.returns-then-which-eq3
+pub returns-then-which-eq-CALL : goal.returns-then-which-eq-CALL
 unfolding onward
-returns-then-which-eq3 c =
+returns-then-which-eq-CALL c =
     let a = c.args in
-    sym (call_stuck a.word a.state.0 (sym c.kind-which.ensures ∙ c.if-which-eq3.true))
+    sym (call_stuck a.word a.state.0 (sym c.kind-which.ensures ∙ c.if-which-eq-CALL.true))
 
 pub returns-then-holds-2 : goal.returns-then-holds-2
 unfolding onward
 returns-then-holds-2 c =
     let a = c.args in
     let k = c.kind-which.ensures in
-    rw (deny_word a.word a.state.0 (λ e. c.if-which-eq0.false (k ∙ e)) (λ e. c.if-which-eq1.false (k ∙ e)) (λ e. c.if-which-eq2.false (k ∙ e)) (λ e. c.if-which-eq3.false (k ∙ e)), ← c.index-k.ensures, ← c.holds-2.ensures, c.if-holds-2.true) refl
+    rw (deny_word a.word a.state.0 (λ e. c.if-which-eq0.false (k ∙ e)) (λ e. c.if-which-eq1.false (k ∙ e)) (λ e. c.if-which-eq-DELETE.false (k ∙ e)) (λ e. c.if-which-eq-CALL.false (k ∙ e)), ← c.index-k.ensures, ← c.holds-2.ensures, c.if-holds-2.true) refl
 
 pub returns : goal.returns
 unfolding onward
 returns c =
     let a = c.args in
     let k = c.kind-which.ensures in
-    rw (deny_word a.word a.state.0 (λ e. c.if-which-eq0.false (k ∙ e)) (λ e. c.if-which-eq1.false (k ∙ e)) (λ e. c.if-which-eq2.false (k ∙ e)) (λ e. c.if-which-eq3.false (k ∙ e)), ← c.index-k.ensures, ← c.holds-2.ensures, c.if-holds-2.false) refl
+    rw (deny_word a.word a.state.0 (λ e. c.if-which-eq0.false (k ∙ e)) (λ e. c.if-which-eq1.false (k ∙ e)) (λ e. c.if-which-eq-DELETE.false (k ∙ e)) (λ e. c.if-which-eq-CALL.false (k ∙ e)), ← c.index-k.ensures, ← c.holds-2.ensures, c.if-holds-2.false) refl
