@@ -9,8 +9,8 @@ use Rattle.finals.specs.Finals.{CallFinals}
 use Rattle.alone.proofs.ends_of.Goals as goal
 
 -- The same call by other names.
-finals-as : {calls : Calls} {answers : Answers} {a b : ℕ} {D E : State} {found : ℕ} {list list' : List ℕ} → b ≡ a → E ≡ D → CallFinals calls answers b E found list list' → CallFinals calls answers a D found list list'
-finals-as e f F = rw (← e, ← f) F
+finals_as : {calls : Calls} {answers : Answers} {a b : ℕ} {D E : State} {found : ℕ} {list list' : List ℕ} → b ≡ a → E ≡ D → CallFinals calls answers b E found list list' → CallFinals calls answers a D found list list'
+finals_as e f F = rw (← e, ← f) F
 
 pub of_call-requires : goal.of_call-requires
 of_call-requires c =
@@ -22,4 +22,4 @@ pub returns : goal.returns
 returns c =
     let goal = c.goal.ensures in
     let F = c.of_call.ensures in
-    record { calls_closed = (c.close_calls.ensures, F.below.long); call_finals = finals-as goal.0 goal.1 F.call_finals }
+    record { calls_closed = (c.close_calls.ensures, F.below.long); call_finals = finals_as goal.0 goal.1 F.call_finals }

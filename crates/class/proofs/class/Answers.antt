@@ -27,8 +27,8 @@ offset_bounds-ends-used c =
       fits = omega (
         arith,
         (let fits : c.loop-i.used ≤ length c.loop-i.ends = done_fits _ _ _ _ c.loop-i.invariant.0 in fits),
-        (let scaled : length c.loop-i.ends * 8 < 2 ^ 63 = rw ((let same-room : SameRoom (lent c.loop-i.calls c.loop-i.answers c.loop-i.ends c.loop-i.list)
-            (lent c.args.calls.now c.args.answers.now c.args.ends.now c.args.list.now) = done_room _ _ _ _ c.loop-i.invariant.0 in same-room)).ends c.well_formed.1.1.1.1.1.1.1.1.0.1 in scaled),
+        (let scaled : length c.loop-i.ends * 8 < 2 ^ 63 = rw ((let same_room : SameRoom (lent c.loop-i.calls c.loop-i.answers c.loop-i.ends c.loop-i.list)
+            (lent c.args.calls.now c.args.answers.now c.args.ends.now c.args.list.now) = done_room _ _ _ _ c.loop-i.invariant.0 in same_room)).ends c.well_formed.1.1.1.1.1.1.1.1.0.1 in scaled),
       );
     }
 
@@ -58,8 +58,8 @@ overflow_add-used c =
           length-drop c.loop-i.used c.loop-i.ends,
           (let fits : c.loop-i.used ≤ length c.loop-i.ends = done_fits _ _ _ _ c.loop-i.invariant.0 in fits),
         ) in room_for),
-        (let scaled : length c.loop-i.ends * 8 < 2 ^ 63 = rw ((let same-room : SameRoom (lent c.loop-i.calls c.loop-i.answers c.loop-i.ends c.loop-i.list)
-            (lent c.args.calls.now c.args.answers.now c.args.ends.now c.args.list.now) = done_room _ _ _ _ c.loop-i.invariant.0 in same-room)).ends c.well_formed.1.1.1.1.1.1.1.1.0.1 in scaled),
+        (let scaled : length c.loop-i.ends * 8 < 2 ^ 63 = rw ((let same_room : SameRoom (lent c.loop-i.calls c.loop-i.answers c.loop-i.ends c.loop-i.list)
+            (lent c.args.calls.now c.args.answers.now c.args.ends.now c.args.list.now) = done_room _ _ _ _ c.loop-i.invariant.0 in same_room)).ends c.well_formed.1.1.1.1.1.1.1.1.0.1 in scaled),
       );
     }
 
@@ -81,23 +81,23 @@ shape_of-results c = (let long : length c.loop-i.results ≡ length c.args.resul
 
 pub shape_of-calls : goal.shape_of-calls
 shape_of-calls c =
-    ((let same-room : SameRoom (lent c.loop-i.calls c.loop-i.answers c.loop-i.ends c.loop-i.list)
-    (lent c.args.calls.now c.args.answers.now c.args.ends.now c.args.list.now) = done_room _ _ _ _ c.loop-i.invariant.0 in same-room)).calls
+    ((let same_room : SameRoom (lent c.loop-i.calls c.loop-i.answers c.loop-i.ends c.loop-i.list)
+    (lent c.args.calls.now c.args.answers.now c.args.ends.now c.args.list.now) = done_room _ _ _ _ c.loop-i.invariant.0 in same_room)).calls
 
 pub shape_of-answers : goal.shape_of-answers
 shape_of-answers c =
-    ((let same-room : SameRoom (lent c.loop-i.calls c.loop-i.answers c.loop-i.ends c.loop-i.list)
-    (lent c.args.calls.now c.args.answers.now c.args.ends.now c.args.list.now) = done_room _ _ _ _ c.loop-i.invariant.0 in same-room)).answers
+    ((let same_room : SameRoom (lent c.loop-i.calls c.loop-i.answers c.loop-i.ends c.loop-i.list)
+    (lent c.args.calls.now c.args.answers.now c.args.ends.now c.args.list.now) = done_room _ _ _ _ c.loop-i.invariant.0 in same_room)).answers
 
 pub shape_of-ends : goal.shape_of-ends
 shape_of-ends c =
-    ((let same-room : SameRoom (lent c.loop-i.calls c.loop-i.answers c.loop-i.ends c.loop-i.list)
-    (lent c.args.calls.now c.args.answers.now c.args.ends.now c.args.list.now) = done_room _ _ _ _ c.loop-i.invariant.0 in same-room)).ends
+    ((let same_room : SameRoom (lent c.loop-i.calls c.loop-i.answers c.loop-i.ends c.loop-i.list)
+    (lent c.args.calls.now c.args.answers.now c.args.ends.now c.args.list.now) = done_room _ _ _ _ c.loop-i.invariant.0 in same_room)).ends
 
 pub shape_of-list : goal.shape_of-list
 shape_of-list c =
-    ((let same-room : SameRoom (lent c.loop-i.calls c.loop-i.answers c.loop-i.ends c.loop-i.list)
-    (lent c.args.calls.now c.args.answers.now c.args.ends.now c.args.list.now) = done_room _ _ _ _ c.loop-i.invariant.0 in same-room)).list
+    ((let same_room : SameRoom (lent c.loop-i.calls c.loop-i.answers c.loop-i.ends c.loop-i.list)
+    (lent c.args.calls.now c.args.answers.now c.args.ends.now c.args.list.now) = done_room _ _ _ _ c.loop-i.invariant.0 in same_room)).list
 
 pub returns : goal.returns
 returns c = done_all _ _ _ _ c.if-starts-gt-MOST_STARTS.false c.if-results-starts.false c.loop-i.invariant.1 c.loop-i-test.false c.loop-i.invariant.0

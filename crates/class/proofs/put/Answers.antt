@@ -8,9 +8,9 @@ use lib.Seq.{sets-eq}
 use Rattle.class.proofs.put.Goals as goal
 
 -- four words stored one after another
-four-stored : (list : List ℕ) (at a b c d : ℕ) → at + 4 ≤ length list
+four_stored : (list : List ℕ) (at a b c d : ℕ) → at + 4 ≤ length list
     → set (set (set (set list at a) (at + 1) b) (at + 2) c) (at + 3) d ≡ take at list ++ (a ∷ b ∷ c ∷ d ∷ []) ++ drop (at + 4) list
-four-stored list at a b c d l =
+four_stored list at a b c d l =
     let second : at + 1 ≡ suc at = omega arith in
     let third : at + 2 ≡ suc (suc at) = omega arith in
     let fourth : at + 3 ≡ suc (suc (suc at)) = omega arith in
@@ -26,4 +26,4 @@ pub bounds-results-at-4 : goal.bounds-results-at-4
 bounds-results-at-4 c = simp length-set (omega arith)
 
 pub returns : goal.returns
-returns c = four-stored c.args.results.now c.args.at _ _ _ _ c.requires
+returns c = four_stored c.args.results.now c.args.at _ _ _ _ c.requires

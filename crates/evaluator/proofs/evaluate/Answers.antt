@@ -37,16 +37,16 @@ returns-then-run c =
     let calls : c.clear-then-run.new.words ≡ replicate (length c.args.calls.now) 0 = c.clear-then-run.ensures ∙ ap (λ (n : ℕ). replicate n 0) (F.calls_long ∙ (let calls_long : length c.clear.new.words ≡ length c.args.calls.now = zero_long (length c.args.calls.now) c.clear.ensures in calls_long)) in
     let answers : c.clear-then-run-2.new.words ≡ replicate (length c.args.answers.now) 0 = c.clear-then-run-2.ensures ∙ ap (λ (n : ℕ). replicate n 0) F.answers_long in
     let list : c.clear-then-run-3.new.words ≡ replicate (length c.args.list.now) 0 = c.clear-then-run-3.ensures ∙ ap (λ (n : ℕ). replicate n 0) (c.tabulate-run.ensures.list_len_unchanged.0 ∙ (let list_long : length c.clear-2.new.words ≡ length c.args.list.now = zero_long (length c.args.list.now) c.clear-2.ensures in list_long)) in
-    outgrown ((let ok : refused_with ((let question : Asked = asked c.args.fluents c.args.actions c.args.rules.now c.args.goal.now c.args.start in question)) ≡ 0 = (let accepted : refused_with ((let question : Asked = asked c.args.fluents c.args.actions c.args.rules.now c.args.goal.now c.args.start in question)) ≡ 0 = sym c.refusal-refusal.ensures ∙ c.if-refusal-ne0.false in accepted) in ok)) ((let long : ¬ CallListShort ((let buffers : Lent = lent c.args.calls.now c.args.answers.now c.args.ends.now c.args.list.now in buffers)) = (let long-enough : ¬ CallListShort ((let buffers : Lent = lent c.args.calls.now c.args.answers.now c.args.ends.now c.args.list.now in buffers)) = (λ h. omega (arith, c.room_of.ensures, c.if-list-room_of.false)) in long-enough) in long))
-    (is_full ((let question : Asked = asked c.args.fluents c.args.actions c.args.rules.now c.args.goal.now c.args.start in question)) ((let buffers : Lent = lent c.args.calls.now c.args.answers.now c.args.ends.now c.args.list.now in buffers)) ((let ok : refused_with ((let question : Asked = asked c.args.fluents c.args.actions c.args.rules.now c.args.goal.now c.args.start in question)) ≡ 0 = (let accepted : refused_with ((let question : Asked = asked c.args.fluents c.args.actions c.args.rules.now c.args.goal.now c.args.start in question)) ≡ 0 = sym c.refusal-refusal.ensures ∙ c.if-refusal-ne0.false in accepted) in ok)) ((let long : ¬ CallListShort ((let buffers : Lent = lent c.args.calls.now c.args.answers.now c.args.ends.now c.args.list.now in buffers)) = (let long-enough : ¬ CallListShort ((let buffers : Lent = lent c.args.calls.now c.args.answers.now c.args.ends.now c.args.list.now in buffers)) = (λ h. omega (arith, c.room_of.ensures, c.if-list-room_of.false)) in long-enough) in long)) ((let calls_long : length c.clear.new.words ≡ length c.args.calls.now = zero_long (length c.args.calls.now) c.clear.ensures in calls_long)) refl c.tabulate-run.ensures.begins.1 F ((let listed : c.tabulate-run.result.full ≡ false → CallsListed (call_table c.tabulate-run.new.calls c.tabulate-run.result.calls) (length c.args.list.now) c.tabulate-run.new.list = (λ z. subst (λ (len : ℕ). CallsListed (call_table c.tabulate-run.new.calls c.tabulate-run.result.calls) len c.tabulate-run.new.list) ((let list_long : length c.clear-2.new.words ≡ length c.args.list.now = zero_long (length c.args.list.now) c.clear-2.ensures in list_long)) (c.tabulate-run.ensures.list_len_unchanged.1 z)) in listed)) full)
+    outgrown ((let ok : refused_with ((let question : Asked = asked c.args.fluents c.args.actions c.args.rules.now c.args.goal.now c.args.start in question)) ≡ 0 = (let accepted : refused_with ((let question : Asked = asked c.args.fluents c.args.actions c.args.rules.now c.args.goal.now c.args.start in question)) ≡ 0 = sym c.refusal-refusal.ensures ∙ c.if-refusal-ne0.false in accepted) in ok)) ((let long : ¬ CallListShort ((let buffers : Lent = lent c.args.calls.now c.args.answers.now c.args.ends.now c.args.list.now in buffers)) = (let long_enough : ¬ CallListShort ((let buffers : Lent = lent c.args.calls.now c.args.answers.now c.args.ends.now c.args.list.now in buffers)) = (λ h. omega (arith, c.room_of.ensures, c.if-list-room_of.false)) in long_enough) in long))
+    (is_full ((let question : Asked = asked c.args.fluents c.args.actions c.args.rules.now c.args.goal.now c.args.start in question)) ((let buffers : Lent = lent c.args.calls.now c.args.answers.now c.args.ends.now c.args.list.now in buffers)) ((let ok : refused_with ((let question : Asked = asked c.args.fluents c.args.actions c.args.rules.now c.args.goal.now c.args.start in question)) ≡ 0 = (let accepted : refused_with ((let question : Asked = asked c.args.fluents c.args.actions c.args.rules.now c.args.goal.now c.args.start in question)) ≡ 0 = sym c.refusal-refusal.ensures ∙ c.if-refusal-ne0.false in accepted) in ok)) ((let long : ¬ CallListShort ((let buffers : Lent = lent c.args.calls.now c.args.answers.now c.args.ends.now c.args.list.now in buffers)) = (let long_enough : ¬ CallListShort ((let buffers : Lent = lent c.args.calls.now c.args.answers.now c.args.ends.now c.args.list.now in buffers)) = (λ h. omega (arith, c.room_of.ensures, c.if-list-room_of.false)) in long_enough) in long)) ((let calls_long : length c.clear.new.words ≡ length c.args.calls.now = zero_long (length c.args.calls.now) c.clear.ensures in calls_long)) refl c.tabulate-run.ensures.begins.1 F ((let listed : c.tabulate-run.result.full ≡ false → CallsListed (call_table c.tabulate-run.new.calls c.tabulate-run.result.calls) (length c.args.list.now) c.tabulate-run.new.list = (λ z. subst (λ (len : ℕ). CallsListed (call_table c.tabulate-run.new.calls c.tabulate-run.result.calls) len c.tabulate-run.new.list) ((let list_long : length c.clear-2.new.words ≡ length c.args.list.now = zero_long (length c.args.list.now) c.clear-2.ensures in list_long)) (c.tabulate-run.ensures.list_len_unchanged.1 z)) in listed)) full)
     refl (λ k. lent (calls k) (answers k) (c.tabulate-run.ensures.ends_unchanged.0 full k) (list k))
 
 pub returns-then-ends-found : goal.returns-then-ends-found
 returns-then-ends-found c =
     let e = c.if-run.false in
-    is_short ((let question : Asked = asked c.args.fluents c.args.actions c.args.rules.now c.args.goal.now c.args.start in question)) ((let buffers : Lent = lent c.args.calls.now c.args.answers.now c.args.ends.now c.args.list.now in buffers)) ((let ok : refused_with ((let question : Asked = asked c.args.fluents c.args.actions c.args.rules.now c.args.goal.now c.args.start in question)) ≡ 0 = (let accepted : refused_with ((let question : Asked = asked c.args.fluents c.args.actions c.args.rules.now c.args.goal.now c.args.start in question)) ≡ 0 = sym c.refusal-refusal.ensures ∙ c.if-refusal-ne0.false in accepted) in ok)) ((let long : ¬ CallListShort ((let buffers : Lent = lent c.args.calls.now c.args.answers.now c.args.ends.now c.args.list.now in buffers)) = (let long-enough : ¬ CallListShort ((let buffers : Lent = lent c.args.calls.now c.args.answers.now c.args.ends.now c.args.list.now in buffers)) = (λ h. omega (arith, c.room_of.ensures, c.if-list-room_of.false)) in long-enough) in long)) ((let calls_long : length c.clear.new.words ≡ length c.args.calls.now = zero_long (length c.args.calls.now) c.clear.ensures in calls_long)) refl c.tabulate-run.ensures.begins.1 c.tabulate-run.ensures.begins.2 ((let listed : c.tabulate-run.result.full ≡ false → CallsListed (call_table c.tabulate-run.new.calls c.tabulate-run.result.calls) (length c.args.list.now) c.tabulate-run.new.list = (λ z. subst (λ (len : ℕ). CallsListed (call_table c.tabulate-run.new.calls c.tabulate-run.result.calls) len c.tabulate-run.new.list) ((let list_long : length c.clear-2.new.words ≡ length c.args.list.now = zero_long (length c.args.list.now) c.clear-2.ensures in list_long)) (c.tabulate-run.ensures.list_len_unchanged.1 z)) in listed)) e (c.tabulate-run.ensures.ends_unchanged.1 e) (omega (arith, c.if-ends-found.true))
+    is_short ((let question : Asked = asked c.args.fluents c.args.actions c.args.rules.now c.args.goal.now c.args.start in question)) ((let buffers : Lent = lent c.args.calls.now c.args.answers.now c.args.ends.now c.args.list.now in buffers)) ((let ok : refused_with ((let question : Asked = asked c.args.fluents c.args.actions c.args.rules.now c.args.goal.now c.args.start in question)) ≡ 0 = (let accepted : refused_with ((let question : Asked = asked c.args.fluents c.args.actions c.args.rules.now c.args.goal.now c.args.start in question)) ≡ 0 = sym c.refusal-refusal.ensures ∙ c.if-refusal-ne0.false in accepted) in ok)) ((let long : ¬ CallListShort ((let buffers : Lent = lent c.args.calls.now c.args.answers.now c.args.ends.now c.args.list.now in buffers)) = (let long_enough : ¬ CallListShort ((let buffers : Lent = lent c.args.calls.now c.args.answers.now c.args.ends.now c.args.list.now in buffers)) = (λ h. omega (arith, c.room_of.ensures, c.if-list-room_of.false)) in long_enough) in long)) ((let calls_long : length c.clear.new.words ≡ length c.args.calls.now = zero_long (length c.args.calls.now) c.clear.ensures in calls_long)) refl c.tabulate-run.ensures.begins.1 c.tabulate-run.ensures.begins.2 ((let listed : c.tabulate-run.result.full ≡ false → CallsListed (call_table c.tabulate-run.new.calls c.tabulate-run.result.calls) (length c.args.list.now) c.tabulate-run.new.list = (λ z. subst (λ (len : ℕ). CallsListed (call_table c.tabulate-run.new.calls c.tabulate-run.result.calls) len c.tabulate-run.new.list) ((let list_long : length c.clear-2.new.words ≡ length c.args.list.now = zero_long (length c.args.list.now) c.clear-2.ensures in list_long)) (c.tabulate-run.ensures.list_len_unchanged.1 z)) in listed)) e (c.tabulate-run.ensures.ends_unchanged.1 e) (omega (arith, c.if-ends-found.true))
 
 pub returns : goal.returns
 returns c =
     let e = c.if-run.false in
-    is_listed ((let question : Asked = asked c.args.fluents c.args.actions c.args.rules.now c.args.goal.now c.args.start in question)) ((let buffers : Lent = lent c.args.calls.now c.args.answers.now c.args.ends.now c.args.list.now in buffers)) ((let ok : refused_with ((let question : Asked = asked c.args.fluents c.args.actions c.args.rules.now c.args.goal.now c.args.start in question)) ≡ 0 = (let accepted : refused_with ((let question : Asked = asked c.args.fluents c.args.actions c.args.rules.now c.args.goal.now c.args.start in question)) ≡ 0 = sym c.refusal-refusal.ensures ∙ c.if-refusal-ne0.false in accepted) in ok)) ((let long : ¬ CallListShort ((let buffers : Lent = lent c.args.calls.now c.args.answers.now c.args.ends.now c.args.list.now in buffers)) = (let long-enough : ¬ CallListShort ((let buffers : Lent = lent c.args.calls.now c.args.answers.now c.args.ends.now c.args.list.now in buffers)) = (λ h. omega (arith, c.room_of.ensures, c.if-list-room_of.false)) in long-enough) in long)) ((let calls_long : length c.clear.new.words ≡ length c.args.calls.now = zero_long (length c.args.calls.now) c.clear.ensures in calls_long)) refl c.tabulate-run.ensures.begins.1 c.tabulate-run.ensures.begins.2 ((let listed : c.tabulate-run.result.full ≡ false → CallsListed (call_table c.tabulate-run.new.calls c.tabulate-run.result.calls) (length c.args.list.now) c.tabulate-run.new.list = (λ z. subst (λ (len : ℕ). CallsListed (call_table c.tabulate-run.new.calls c.tabulate-run.result.calls) len c.tabulate-run.new.list) ((let list_long : length c.clear-2.new.words ≡ length c.args.list.now = zero_long (length c.args.list.now) c.clear-2.ensures in list_long)) (c.tabulate-run.ensures.list_len_unchanged.1 z)) in listed)) e (c.tabulate-run.ensures.ends_unchanged.1 e) (omega (arith, c.if-ends-found.false))
+    is_listed ((let question : Asked = asked c.args.fluents c.args.actions c.args.rules.now c.args.goal.now c.args.start in question)) ((let buffers : Lent = lent c.args.calls.now c.args.answers.now c.args.ends.now c.args.list.now in buffers)) ((let ok : refused_with ((let question : Asked = asked c.args.fluents c.args.actions c.args.rules.now c.args.goal.now c.args.start in question)) ≡ 0 = (let accepted : refused_with ((let question : Asked = asked c.args.fluents c.args.actions c.args.rules.now c.args.goal.now c.args.start in question)) ≡ 0 = sym c.refusal-refusal.ensures ∙ c.if-refusal-ne0.false in accepted) in ok)) ((let long : ¬ CallListShort ((let buffers : Lent = lent c.args.calls.now c.args.answers.now c.args.ends.now c.args.list.now in buffers)) = (let long_enough : ¬ CallListShort ((let buffers : Lent = lent c.args.calls.now c.args.answers.now c.args.ends.now c.args.list.now in buffers)) = (λ h. omega (arith, c.room_of.ensures, c.if-list-room_of.false)) in long_enough) in long)) ((let calls_long : length c.clear.new.words ≡ length c.args.calls.now = zero_long (length c.args.calls.now) c.clear.ensures in calls_long)) refl c.tabulate-run.ensures.begins.1 c.tabulate-run.ensures.begins.2 ((let listed : c.tabulate-run.result.full ≡ false → CallsListed (call_table c.tabulate-run.new.calls c.tabulate-run.result.calls) (length c.args.list.now) c.tabulate-run.new.list = (λ z. subst (λ (len : ℕ). CallsListed (call_table c.tabulate-run.new.calls c.tabulate-run.result.calls) len c.tabulate-run.new.list) ((let list_long : length c.clear-2.new.words ≡ length c.args.list.now = zero_long (length c.args.list.now) c.clear-2.ensures in list_long)) (c.tabulate-run.ensures.list_len_unchanged.1 z)) in listed)) e (c.tabulate-run.ensures.ends_unchanged.1 e) (omega (arith, c.if-ends-found.false))

@@ -41,7 +41,7 @@ returns-then-put c =
           kept = λ e. absurd (true_not_false e);
           closed = λ e. absurd (true_not_false e);
           rounded = λ e. absurd (true_not_false e);
-          outgrown = λ e. first_full (bodies_of c.args.rules.now c.args.goal.now) Goal c.args.start _ 0 (open_calls c.args.calls.now 0) (open_calls c.add_new-put.new.calls c.add_new-put.result.count) _ _ _ ((let put-at : CallPut (room call_width (length c.args.calls.now)) (open_calls c.args.calls.now 0) Goal c.args.start 0 (open_calls c.add_new-put.new.calls c.add_new-put.result.count) c.add_new-put.result.row c.add_new-put.result.full = rw (← c.goal.ensures.0, ← c.goal.ensures.1) c.add_new-put.ensures.call_put in put-at)) c.if-put.true refl;
+          outgrown = λ e. first_full (bodies_of c.args.rules.now c.args.goal.now) Goal c.args.start _ 0 (open_calls c.args.calls.now 0) (open_calls c.add_new-put.new.calls c.add_new-put.result.count) _ _ _ ((let put_at : CallPut (room call_width (length c.args.calls.now)) (open_calls c.args.calls.now 0) Goal c.args.start 0 (open_calls c.add_new-put.new.calls c.add_new-put.result.count) c.add_new-put.result.row c.add_new-put.result.full = rw (← c.goal.ensures.0, ← c.goal.ensures.1) c.add_new-put.ensures.call_put in put_at)) c.if-put.true refl;
         },
       );
       list_len_unchanged = (s.list_long, λ e. absurd (true_not_false e));
@@ -66,7 +66,7 @@ fill-run-requires c =
       by_index = (
         (Goal, c.args.start) ∷ [],
         (let first : (e : c.add_new-put.result.full ≡ false) → Valid (bodies_of c.args.rules.now c.args.goal.now) (Among ((Goal, c.args.start) ∷ []))
-            (in_words c.add_new-put.new.calls c.add_new-put.result.count c.args.answers.now 0) = (λ e. first_valid (bodies_of c.args.rules.now c.args.goal.now) Goal c.args.start _ 0 (open_calls c.args.calls.now 0) (open_calls c.add_new-put.new.calls c.add_new-put.result.count) (packed_answers c.args.answers.now 0) _ _ ((let put-at : CallPut (room call_width (length c.args.calls.now)) (open_calls c.args.calls.now 0) Goal c.args.start 0 (open_calls c.add_new-put.new.calls c.add_new-put.result.count) c.add_new-put.result.row c.add_new-put.result.full = rw (← c.goal.ensures.0, ← c.goal.ensures.1) c.add_new-put.ensures.call_put in put-at)) e refl refl) in first) e,
+            (in_words c.add_new-put.new.calls c.add_new-put.result.count c.args.answers.now 0) = (λ e. first_valid (bodies_of c.args.rules.now c.args.goal.now) Goal c.args.start _ 0 (open_calls c.args.calls.now 0) (open_calls c.add_new-put.new.calls c.add_new-put.result.count) (packed_answers c.args.answers.now 0) _ _ ((let put_at : CallPut (room call_width (length c.args.calls.now)) (open_calls c.args.calls.now 0) Goal c.args.start 0 (open_calls c.add_new-put.new.calls c.add_new-put.result.count) c.add_new-put.result.row c.add_new-put.result.full = rw (← c.goal.ensures.0, ← c.goal.ensures.1) c.add_new-put.ensures.call_put in put_at)) e refl refl) in first) e,
       );
     }
 
@@ -74,20 +74,20 @@ pub returns-then-run : goal.returns-then-run
 returns-then-run c =
     let F = (let filled_in : Filled (bodies_of c.args.rules.now c.args.goal.now) (room answer_width (length c.args.answers.now)) ((Goal, c.args.start) ∷ []) 0 (in_words c.add_new-put.new.calls c.add_new-put.result.count c.args.answers.now 0)
     c.args.calls.now c.args.list.now c.args.answers.now c.fill-run.new.calls c.fill-run.new.list c.fill-run.new.answers c.fill-run.result.full c.fill-run.result.calls c.fill-run.result.answers c.fill-run.result.rounds = let F = c.fill-run.ensures ((Goal, c.args.start) ∷ []) ((let first : (e : c.add_new-put.result.full ≡ false) → Valid (bodies_of c.args.rules.now c.args.goal.now) (Among ((Goal, c.args.start) ∷ []))
-    (in_words c.add_new-put.new.calls c.add_new-put.result.count c.args.answers.now 0) = (λ e. first_valid (bodies_of c.args.rules.now c.args.goal.now) Goal c.args.start _ 0 (open_calls c.args.calls.now 0) (open_calls c.add_new-put.new.calls c.add_new-put.result.count) (packed_answers c.args.answers.now 0) _ _ ((let put-at : CallPut (room call_width (length c.args.calls.now)) (open_calls c.args.calls.now 0) Goal c.args.start 0 (open_calls c.add_new-put.new.calls c.add_new-put.result.count) c.add_new-put.result.row c.add_new-put.result.full = rw (← c.goal.ensures.0, ← c.goal.ensures.1) c.add_new-put.ensures.call_put in put-at)) e refl refl) in first) ((let none : c.add_new-put.result.full ≡ false = c.if-put.false in none))) in
+    (in_words c.add_new-put.new.calls c.add_new-put.result.count c.args.answers.now 0) = (λ e. first_valid (bodies_of c.args.rules.now c.args.goal.now) Goal c.args.start _ 0 (open_calls c.args.calls.now 0) (open_calls c.add_new-put.new.calls c.add_new-put.result.count) (packed_answers c.args.answers.now 0) _ _ ((let put_at : CallPut (room call_width (length c.args.calls.now)) (open_calls c.args.calls.now 0) Goal c.args.start 0 (open_calls c.add_new-put.new.calls c.add_new-put.result.count) c.add_new-put.result.row c.add_new-put.result.full = rw (← c.goal.ensures.0, ← c.goal.ensures.1) c.add_new-put.ensures.call_put in put_at)) e refl refl) in first) ((let none : c.add_new-put.result.full ≡ false = c.if-put.false in none))) in
     let s = c.add_new-put.ensures.calls_kept in
     subst (λ (most : ℕ). Filled (bodies_of c.args.rules.now c.args.goal.now) most ((Goal, c.args.start) ∷ []) 0 (in_words c.add_new-put.new.calls c.add_new-put.result.count c.args.answers.now 0)
     c.args.calls.now c.args.list.now c.args.answers.now c.fill-run.new.calls c.fill-run.new.list c.fill-run.new.answers c.fill-run.result.full c.fill-run.result.calls c.fill-run.result.answers c.fill-run.result.rounds)
     c.room_of-most.ensures
     (record { calls_long = F.calls_long ∙ s.long; list_long = F.list_long ∙ s.list_long; answers_long = F.answers_long; kept = F.kept; indexed = F.indexed; closed = F.closed; rounded = F.rounded; outgrown = λ z. rw s.long at (F.outgrown z) }) in filled_in) in
     let t = c.if-run.true in
-    record { begins = (_, λ z. (let begins : (e : c.add_new-put.result.full ≡ false) → Begins c.args.start (in_words c.add_new-put.new.calls c.add_new-put.result.count c.args.answers.now 0) = (λ e. first_begins _ (open_calls c.args.calls.now 0) (open_calls c.add_new-put.new.calls c.add_new-put.result.count) (packed_answers c.args.answers.now 0) _ _ ((let put-at : CallPut (room call_width (length c.args.calls.now)) (open_calls c.args.calls.now 0) Goal c.args.start 0 (open_calls c.add_new-put.new.calls c.add_new-put.result.count) c.add_new-put.result.row c.add_new-put.result.full = rw (← c.goal.ensures.0, ← c.goal.ensures.1) c.add_new-put.ensures.call_put in put-at)) e refl refl) in begins) ((let none : c.add_new-put.result.full ≡ false = c.if-put.false in none)), tabulated_full t F); list_len_unchanged = (F.list_long, λ z. absurd (true_not_false (sym t ∙ z))); ends_unchanged = (λ z. refl, λ z. absurd (true_not_false (sym t ∙ z))) }
+    record { begins = (_, λ z. (let begins : (e : c.add_new-put.result.full ≡ false) → Begins c.args.start (in_words c.add_new-put.new.calls c.add_new-put.result.count c.args.answers.now 0) = (λ e. first_begins _ (open_calls c.args.calls.now 0) (open_calls c.add_new-put.new.calls c.add_new-put.result.count) (packed_answers c.args.answers.now 0) _ _ ((let put_at : CallPut (room call_width (length c.args.calls.now)) (open_calls c.args.calls.now 0) Goal c.args.start 0 (open_calls c.add_new-put.new.calls c.add_new-put.result.count) c.add_new-put.result.row c.add_new-put.result.full = rw (← c.goal.ensures.0, ← c.goal.ensures.1) c.add_new-put.ensures.call_put in put_at)) e refl refl) in begins) ((let none : c.add_new-put.result.full ≡ false = c.if-put.false in none)), tabulated_full t F); list_len_unchanged = (F.list_long, λ z. absurd (true_not_false (sym t ∙ z))); ends_unchanged = (λ z. refl, λ z. absurd (true_not_false (sym t ∙ z))) }
 
 pub give-found-requires : goal.give-found-requires
 give-found-requires c =
     let F = (let filled_in : Filled (bodies_of c.args.rules.now c.args.goal.now) (room answer_width (length c.args.answers.now)) ((Goal, c.args.start) ∷ []) 0 (in_words c.add_new-put.new.calls c.add_new-put.result.count c.args.answers.now 0)
     c.args.calls.now c.args.list.now c.args.answers.now c.fill-run.new.calls c.fill-run.new.list c.fill-run.new.answers c.fill-run.result.full c.fill-run.result.calls c.fill-run.result.answers c.fill-run.result.rounds = let F = c.fill-run.ensures ((Goal, c.args.start) ∷ []) ((let first : (e : c.add_new-put.result.full ≡ false) → Valid (bodies_of c.args.rules.now c.args.goal.now) (Among ((Goal, c.args.start) ∷ []))
-    (in_words c.add_new-put.new.calls c.add_new-put.result.count c.args.answers.now 0) = (λ e. first_valid (bodies_of c.args.rules.now c.args.goal.now) Goal c.args.start _ 0 (open_calls c.args.calls.now 0) (open_calls c.add_new-put.new.calls c.add_new-put.result.count) (packed_answers c.args.answers.now 0) _ _ ((let put-at : CallPut (room call_width (length c.args.calls.now)) (open_calls c.args.calls.now 0) Goal c.args.start 0 (open_calls c.add_new-put.new.calls c.add_new-put.result.count) c.add_new-put.result.row c.add_new-put.result.full = rw (← c.goal.ensures.0, ← c.goal.ensures.1) c.add_new-put.ensures.call_put in put-at)) e refl refl) in first) ((let none : c.add_new-put.result.full ≡ false = c.if-put.false in none))) in
+    (in_words c.add_new-put.new.calls c.add_new-put.result.count c.args.answers.now 0) = (λ e. first_valid (bodies_of c.args.rules.now c.args.goal.now) Goal c.args.start _ 0 (open_calls c.args.calls.now 0) (open_calls c.add_new-put.new.calls c.add_new-put.result.count) (packed_answers c.args.answers.now 0) _ _ ((let put_at : CallPut (room call_width (length c.args.calls.now)) (open_calls c.args.calls.now 0) Goal c.args.start 0 (open_calls c.add_new-put.new.calls c.add_new-put.result.count) c.add_new-put.result.row c.add_new-put.result.full = rw (← c.goal.ensures.0, ← c.goal.ensures.1) c.add_new-put.ensures.call_put in put_at)) e refl refl) in first) ((let none : c.add_new-put.result.full ≡ false = c.if-put.false in none))) in
     let s = c.add_new-put.ensures.calls_kept in
     subst (λ (most : ℕ). Filled (bodies_of c.args.rules.now c.args.goal.now) most ((Goal, c.args.start) ∷ []) 0 (in_words c.add_new-put.new.calls c.add_new-put.result.count c.args.answers.now 0)
     c.args.calls.now c.args.list.now c.args.answers.now c.fill-run.new.calls c.fill-run.new.list c.fill-run.new.answers c.fill-run.result.full c.fill-run.result.calls c.fill-run.result.answers c.fill-run.result.rounds)
@@ -110,22 +110,22 @@ returns c =
     let G = c.give-found.ensures in record {
       begins = (
         _,
-        λ z. (let begins : (e : c.add_new-put.result.full ≡ false) → Begins c.args.start (in_words c.add_new-put.new.calls c.add_new-put.result.count c.args.answers.now 0) = (λ e. first_begins _ (open_calls c.args.calls.now 0) (open_calls c.add_new-put.new.calls c.add_new-put.result.count) (packed_answers c.args.answers.now 0) _ _ ((let put-at : CallPut (room call_width (length c.args.calls.now)) (open_calls c.args.calls.now 0) Goal c.args.start 0 (open_calls c.add_new-put.new.calls c.add_new-put.result.count) c.add_new-put.result.row c.add_new-put.result.full = rw (← c.goal.ensures.0, ← c.goal.ensures.1) c.add_new-put.ensures.call_put in put-at)) e refl refl) in begins) ((let none : c.add_new-put.result.full ≡ false = c.if-put.false in none)),
-        (let given-tables : (calls' answers' : List ℕ) → CallsClosed c.fill-run.new.calls c.fill-run.result.calls calls' → AnswersClosed c.fill-run.new.answers c.fill-run.result.answers answers' → c.fill-run.result.full ≡ false
+        λ z. (let begins : (e : c.add_new-put.result.full ≡ false) → Begins c.args.start (in_words c.add_new-put.new.calls c.add_new-put.result.count c.args.answers.now 0) = (λ e. first_begins _ (open_calls c.args.calls.now 0) (open_calls c.add_new-put.new.calls c.add_new-put.result.count) (packed_answers c.args.answers.now 0) _ _ ((let put_at : CallPut (room call_width (length c.args.calls.now)) (open_calls c.args.calls.now 0) Goal c.args.start 0 (open_calls c.add_new-put.new.calls c.add_new-put.result.count) c.add_new-put.result.row c.add_new-put.result.full = rw (← c.goal.ensures.0, ← c.goal.ensures.1) c.add_new-put.ensures.call_put in put_at)) e refl refl) in begins) ((let none : c.add_new-put.result.full ≡ false = c.if-put.false in none)),
+        (let given_tables : (calls' answers' : List ℕ) → CallsClosed c.fill-run.new.calls c.fill-run.result.calls calls' → AnswersClosed c.fill-run.new.answers c.fill-run.result.answers answers' → c.fill-run.result.full ≡ false
             → Tabulated c.args.rules.now c.args.goal.now ((Goal, c.args.start) ∷ []) 0 (in_words c.add_new-put.new.calls c.add_new-put.result.count c.args.answers.now 0)
             c.args.calls.now c.args.answers.now calls' answers' c.fill-run.result.full c.fill-run.result.calls c.fill-run.result.answers c.fill-run.result.rounds = (λ calls' answers' g a e. tabulated {list = c.args.list.now} {list₁ = c.fill-run.new.list} (proper_of c.args.rules.now c.args.goal.now c.requires.by_index.2) e ((let filled_in : Filled (bodies_of c.args.rules.now c.args.goal.now) (room answer_width (length c.args.answers.now)) ((Goal, c.args.start) ∷ []) 0 (in_words c.add_new-put.new.calls c.add_new-put.result.count c.args.answers.now 0)
             c.args.calls.now c.args.list.now c.args.answers.now c.fill-run.new.calls c.fill-run.new.list c.fill-run.new.answers c.fill-run.result.full c.fill-run.result.calls c.fill-run.result.answers c.fill-run.result.rounds = let F = c.fill-run.ensures ((Goal, c.args.start) ∷ []) ((let first : (e : c.add_new-put.result.full ≡ false) → Valid (bodies_of c.args.rules.now c.args.goal.now) (Among ((Goal, c.args.start) ∷ []))
-            (in_words c.add_new-put.new.calls c.add_new-put.result.count c.args.answers.now 0) = (λ e. first_valid (bodies_of c.args.rules.now c.args.goal.now) Goal c.args.start _ 0 (open_calls c.args.calls.now 0) (open_calls c.add_new-put.new.calls c.add_new-put.result.count) (packed_answers c.args.answers.now 0) _ _ ((let put-at : CallPut (room call_width (length c.args.calls.now)) (open_calls c.args.calls.now 0) Goal c.args.start 0 (open_calls c.add_new-put.new.calls c.add_new-put.result.count) c.add_new-put.result.row c.add_new-put.result.full = rw (← c.goal.ensures.0, ← c.goal.ensures.1) c.add_new-put.ensures.call_put in put-at)) e refl refl) in first) ((let none : c.add_new-put.result.full ≡ false = c.if-put.false in none))) in
+            (in_words c.add_new-put.new.calls c.add_new-put.result.count c.args.answers.now 0) = (λ e. first_valid (bodies_of c.args.rules.now c.args.goal.now) Goal c.args.start _ 0 (open_calls c.args.calls.now 0) (open_calls c.add_new-put.new.calls c.add_new-put.result.count) (packed_answers c.args.answers.now 0) _ _ ((let put_at : CallPut (room call_width (length c.args.calls.now)) (open_calls c.args.calls.now 0) Goal c.args.start 0 (open_calls c.add_new-put.new.calls c.add_new-put.result.count) c.add_new-put.result.row c.add_new-put.result.full = rw (← c.goal.ensures.0, ← c.goal.ensures.1) c.add_new-put.ensures.call_put in put_at)) e refl refl) in first) ((let none : c.add_new-put.result.full ≡ false = c.if-put.false in none))) in
             let s = c.add_new-put.ensures.calls_kept in
             subst (λ (most : ℕ). Filled (bodies_of c.args.rules.now c.args.goal.now) most ((Goal, c.args.start) ∷ []) 0 (in_words c.add_new-put.new.calls c.add_new-put.result.count c.args.answers.now 0)
             c.args.calls.now c.args.list.now c.args.answers.now c.fill-run.new.calls c.fill-run.new.list c.fill-run.new.answers c.fill-run.result.full c.fill-run.result.calls c.fill-run.result.answers c.fill-run.result.rounds)
             c.room_of-most.ensures
-            (record { calls_long = F.calls_long ∙ s.long; list_long = F.list_long ∙ s.list_long; answers_long = F.answers_long; kept = F.kept; indexed = F.indexed; closed = F.closed; rounded = F.rounded; outgrown = λ z. rw s.long at (F.outgrown z) }) in filled_in)) g a) in given-tables) _ _ G.calls_closed.0 G.calls_closed.1 e,
+            (record { calls_long = F.calls_long ∙ s.long; list_long = F.list_long ∙ s.list_long; answers_long = F.answers_long; kept = F.kept; indexed = F.indexed; closed = F.closed; rounded = F.rounded; outgrown = λ z. rw s.long at (F.outgrown z) }) in filled_in)) g a) in given_tables) _ _ G.calls_closed.0 G.calls_closed.1 e,
       );
       list_len_unchanged = (
         G.calls_listed.0.long ∙ ((let filled_in : Filled (bodies_of c.args.rules.now c.args.goal.now) (room answer_width (length c.args.answers.now)) ((Goal, c.args.start) ∷ []) 0 (in_words c.add_new-put.new.calls c.add_new-put.result.count c.args.answers.now 0)
             c.args.calls.now c.args.list.now c.args.answers.now c.fill-run.new.calls c.fill-run.new.list c.fill-run.new.answers c.fill-run.result.full c.fill-run.result.calls c.fill-run.result.answers c.fill-run.result.rounds = let F = c.fill-run.ensures ((Goal, c.args.start) ∷ []) ((let first : (e : c.add_new-put.result.full ≡ false) → Valid (bodies_of c.args.rules.now c.args.goal.now) (Among ((Goal, c.args.start) ∷ []))
-            (in_words c.add_new-put.new.calls c.add_new-put.result.count c.args.answers.now 0) = (λ e. first_valid (bodies_of c.args.rules.now c.args.goal.now) Goal c.args.start _ 0 (open_calls c.args.calls.now 0) (open_calls c.add_new-put.new.calls c.add_new-put.result.count) (packed_answers c.args.answers.now 0) _ _ ((let put-at : CallPut (room call_width (length c.args.calls.now)) (open_calls c.args.calls.now 0) Goal c.args.start 0 (open_calls c.add_new-put.new.calls c.add_new-put.result.count) c.add_new-put.result.row c.add_new-put.result.full = rw (← c.goal.ensures.0, ← c.goal.ensures.1) c.add_new-put.ensures.call_put in put-at)) e refl refl) in first) ((let none : c.add_new-put.result.full ≡ false = c.if-put.false in none))) in
+            (in_words c.add_new-put.new.calls c.add_new-put.result.count c.args.answers.now 0) = (λ e. first_valid (bodies_of c.args.rules.now c.args.goal.now) Goal c.args.start _ 0 (open_calls c.args.calls.now 0) (open_calls c.add_new-put.new.calls c.add_new-put.result.count) (packed_answers c.args.answers.now 0) _ _ ((let put_at : CallPut (room call_width (length c.args.calls.now)) (open_calls c.args.calls.now 0) Goal c.args.start 0 (open_calls c.add_new-put.new.calls c.add_new-put.result.count) c.add_new-put.result.row c.add_new-put.result.full = rw (← c.goal.ensures.0, ← c.goal.ensures.1) c.add_new-put.ensures.call_put in put_at)) e refl refl) in first) ((let none : c.add_new-put.result.full ≡ false = c.if-put.false in none))) in
             let s = c.add_new-put.ensures.calls_kept in
             subst (λ (most : ℕ). Filled (bodies_of c.args.rules.now c.args.goal.now) most ((Goal, c.args.start) ∷ []) 0 (in_words c.add_new-put.new.calls c.add_new-put.result.count c.args.answers.now 0)
             c.args.calls.now c.args.list.now c.args.answers.now c.fill-run.new.calls c.fill-run.new.list c.fill-run.new.answers c.fill-run.result.full c.fill-run.result.calls c.fill-run.result.answers c.fill-run.result.rounds)
@@ -133,7 +133,7 @@ returns c =
             (record { calls_long = F.calls_long ∙ s.long; list_long = F.list_long ∙ s.list_long; answers_long = F.answers_long; kept = F.kept; indexed = F.indexed; closed = F.closed; rounded = F.rounded; outgrown = λ z. rw s.long at (F.outgrown z) }) in filled_in)).list_long,
         λ z. rw ((let filled_in : Filled (bodies_of c.args.rules.now c.args.goal.now) (room answer_width (length c.args.answers.now)) ((Goal, c.args.start) ∷ []) 0 (in_words c.add_new-put.new.calls c.add_new-put.result.count c.args.answers.now 0)
             c.args.calls.now c.args.list.now c.args.answers.now c.fill-run.new.calls c.fill-run.new.list c.fill-run.new.answers c.fill-run.result.full c.fill-run.result.calls c.fill-run.result.answers c.fill-run.result.rounds = let F = c.fill-run.ensures ((Goal, c.args.start) ∷ []) ((let first : (e : c.add_new-put.result.full ≡ false) → Valid (bodies_of c.args.rules.now c.args.goal.now) (Among ((Goal, c.args.start) ∷ []))
-            (in_words c.add_new-put.new.calls c.add_new-put.result.count c.args.answers.now 0) = (λ e. first_valid (bodies_of c.args.rules.now c.args.goal.now) Goal c.args.start _ 0 (open_calls c.args.calls.now 0) (open_calls c.add_new-put.new.calls c.add_new-put.result.count) (packed_answers c.args.answers.now 0) _ _ ((let put-at : CallPut (room call_width (length c.args.calls.now)) (open_calls c.args.calls.now 0) Goal c.args.start 0 (open_calls c.add_new-put.new.calls c.add_new-put.result.count) c.add_new-put.result.row c.add_new-put.result.full = rw (← c.goal.ensures.0, ← c.goal.ensures.1) c.add_new-put.ensures.call_put in put-at)) e refl refl) in first) ((let none : c.add_new-put.result.full ≡ false = c.if-put.false in none))) in
+            (in_words c.add_new-put.new.calls c.add_new-put.result.count c.args.answers.now 0) = (λ e. first_valid (bodies_of c.args.rules.now c.args.goal.now) Goal c.args.start _ 0 (open_calls c.args.calls.now 0) (open_calls c.add_new-put.new.calls c.add_new-put.result.count) (packed_answers c.args.answers.now 0) _ _ ((let put_at : CallPut (room call_width (length c.args.calls.now)) (open_calls c.args.calls.now 0) Goal c.args.start 0 (open_calls c.add_new-put.new.calls c.add_new-put.result.count) c.add_new-put.result.row c.add_new-put.result.full = rw (← c.goal.ensures.0, ← c.goal.ensures.1) c.add_new-put.ensures.call_put in put_at)) e refl refl) in first) ((let none : c.add_new-put.result.full ≡ false = c.if-put.false in none))) in
             let s = c.add_new-put.ensures.calls_kept in
             subst (λ (most : ℕ). Filled (bodies_of c.args.rules.now c.args.goal.now) most ((Goal, c.args.start) ∷ []) 0 (in_words c.add_new-put.new.calls c.add_new-put.result.count c.args.answers.now 0)
             c.args.calls.now c.args.list.now c.args.answers.now c.fill-run.new.calls c.fill-run.new.list c.fill-run.new.answers c.fill-run.result.full c.fill-run.result.calls c.fill-run.result.answers c.fill-run.result.rounds)

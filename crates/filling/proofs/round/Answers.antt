@@ -37,15 +37,15 @@ past_words : {t : Tables} {notes : Uses} {seen known : ℕ} {warm : Bool} {row :
 past_words {t} {notes} {seen} {known} {warm} {row} e p = subst (λ (w : List ℕ). Past t notes seen known warm row w) (sym e) p
 
 -- the rules up to another are of other actions
-rules-past : (bodies : Bodies) (Root : ℕ → State → Type 0) (number : ℕ → ℕ) {first walked seen low high top old round rows known row rule rule' : ℕ} {warm : Bool} {begun : Begin} {t : Tables} {uses : Uses}
+rules_past : (bodies : Bodies) (Root : ℕ → State → Type 0) (number : ℕ → ℕ) {first walked seen low high top old round rows known row rule rule' : ℕ} {warm : Bool} {begun : Begin} {t : Tables} {uses : Uses}
     → Rules bodies Root number first walked seen low high top old warm round rows known row rule begun t uses → ((k : ℕ) → rule ≤ k → k < rule' → bodies.fits (number k) (t.calls.action row) ≡ true → ⊥)
     → Rules bodies Root number first walked seen low high top old warm round rows known row rule' begun t uses
-rules-past bodies Root number {rule = rule} R n = record { rows_closed = R.rows_closed; rules_closed = λ k h. elim (dec_lt k rule) [ yes l ↦ R.rules_closed k l | no m ↦ (λ e. absurd (n k (omega arith) h e)) ] }
+rules_past bodies Root number {rule = rule} R n = record { rows_closed = R.rows_closed; rules_closed = λ k h. elim (dec_lt k rule) [ yes l ↦ R.rules_closed k l | no m ↦ (λ e. absurd (n k (omega arith) h e)) ] }
 
 -- a new walk's number changes marks alone
-rules-marked : {bodies : Bodies} {Root : ℕ → State → Type 0} {number : ℕ → ℕ} {first walked seen low high top old : ℕ} {warm : Bool} {round rows known row rule : ℕ} {begun : Begin} {t t' : Tables} {uses uses' : Uses} → t' ≡ t → uses' ≡ uses
+rules_marked : {bodies : Bodies} {Root : ℕ → State → Type 0} {number : ℕ → ℕ} {first walked seen low high top old : ℕ} {warm : Bool} {round rows known row rule : ℕ} {begun : Begin} {t t' : Tables} {uses uses' : Uses} → t' ≡ t → uses' ≡ uses
     → Rules bodies Root number first walked seen low high top old warm round rows known row rule begun t uses → Rules bodies Root number first walked seen low high top old warm round rows known row rule begun t' uses'
-rules-marked p q R = rw (p, q) R
+rules_marked p q R = rw (p, q) R
 
 pub span_of-span-requires : goal.span_of-span-requires
 span_of-span-requires c =
@@ -131,7 +131,7 @@ loop-rule-init c =
       rule_in = c.first_body-from.ensures.0;
       rows_in = l.rows_in;
       known_in = l.known_in;
-      closed = λ roots begun R. rules-past _ _ _ (rules_start _ _ _ R) (λ k h l e. true_not_false (sym (rw (← c.action_of-own.ensures) at e) ∙ c.first_body-from.ensures.1 k l));
+      closed = λ roots begun R. rules_past _ _ _ (rules_start _ _ _ R) (λ k h l e. true_not_false (sym (rw (← c.action_of-own.ensures) at e) ∙ c.first_body-from.ensures.1 k l));
     }
 
 pub action_of-action-requires : goal.action_of-action-requires
@@ -209,20 +209,20 @@ turn-turn-requires c =
         _,
         (let going_at : Going ((let over : Bodies = bodies_with c.args.rules.now c.args.goals.first c.args.goals.second c.args.goal.now c.args.second.now in over)) (Among c.requires.standing.roots) (in_words c.next_walk-walk.new.calls c.loop-rule.n c.loop-rule.answers c.loop-rule.m)
             c.args.stage.answers c.number_of-number.result c.loop-row.row c.next_walk-walk.result (before c.args.first c.span_of-span.result.old c.args.stage.seen c.span_of-span.result.warm c.args.stage.round (begin (in_words c.round.calls c.round.n c.round.answers c.round.m) (uses_in c.round.calls c.round.list))) c.steps_for-body.result.now
-            (in_words c.loop-after.calls c.loop-after.n c.loop-after.answers c.loop-after.m) (mark_words c.loop-after.calls) (uses_in c.loop-after.calls c.loop-after.list) c.loop-after.chosen c.loop-after.rest.now (spot_of c.loop-after.spot) = let R = (let rules-at : (rs : List (ℕ × ℕ)) → (let First : List (ℕ × ℕ) → Type 0 = (λ roots. Round ((let over : Bodies = bodies_with c.args.rules.now c.args.goals.first c.args.goals.second c.args.goal.now c.args.second.now in over)) (Among roots) c.args.first c.args.stage.walked c.args.stage.seen
+            (in_words c.loop-after.calls c.loop-after.n c.loop-after.answers c.loop-after.m) (mark_words c.loop-after.calls) (uses_in c.loop-after.calls c.loop-after.list) c.loop-after.chosen c.loop-after.rest.now (spot_of c.loop-after.spot) = let R = (let rules_at : (rs : List (ℕ × ℕ)) → (let First : List (ℕ × ℕ) → Type 0 = (λ roots. Round ((let over : Bodies = bodies_with c.args.rules.now c.args.goals.first c.args.goals.second c.args.goal.now c.args.second.now in over)) (Among roots) c.args.first c.args.stage.walked c.args.stage.seen
             (in_words c.args.calls.now c.args.stage.calls c.args.answers.now c.args.stage.answers) (uses_in c.args.calls.now c.args.list.now)) in First) rs
             → Rules ((let over : Bodies = bodies_with c.args.rules.now c.args.goals.first c.args.goals.second c.args.goal.now c.args.second.now in over)) (Among rs) (number_at (length c.args.rules.now / rule_width)) c.args.first c.args.stage.walked c.args.stage.seen c.span_of-span.result.low c.span_of-span.result.high c.span_of-span.result.top c.span_of-span.result.old c.span_of-span.result.warm
-            c.args.stage.round c.args.stage.calls c.args.stage.answers c.loop-row.row c.loop-rule.rule (begin (in_words c.round.calls c.round.n c.round.answers c.round.m) (uses_in c.round.calls c.round.list)) (in_words c.next_walk-walk.new.calls c.loop-rule.n c.loop-rule.answers c.loop-rule.m) (uses_in c.next_walk-walk.new.calls c.loop-rule.list) = (λ rs S. (let marked-at : (rs : List (ℕ × ℕ)) (begun : Begin) → Rules ((let over : Bodies = bodies_with c.args.rules.now c.args.goals.first c.args.goals.second c.args.goal.now c.args.second.now in over)) (Among rs) (number_at (length c.args.rules.now / rule_width)) c.args.first c.args.stage.walked c.args.stage.seen c.span_of-span.result.low c.span_of-span.result.high c.span_of-span.result.top c.span_of-span.result.old c.span_of-span.result.warm
+            c.args.stage.round c.args.stage.calls c.args.stage.answers c.loop-row.row c.loop-rule.rule (begin (in_words c.round.calls c.round.n c.round.answers c.round.m) (uses_in c.round.calls c.round.list)) (in_words c.next_walk-walk.new.calls c.loop-rule.n c.loop-rule.answers c.loop-rule.m) (uses_in c.next_walk-walk.new.calls c.loop-rule.list) = (λ rs S. (let marked_at : (rs : List (ℕ × ℕ)) (begun : Begin) → Rules ((let over : Bodies = bodies_with c.args.rules.now c.args.goals.first c.args.goals.second c.args.goal.now c.args.second.now in over)) (Among rs) (number_at (length c.args.rules.now / rule_width)) c.args.first c.args.stage.walked c.args.stage.seen c.span_of-span.result.low c.span_of-span.result.high c.span_of-span.result.top c.span_of-span.result.old c.span_of-span.result.warm
             c.args.stage.round c.args.stage.calls c.args.stage.answers c.loop-row.row c.loop-rule.rule begun (in_words c.loop-rule.calls c.loop-rule.n c.loop-rule.answers c.loop-rule.m) (uses_in c.loop-rule.calls c.loop-rule.list)
             → Rules ((let over : Bodies = bodies_with c.args.rules.now c.args.goals.first c.args.goals.second c.args.goal.now c.args.second.now in over)) (Among rs) (number_at (length c.args.rules.now / rule_width)) c.args.first c.args.stage.walked c.args.stage.seen c.span_of-span.result.low c.span_of-span.result.high c.span_of-span.result.top c.span_of-span.result.old c.span_of-span.result.warm
-            c.args.stage.round c.args.stage.calls c.args.stage.answers c.loop-row.row c.loop-rule.rule begun (in_words c.next_walk-walk.new.calls c.loop-rule.n c.loop-rule.answers c.loop-rule.m) (uses_in c.next_walk-walk.new.calls c.loop-rule.list) = (λ rs begun R. rules-marked (ap (λ (z : Calls). tables z (packed_answers c.loop-rule.answers c.loop-rule.m)) (alone_calls c.next_walk-walk.ensures.1 c.loop-rule.n)) (marked_uses c.next_walk-walk.ensures.1 c.loop-rule.list) R) in marked-at) rs _ (c.loop-rule.invariant.closed rs _ ((let rows_at : (rs : List (ℕ × ℕ)) → (let First : List (ℕ × ℕ) → Type 0 = (λ roots. Round ((let over : Bodies = bodies_with c.args.rules.now c.args.goals.first c.args.goals.second c.args.goal.now c.args.second.now in over)) (Among roots) c.args.first c.args.stage.walked c.args.stage.seen
+            c.args.stage.round c.args.stage.calls c.args.stage.answers c.loop-row.row c.loop-rule.rule begun (in_words c.next_walk-walk.new.calls c.loop-rule.n c.loop-rule.answers c.loop-rule.m) (uses_in c.next_walk-walk.new.calls c.loop-rule.list) = (λ rs begun R. rules_marked (ap (λ (z : Calls). tables z (packed_answers c.loop-rule.answers c.loop-rule.m)) (alone_calls c.next_walk-walk.ensures.1 c.loop-rule.n)) (marked_uses c.next_walk-walk.ensures.1 c.loop-rule.list) R) in marked_at) rs _ (c.loop-rule.invariant.closed rs _ ((let rows_at : (rs : List (ℕ × ℕ)) → (let First : List (ℕ × ℕ) → Type 0 = (λ roots. Round ((let over : Bodies = bodies_with c.args.rules.now c.args.goals.first c.args.goals.second c.args.goal.now c.args.second.now in over)) (Among roots) c.args.first c.args.stage.walked c.args.stage.seen
             (in_words c.args.calls.now c.args.stage.calls c.args.answers.now c.args.stage.answers) (uses_in c.args.calls.now c.args.list.now)) in First) rs
             → Rows ((let over : Bodies = bodies_with c.args.rules.now c.args.goals.first c.args.goals.second c.args.goal.now c.args.second.now in over)) (Among rs) c.args.first c.args.stage.walked c.args.stage.seen c.span_of-span.result.low c.span_of-span.result.high c.span_of-span.result.top c.span_of-span.result.old c.span_of-span.result.warm
             c.args.stage.round c.args.stage.calls c.args.stage.answers c.loop-row.row (begin (in_words c.round.calls c.round.n c.round.answers c.round.m) (uses_in c.round.calls c.round.list)) (in_words c.loop-row.calls c.loop-row.n c.loop-row.answers c.loop-row.m) (uses_in c.loop-row.calls c.loop-row.list) = (λ rs S. let r = c.round.invariant in
             let b = c.span_of-span.ensures.begun in
             let (S', W) = r.closed rs (round_kept _ _ (kept_same b.low) S) b.lit in
-            c.loop-row.invariant.closed rs S' (subst (λ (k : ℕ). (x : ℕ) → x < c.span_of-span.result.old → (x < c.args.stage.walked) × Lit (in_words c.round.calls c.round.n c.round.answers c.round.m).answers (uses_in c.round.calls c.round.list) c.args.stage.seen k c.span_of-span.result.warm) r.known_all W)) in rows_at) rs S))) in rules-at) c.requires.standing.roots c.requires.standing.round in
-            c.loop-after.invariant.going c.requires.standing.roots _ ((let given-at : (rs : List (ℕ × ℕ)) (begun : Begin) → Rules ((let over : Bodies = bodies_with c.args.rules.now c.args.goals.first c.args.goals.second c.args.goal.now c.args.second.now in over)) (Among rs) (number_at (length c.args.rules.now / rule_width)) c.args.first c.args.stage.walked c.args.stage.seen c.span_of-span.result.low c.span_of-span.result.high c.span_of-span.result.top c.span_of-span.result.old c.span_of-span.result.warm
+            c.loop-row.invariant.closed rs S' (subst (λ (k : ℕ). (x : ℕ) → x < c.span_of-span.result.old → (x < c.args.stage.walked) × Lit (in_words c.round.calls c.round.n c.round.answers c.round.m).answers (uses_in c.round.calls c.round.list) c.args.stage.seen k c.span_of-span.result.warm) r.known_all W)) in rows_at) rs S))) in rules_at) c.requires.standing.roots c.requires.standing.round in
+            c.loop-after.invariant.going c.requires.standing.roots _ ((let given_at : (rs : List (ℕ × ℕ)) (begun : Begin) → Rules ((let over : Bodies = bodies_with c.args.rules.now c.args.goals.first c.args.goals.second c.args.goal.now c.args.second.now in over)) (Among rs) (number_at (length c.args.rules.now / rule_width)) c.args.first c.args.stage.walked c.args.stage.seen c.span_of-span.result.low c.span_of-span.result.high c.span_of-span.result.top c.span_of-span.result.old c.span_of-span.result.warm
             c.args.stage.round c.args.stage.calls c.args.stage.answers c.loop-row.row c.loop-rule.rule begun (in_words c.next_walk-walk.new.calls c.loop-rule.n c.loop-rule.answers c.loop-rule.m) (uses_in c.next_walk-walk.new.calls c.loop-rule.list)
             → Given ((let over : Bodies = bodies_with c.args.rules.now c.args.goals.first c.args.goals.second c.args.goal.now c.args.second.now in over)) (Among rs) (in_words c.next_walk-walk.new.calls c.loop-rule.n c.loop-rule.answers c.loop-rule.m)
             c.args.stage.answers c.number_of-number.result c.loop-row.row (before c.args.first c.span_of-span.result.old c.args.stage.seen c.span_of-span.result.warm c.args.stage.round begun) c.steps_for-body.result.now = (λ rs begun R. record {
@@ -237,7 +237,7 @@ turn-turn-requires c =
               row_last = λ x h l. R.rows_closed.latest x (omega (arith, R.rows_closed.since.all_known)) l;
               row_old = omega (arith, R.rows_closed.base_rows, c.loop-row-test.true, c.span_of-span.ensures.spans.top_in);
               since = R.rows_closed.since;
-            }) in given-at) c.requires.standing.roots _ R) R.rows_closed.noted in going_at),
+            }) in given_at) c.requires.standing.roots _ R) R.rows_closed.noted in going_at),
       );
     }
 
@@ -247,20 +247,20 @@ slice_bounds-rest-count c =
       arith,
       (rw c.in-On.is at (c.turn-turn.ensures.leaving _ _ _ _ ((let going_at : Going ((let over : Bodies = bodies_with c.args.rules.now c.args.goals.first c.args.goals.second c.args.goal.now c.args.second.now in over)) (Among c.requires.standing.roots) (in_words c.next_walk-walk.new.calls c.loop-rule.n c.loop-rule.answers c.loop-rule.m)
           c.args.stage.answers c.number_of-number.result c.loop-row.row c.next_walk-walk.result (before c.args.first c.span_of-span.result.old c.args.stage.seen c.span_of-span.result.warm c.args.stage.round (begin (in_words c.round.calls c.round.n c.round.answers c.round.m) (uses_in c.round.calls c.round.list))) c.steps_for-body.result.now
-          (in_words c.loop-after.calls c.loop-after.n c.loop-after.answers c.loop-after.m) (mark_words c.loop-after.calls) (uses_in c.loop-after.calls c.loop-after.list) c.loop-after.chosen c.loop-after.rest.now (spot_of c.loop-after.spot) = let R = (let rules-at : (rs : List (ℕ × ℕ)) → (let First : List (ℕ × ℕ) → Type 0 = (λ roots. Round ((let over : Bodies = bodies_with c.args.rules.now c.args.goals.first c.args.goals.second c.args.goal.now c.args.second.now in over)) (Among roots) c.args.first c.args.stage.walked c.args.stage.seen
+          (in_words c.loop-after.calls c.loop-after.n c.loop-after.answers c.loop-after.m) (mark_words c.loop-after.calls) (uses_in c.loop-after.calls c.loop-after.list) c.loop-after.chosen c.loop-after.rest.now (spot_of c.loop-after.spot) = let R = (let rules_at : (rs : List (ℕ × ℕ)) → (let First : List (ℕ × ℕ) → Type 0 = (λ roots. Round ((let over : Bodies = bodies_with c.args.rules.now c.args.goals.first c.args.goals.second c.args.goal.now c.args.second.now in over)) (Among roots) c.args.first c.args.stage.walked c.args.stage.seen
           (in_words c.args.calls.now c.args.stage.calls c.args.answers.now c.args.stage.answers) (uses_in c.args.calls.now c.args.list.now)) in First) rs
           → Rules ((let over : Bodies = bodies_with c.args.rules.now c.args.goals.first c.args.goals.second c.args.goal.now c.args.second.now in over)) (Among rs) (number_at (length c.args.rules.now / rule_width)) c.args.first c.args.stage.walked c.args.stage.seen c.span_of-span.result.low c.span_of-span.result.high c.span_of-span.result.top c.span_of-span.result.old c.span_of-span.result.warm
-          c.args.stage.round c.args.stage.calls c.args.stage.answers c.loop-row.row c.loop-rule.rule (begin (in_words c.round.calls c.round.n c.round.answers c.round.m) (uses_in c.round.calls c.round.list)) (in_words c.next_walk-walk.new.calls c.loop-rule.n c.loop-rule.answers c.loop-rule.m) (uses_in c.next_walk-walk.new.calls c.loop-rule.list) = (λ rs S. (let marked-at : (rs : List (ℕ × ℕ)) (begun : Begin) → Rules ((let over : Bodies = bodies_with c.args.rules.now c.args.goals.first c.args.goals.second c.args.goal.now c.args.second.now in over)) (Among rs) (number_at (length c.args.rules.now / rule_width)) c.args.first c.args.stage.walked c.args.stage.seen c.span_of-span.result.low c.span_of-span.result.high c.span_of-span.result.top c.span_of-span.result.old c.span_of-span.result.warm
+          c.args.stage.round c.args.stage.calls c.args.stage.answers c.loop-row.row c.loop-rule.rule (begin (in_words c.round.calls c.round.n c.round.answers c.round.m) (uses_in c.round.calls c.round.list)) (in_words c.next_walk-walk.new.calls c.loop-rule.n c.loop-rule.answers c.loop-rule.m) (uses_in c.next_walk-walk.new.calls c.loop-rule.list) = (λ rs S. (let marked_at : (rs : List (ℕ × ℕ)) (begun : Begin) → Rules ((let over : Bodies = bodies_with c.args.rules.now c.args.goals.first c.args.goals.second c.args.goal.now c.args.second.now in over)) (Among rs) (number_at (length c.args.rules.now / rule_width)) c.args.first c.args.stage.walked c.args.stage.seen c.span_of-span.result.low c.span_of-span.result.high c.span_of-span.result.top c.span_of-span.result.old c.span_of-span.result.warm
           c.args.stage.round c.args.stage.calls c.args.stage.answers c.loop-row.row c.loop-rule.rule begun (in_words c.loop-rule.calls c.loop-rule.n c.loop-rule.answers c.loop-rule.m) (uses_in c.loop-rule.calls c.loop-rule.list)
           → Rules ((let over : Bodies = bodies_with c.args.rules.now c.args.goals.first c.args.goals.second c.args.goal.now c.args.second.now in over)) (Among rs) (number_at (length c.args.rules.now / rule_width)) c.args.first c.args.stage.walked c.args.stage.seen c.span_of-span.result.low c.span_of-span.result.high c.span_of-span.result.top c.span_of-span.result.old c.span_of-span.result.warm
-          c.args.stage.round c.args.stage.calls c.args.stage.answers c.loop-row.row c.loop-rule.rule begun (in_words c.next_walk-walk.new.calls c.loop-rule.n c.loop-rule.answers c.loop-rule.m) (uses_in c.next_walk-walk.new.calls c.loop-rule.list) = (λ rs begun R. rules-marked (ap (λ (z : Calls). tables z (packed_answers c.loop-rule.answers c.loop-rule.m)) (alone_calls c.next_walk-walk.ensures.1 c.loop-rule.n)) (marked_uses c.next_walk-walk.ensures.1 c.loop-rule.list) R) in marked-at) rs _ (c.loop-rule.invariant.closed rs _ ((let rows_at : (rs : List (ℕ × ℕ)) → (let First : List (ℕ × ℕ) → Type 0 = (λ roots. Round ((let over : Bodies = bodies_with c.args.rules.now c.args.goals.first c.args.goals.second c.args.goal.now c.args.second.now in over)) (Among roots) c.args.first c.args.stage.walked c.args.stage.seen
+          c.args.stage.round c.args.stage.calls c.args.stage.answers c.loop-row.row c.loop-rule.rule begun (in_words c.next_walk-walk.new.calls c.loop-rule.n c.loop-rule.answers c.loop-rule.m) (uses_in c.next_walk-walk.new.calls c.loop-rule.list) = (λ rs begun R. rules_marked (ap (λ (z : Calls). tables z (packed_answers c.loop-rule.answers c.loop-rule.m)) (alone_calls c.next_walk-walk.ensures.1 c.loop-rule.n)) (marked_uses c.next_walk-walk.ensures.1 c.loop-rule.list) R) in marked_at) rs _ (c.loop-rule.invariant.closed rs _ ((let rows_at : (rs : List (ℕ × ℕ)) → (let First : List (ℕ × ℕ) → Type 0 = (λ roots. Round ((let over : Bodies = bodies_with c.args.rules.now c.args.goals.first c.args.goals.second c.args.goal.now c.args.second.now in over)) (Among roots) c.args.first c.args.stage.walked c.args.stage.seen
           (in_words c.args.calls.now c.args.stage.calls c.args.answers.now c.args.stage.answers) (uses_in c.args.calls.now c.args.list.now)) in First) rs
           → Rows ((let over : Bodies = bodies_with c.args.rules.now c.args.goals.first c.args.goals.second c.args.goal.now c.args.second.now in over)) (Among rs) c.args.first c.args.stage.walked c.args.stage.seen c.span_of-span.result.low c.span_of-span.result.high c.span_of-span.result.top c.span_of-span.result.old c.span_of-span.result.warm
           c.args.stage.round c.args.stage.calls c.args.stage.answers c.loop-row.row (begin (in_words c.round.calls c.round.n c.round.answers c.round.m) (uses_in c.round.calls c.round.list)) (in_words c.loop-row.calls c.loop-row.n c.loop-row.answers c.loop-row.m) (uses_in c.loop-row.calls c.loop-row.list) = (λ rs S. let r = c.round.invariant in
           let b = c.span_of-span.ensures.begun in
           let (S', W) = r.closed rs (round_kept _ _ (kept_same b.low) S) b.lit in
-          c.loop-row.invariant.closed rs S' (subst (λ (k : ℕ). (x : ℕ) → x < c.span_of-span.result.old → (x < c.args.stage.walked) × Lit (in_words c.round.calls c.round.n c.round.answers c.round.m).answers (uses_in c.round.calls c.round.list) c.args.stage.seen k c.span_of-span.result.warm) r.known_all W)) in rows_at) rs S))) in rules-at) c.requires.standing.roots c.requires.standing.round in
-          c.loop-after.invariant.going c.requires.standing.roots _ ((let given-at : (rs : List (ℕ × ℕ)) (begun : Begin) → Rules ((let over : Bodies = bodies_with c.args.rules.now c.args.goals.first c.args.goals.second c.args.goal.now c.args.second.now in over)) (Among rs) (number_at (length c.args.rules.now / rule_width)) c.args.first c.args.stage.walked c.args.stage.seen c.span_of-span.result.low c.span_of-span.result.high c.span_of-span.result.top c.span_of-span.result.old c.span_of-span.result.warm
+          c.loop-row.invariant.closed rs S' (subst (λ (k : ℕ). (x : ℕ) → x < c.span_of-span.result.old → (x < c.args.stage.walked) × Lit (in_words c.round.calls c.round.n c.round.answers c.round.m).answers (uses_in c.round.calls c.round.list) c.args.stage.seen k c.span_of-span.result.warm) r.known_all W)) in rows_at) rs S))) in rules_at) c.requires.standing.roots c.requires.standing.round in
+          c.loop-after.invariant.going c.requires.standing.roots _ ((let given_at : (rs : List (ℕ × ℕ)) (begun : Begin) → Rules ((let over : Bodies = bodies_with c.args.rules.now c.args.goals.first c.args.goals.second c.args.goal.now c.args.second.now in over)) (Among rs) (number_at (length c.args.rules.now / rule_width)) c.args.first c.args.stage.walked c.args.stage.seen c.span_of-span.result.low c.span_of-span.result.high c.span_of-span.result.top c.span_of-span.result.old c.span_of-span.result.warm
           c.args.stage.round c.args.stage.calls c.args.stage.answers c.loop-row.row c.loop-rule.rule begun (in_words c.next_walk-walk.new.calls c.loop-rule.n c.loop-rule.answers c.loop-rule.m) (uses_in c.next_walk-walk.new.calls c.loop-rule.list)
           → Given ((let over : Bodies = bodies_with c.args.rules.now c.args.goals.first c.args.goals.second c.args.goal.now c.args.second.now in over)) (Among rs) (in_words c.next_walk-walk.new.calls c.loop-rule.n c.loop-rule.answers c.loop-rule.m)
           c.args.stage.answers c.number_of-number.result c.loop-row.row (before c.args.first c.span_of-span.result.old c.args.stage.seen c.span_of-span.result.warm c.args.stage.round begun) c.steps_for-body.result.now = (λ rs begun R. record {
@@ -275,23 +275,23 @@ slice_bounds-rest-count c =
             row_last = λ x h l. R.rows_closed.latest x (omega (arith, R.rows_closed.since.all_known)) l;
             row_old = omega (arith, R.rows_closed.base_rows, c.loop-row-test.true, c.span_of-span.ensures.spans.top_in);
             since = R.rows_closed.since;
-          }) in given-at) c.requires.standing.roots _ R) R.rows_closed.noted in going_at)))).0.walking.inside,
+          }) in given_at) c.requires.standing.roots _ R) R.rows_closed.noted in going_at)))).0.walking.inside,
       going_fits _ _ _ _ _ _ _ _ _ ((let going_at : Going ((let over : Bodies = bodies_with c.args.rules.now c.args.goals.first c.args.goals.second c.args.goal.now c.args.second.now in over)) (Among c.requires.standing.roots) (in_words c.next_walk-walk.new.calls c.loop-rule.n c.loop-rule.answers c.loop-rule.m)
           c.args.stage.answers c.number_of-number.result c.loop-row.row c.next_walk-walk.result (before c.args.first c.span_of-span.result.old c.args.stage.seen c.span_of-span.result.warm c.args.stage.round (begin (in_words c.round.calls c.round.n c.round.answers c.round.m) (uses_in c.round.calls c.round.list))) c.steps_for-body.result.now
-          (in_words c.loop-after.calls c.loop-after.n c.loop-after.answers c.loop-after.m) (mark_words c.loop-after.calls) (uses_in c.loop-after.calls c.loop-after.list) c.loop-after.chosen c.loop-after.rest.now (spot_of c.loop-after.spot) = let R = (let rules-at : (rs : List (ℕ × ℕ)) → (let First : List (ℕ × ℕ) → Type 0 = (λ roots. Round ((let over : Bodies = bodies_with c.args.rules.now c.args.goals.first c.args.goals.second c.args.goal.now c.args.second.now in over)) (Among roots) c.args.first c.args.stage.walked c.args.stage.seen
+          (in_words c.loop-after.calls c.loop-after.n c.loop-after.answers c.loop-after.m) (mark_words c.loop-after.calls) (uses_in c.loop-after.calls c.loop-after.list) c.loop-after.chosen c.loop-after.rest.now (spot_of c.loop-after.spot) = let R = (let rules_at : (rs : List (ℕ × ℕ)) → (let First : List (ℕ × ℕ) → Type 0 = (λ roots. Round ((let over : Bodies = bodies_with c.args.rules.now c.args.goals.first c.args.goals.second c.args.goal.now c.args.second.now in over)) (Among roots) c.args.first c.args.stage.walked c.args.stage.seen
           (in_words c.args.calls.now c.args.stage.calls c.args.answers.now c.args.stage.answers) (uses_in c.args.calls.now c.args.list.now)) in First) rs
           → Rules ((let over : Bodies = bodies_with c.args.rules.now c.args.goals.first c.args.goals.second c.args.goal.now c.args.second.now in over)) (Among rs) (number_at (length c.args.rules.now / rule_width)) c.args.first c.args.stage.walked c.args.stage.seen c.span_of-span.result.low c.span_of-span.result.high c.span_of-span.result.top c.span_of-span.result.old c.span_of-span.result.warm
-          c.args.stage.round c.args.stage.calls c.args.stage.answers c.loop-row.row c.loop-rule.rule (begin (in_words c.round.calls c.round.n c.round.answers c.round.m) (uses_in c.round.calls c.round.list)) (in_words c.next_walk-walk.new.calls c.loop-rule.n c.loop-rule.answers c.loop-rule.m) (uses_in c.next_walk-walk.new.calls c.loop-rule.list) = (λ rs S. (let marked-at : (rs : List (ℕ × ℕ)) (begun : Begin) → Rules ((let over : Bodies = bodies_with c.args.rules.now c.args.goals.first c.args.goals.second c.args.goal.now c.args.second.now in over)) (Among rs) (number_at (length c.args.rules.now / rule_width)) c.args.first c.args.stage.walked c.args.stage.seen c.span_of-span.result.low c.span_of-span.result.high c.span_of-span.result.top c.span_of-span.result.old c.span_of-span.result.warm
+          c.args.stage.round c.args.stage.calls c.args.stage.answers c.loop-row.row c.loop-rule.rule (begin (in_words c.round.calls c.round.n c.round.answers c.round.m) (uses_in c.round.calls c.round.list)) (in_words c.next_walk-walk.new.calls c.loop-rule.n c.loop-rule.answers c.loop-rule.m) (uses_in c.next_walk-walk.new.calls c.loop-rule.list) = (λ rs S. (let marked_at : (rs : List (ℕ × ℕ)) (begun : Begin) → Rules ((let over : Bodies = bodies_with c.args.rules.now c.args.goals.first c.args.goals.second c.args.goal.now c.args.second.now in over)) (Among rs) (number_at (length c.args.rules.now / rule_width)) c.args.first c.args.stage.walked c.args.stage.seen c.span_of-span.result.low c.span_of-span.result.high c.span_of-span.result.top c.span_of-span.result.old c.span_of-span.result.warm
           c.args.stage.round c.args.stage.calls c.args.stage.answers c.loop-row.row c.loop-rule.rule begun (in_words c.loop-rule.calls c.loop-rule.n c.loop-rule.answers c.loop-rule.m) (uses_in c.loop-rule.calls c.loop-rule.list)
           → Rules ((let over : Bodies = bodies_with c.args.rules.now c.args.goals.first c.args.goals.second c.args.goal.now c.args.second.now in over)) (Among rs) (number_at (length c.args.rules.now / rule_width)) c.args.first c.args.stage.walked c.args.stage.seen c.span_of-span.result.low c.span_of-span.result.high c.span_of-span.result.top c.span_of-span.result.old c.span_of-span.result.warm
-          c.args.stage.round c.args.stage.calls c.args.stage.answers c.loop-row.row c.loop-rule.rule begun (in_words c.next_walk-walk.new.calls c.loop-rule.n c.loop-rule.answers c.loop-rule.m) (uses_in c.next_walk-walk.new.calls c.loop-rule.list) = (λ rs begun R. rules-marked (ap (λ (z : Calls). tables z (packed_answers c.loop-rule.answers c.loop-rule.m)) (alone_calls c.next_walk-walk.ensures.1 c.loop-rule.n)) (marked_uses c.next_walk-walk.ensures.1 c.loop-rule.list) R) in marked-at) rs _ (c.loop-rule.invariant.closed rs _ ((let rows_at : (rs : List (ℕ × ℕ)) → (let First : List (ℕ × ℕ) → Type 0 = (λ roots. Round ((let over : Bodies = bodies_with c.args.rules.now c.args.goals.first c.args.goals.second c.args.goal.now c.args.second.now in over)) (Among roots) c.args.first c.args.stage.walked c.args.stage.seen
+          c.args.stage.round c.args.stage.calls c.args.stage.answers c.loop-row.row c.loop-rule.rule begun (in_words c.next_walk-walk.new.calls c.loop-rule.n c.loop-rule.answers c.loop-rule.m) (uses_in c.next_walk-walk.new.calls c.loop-rule.list) = (λ rs begun R. rules_marked (ap (λ (z : Calls). tables z (packed_answers c.loop-rule.answers c.loop-rule.m)) (alone_calls c.next_walk-walk.ensures.1 c.loop-rule.n)) (marked_uses c.next_walk-walk.ensures.1 c.loop-rule.list) R) in marked_at) rs _ (c.loop-rule.invariant.closed rs _ ((let rows_at : (rs : List (ℕ × ℕ)) → (let First : List (ℕ × ℕ) → Type 0 = (λ roots. Round ((let over : Bodies = bodies_with c.args.rules.now c.args.goals.first c.args.goals.second c.args.goal.now c.args.second.now in over)) (Among roots) c.args.first c.args.stage.walked c.args.stage.seen
           (in_words c.args.calls.now c.args.stage.calls c.args.answers.now c.args.stage.answers) (uses_in c.args.calls.now c.args.list.now)) in First) rs
           → Rows ((let over : Bodies = bodies_with c.args.rules.now c.args.goals.first c.args.goals.second c.args.goal.now c.args.second.now in over)) (Among rs) c.args.first c.args.stage.walked c.args.stage.seen c.span_of-span.result.low c.span_of-span.result.high c.span_of-span.result.top c.span_of-span.result.old c.span_of-span.result.warm
           c.args.stage.round c.args.stage.calls c.args.stage.answers c.loop-row.row (begin (in_words c.round.calls c.round.n c.round.answers c.round.m) (uses_in c.round.calls c.round.list)) (in_words c.loop-row.calls c.loop-row.n c.loop-row.answers c.loop-row.m) (uses_in c.loop-row.calls c.loop-row.list) = (λ rs S. let r = c.round.invariant in
           let b = c.span_of-span.ensures.begun in
           let (S', W) = r.closed rs (round_kept _ _ (kept_same b.low) S) b.lit in
-          c.loop-row.invariant.closed rs S' (subst (λ (k : ℕ). (x : ℕ) → x < c.span_of-span.result.old → (x < c.args.stage.walked) × Lit (in_words c.round.calls c.round.n c.round.answers c.round.m).answers (uses_in c.round.calls c.round.list) c.args.stage.seen k c.span_of-span.result.warm) r.known_all W)) in rows_at) rs S))) in rules-at) c.requires.standing.roots c.requires.standing.round in
-          c.loop-after.invariant.going c.requires.standing.roots _ ((let given-at : (rs : List (ℕ × ℕ)) (begun : Begin) → Rules ((let over : Bodies = bodies_with c.args.rules.now c.args.goals.first c.args.goals.second c.args.goal.now c.args.second.now in over)) (Among rs) (number_at (length c.args.rules.now / rule_width)) c.args.first c.args.stage.walked c.args.stage.seen c.span_of-span.result.low c.span_of-span.result.high c.span_of-span.result.top c.span_of-span.result.old c.span_of-span.result.warm
+          c.loop-row.invariant.closed rs S' (subst (λ (k : ℕ). (x : ℕ) → x < c.span_of-span.result.old → (x < c.args.stage.walked) × Lit (in_words c.round.calls c.round.n c.round.answers c.round.m).answers (uses_in c.round.calls c.round.list) c.args.stage.seen k c.span_of-span.result.warm) r.known_all W)) in rows_at) rs S))) in rules_at) c.requires.standing.roots c.requires.standing.round in
+          c.loop-after.invariant.going c.requires.standing.roots _ ((let given_at : (rs : List (ℕ × ℕ)) (begun : Begin) → Rules ((let over : Bodies = bodies_with c.args.rules.now c.args.goals.first c.args.goals.second c.args.goal.now c.args.second.now in over)) (Among rs) (number_at (length c.args.rules.now / rule_width)) c.args.first c.args.stage.walked c.args.stage.seen c.span_of-span.result.low c.span_of-span.result.high c.span_of-span.result.top c.span_of-span.result.old c.span_of-span.result.warm
           c.args.stage.round c.args.stage.calls c.args.stage.answers c.loop-row.row c.loop-rule.rule begun (in_words c.next_walk-walk.new.calls c.loop-rule.n c.loop-rule.answers c.loop-rule.m) (uses_in c.next_walk-walk.new.calls c.loop-rule.list)
           → Given ((let over : Bodies = bodies_with c.args.rules.now c.args.goals.first c.args.goals.second c.args.goal.now c.args.second.now in over)) (Among rs) (in_words c.next_walk-walk.new.calls c.loop-rule.n c.loop-rule.answers c.loop-rule.m)
           c.args.stage.answers c.number_of-number.result c.loop-row.row (before c.args.first c.span_of-span.result.old c.args.stage.seen c.span_of-span.result.warm c.args.stage.round begun) c.steps_for-body.result.now = (λ rs begun R. record {
@@ -306,7 +306,7 @@ slice_bounds-rest-count c =
             row_last = λ x h l. R.rows_closed.latest x (omega (arith, R.rows_closed.since.all_known)) l;
             row_old = omega (arith, R.rows_closed.base_rows, c.loop-row-test.true, c.span_of-span.ensures.spans.top_in);
             since = R.rows_closed.since;
-          }) in given-at) c.requires.standing.roots _ R) R.rows_closed.noted in going_at)),
+          }) in given_at) c.requires.standing.roots _ R) R.rows_closed.noted in going_at)),
     )
 
 pub slice_bounds-rest-start : goal.slice_bounds-rest-start
@@ -315,20 +315,20 @@ slice_bounds-rest-start c =
       arith,
       (rw c.in-On.is at (c.turn-turn.ensures.leaving _ _ _ _ ((let going_at : Going ((let over : Bodies = bodies_with c.args.rules.now c.args.goals.first c.args.goals.second c.args.goal.now c.args.second.now in over)) (Among c.requires.standing.roots) (in_words c.next_walk-walk.new.calls c.loop-rule.n c.loop-rule.answers c.loop-rule.m)
           c.args.stage.answers c.number_of-number.result c.loop-row.row c.next_walk-walk.result (before c.args.first c.span_of-span.result.old c.args.stage.seen c.span_of-span.result.warm c.args.stage.round (begin (in_words c.round.calls c.round.n c.round.answers c.round.m) (uses_in c.round.calls c.round.list))) c.steps_for-body.result.now
-          (in_words c.loop-after.calls c.loop-after.n c.loop-after.answers c.loop-after.m) (mark_words c.loop-after.calls) (uses_in c.loop-after.calls c.loop-after.list) c.loop-after.chosen c.loop-after.rest.now (spot_of c.loop-after.spot) = let R = (let rules-at : (rs : List (ℕ × ℕ)) → (let First : List (ℕ × ℕ) → Type 0 = (λ roots. Round ((let over : Bodies = bodies_with c.args.rules.now c.args.goals.first c.args.goals.second c.args.goal.now c.args.second.now in over)) (Among roots) c.args.first c.args.stage.walked c.args.stage.seen
+          (in_words c.loop-after.calls c.loop-after.n c.loop-after.answers c.loop-after.m) (mark_words c.loop-after.calls) (uses_in c.loop-after.calls c.loop-after.list) c.loop-after.chosen c.loop-after.rest.now (spot_of c.loop-after.spot) = let R = (let rules_at : (rs : List (ℕ × ℕ)) → (let First : List (ℕ × ℕ) → Type 0 = (λ roots. Round ((let over : Bodies = bodies_with c.args.rules.now c.args.goals.first c.args.goals.second c.args.goal.now c.args.second.now in over)) (Among roots) c.args.first c.args.stage.walked c.args.stage.seen
           (in_words c.args.calls.now c.args.stage.calls c.args.answers.now c.args.stage.answers) (uses_in c.args.calls.now c.args.list.now)) in First) rs
           → Rules ((let over : Bodies = bodies_with c.args.rules.now c.args.goals.first c.args.goals.second c.args.goal.now c.args.second.now in over)) (Among rs) (number_at (length c.args.rules.now / rule_width)) c.args.first c.args.stage.walked c.args.stage.seen c.span_of-span.result.low c.span_of-span.result.high c.span_of-span.result.top c.span_of-span.result.old c.span_of-span.result.warm
-          c.args.stage.round c.args.stage.calls c.args.stage.answers c.loop-row.row c.loop-rule.rule (begin (in_words c.round.calls c.round.n c.round.answers c.round.m) (uses_in c.round.calls c.round.list)) (in_words c.next_walk-walk.new.calls c.loop-rule.n c.loop-rule.answers c.loop-rule.m) (uses_in c.next_walk-walk.new.calls c.loop-rule.list) = (λ rs S. (let marked-at : (rs : List (ℕ × ℕ)) (begun : Begin) → Rules ((let over : Bodies = bodies_with c.args.rules.now c.args.goals.first c.args.goals.second c.args.goal.now c.args.second.now in over)) (Among rs) (number_at (length c.args.rules.now / rule_width)) c.args.first c.args.stage.walked c.args.stage.seen c.span_of-span.result.low c.span_of-span.result.high c.span_of-span.result.top c.span_of-span.result.old c.span_of-span.result.warm
+          c.args.stage.round c.args.stage.calls c.args.stage.answers c.loop-row.row c.loop-rule.rule (begin (in_words c.round.calls c.round.n c.round.answers c.round.m) (uses_in c.round.calls c.round.list)) (in_words c.next_walk-walk.new.calls c.loop-rule.n c.loop-rule.answers c.loop-rule.m) (uses_in c.next_walk-walk.new.calls c.loop-rule.list) = (λ rs S. (let marked_at : (rs : List (ℕ × ℕ)) (begun : Begin) → Rules ((let over : Bodies = bodies_with c.args.rules.now c.args.goals.first c.args.goals.second c.args.goal.now c.args.second.now in over)) (Among rs) (number_at (length c.args.rules.now / rule_width)) c.args.first c.args.stage.walked c.args.stage.seen c.span_of-span.result.low c.span_of-span.result.high c.span_of-span.result.top c.span_of-span.result.old c.span_of-span.result.warm
           c.args.stage.round c.args.stage.calls c.args.stage.answers c.loop-row.row c.loop-rule.rule begun (in_words c.loop-rule.calls c.loop-rule.n c.loop-rule.answers c.loop-rule.m) (uses_in c.loop-rule.calls c.loop-rule.list)
           → Rules ((let over : Bodies = bodies_with c.args.rules.now c.args.goals.first c.args.goals.second c.args.goal.now c.args.second.now in over)) (Among rs) (number_at (length c.args.rules.now / rule_width)) c.args.first c.args.stage.walked c.args.stage.seen c.span_of-span.result.low c.span_of-span.result.high c.span_of-span.result.top c.span_of-span.result.old c.span_of-span.result.warm
-          c.args.stage.round c.args.stage.calls c.args.stage.answers c.loop-row.row c.loop-rule.rule begun (in_words c.next_walk-walk.new.calls c.loop-rule.n c.loop-rule.answers c.loop-rule.m) (uses_in c.next_walk-walk.new.calls c.loop-rule.list) = (λ rs begun R. rules-marked (ap (λ (z : Calls). tables z (packed_answers c.loop-rule.answers c.loop-rule.m)) (alone_calls c.next_walk-walk.ensures.1 c.loop-rule.n)) (marked_uses c.next_walk-walk.ensures.1 c.loop-rule.list) R) in marked-at) rs _ (c.loop-rule.invariant.closed rs _ ((let rows_at : (rs : List (ℕ × ℕ)) → (let First : List (ℕ × ℕ) → Type 0 = (λ roots. Round ((let over : Bodies = bodies_with c.args.rules.now c.args.goals.first c.args.goals.second c.args.goal.now c.args.second.now in over)) (Among roots) c.args.first c.args.stage.walked c.args.stage.seen
+          c.args.stage.round c.args.stage.calls c.args.stage.answers c.loop-row.row c.loop-rule.rule begun (in_words c.next_walk-walk.new.calls c.loop-rule.n c.loop-rule.answers c.loop-rule.m) (uses_in c.next_walk-walk.new.calls c.loop-rule.list) = (λ rs begun R. rules_marked (ap (λ (z : Calls). tables z (packed_answers c.loop-rule.answers c.loop-rule.m)) (alone_calls c.next_walk-walk.ensures.1 c.loop-rule.n)) (marked_uses c.next_walk-walk.ensures.1 c.loop-rule.list) R) in marked_at) rs _ (c.loop-rule.invariant.closed rs _ ((let rows_at : (rs : List (ℕ × ℕ)) → (let First : List (ℕ × ℕ) → Type 0 = (λ roots. Round ((let over : Bodies = bodies_with c.args.rules.now c.args.goals.first c.args.goals.second c.args.goal.now c.args.second.now in over)) (Among roots) c.args.first c.args.stage.walked c.args.stage.seen
           (in_words c.args.calls.now c.args.stage.calls c.args.answers.now c.args.stage.answers) (uses_in c.args.calls.now c.args.list.now)) in First) rs
           → Rows ((let over : Bodies = bodies_with c.args.rules.now c.args.goals.first c.args.goals.second c.args.goal.now c.args.second.now in over)) (Among rs) c.args.first c.args.stage.walked c.args.stage.seen c.span_of-span.result.low c.span_of-span.result.high c.span_of-span.result.top c.span_of-span.result.old c.span_of-span.result.warm
           c.args.stage.round c.args.stage.calls c.args.stage.answers c.loop-row.row (begin (in_words c.round.calls c.round.n c.round.answers c.round.m) (uses_in c.round.calls c.round.list)) (in_words c.loop-row.calls c.loop-row.n c.loop-row.answers c.loop-row.m) (uses_in c.loop-row.calls c.loop-row.list) = (λ rs S. let r = c.round.invariant in
           let b = c.span_of-span.ensures.begun in
           let (S', W) = r.closed rs (round_kept _ _ (kept_same b.low) S) b.lit in
-          c.loop-row.invariant.closed rs S' (subst (λ (k : ℕ). (x : ℕ) → x < c.span_of-span.result.old → (x < c.args.stage.walked) × Lit (in_words c.round.calls c.round.n c.round.answers c.round.m).answers (uses_in c.round.calls c.round.list) c.args.stage.seen k c.span_of-span.result.warm) r.known_all W)) in rows_at) rs S))) in rules-at) c.requires.standing.roots c.requires.standing.round in
-          c.loop-after.invariant.going c.requires.standing.roots _ ((let given-at : (rs : List (ℕ × ℕ)) (begun : Begin) → Rules ((let over : Bodies = bodies_with c.args.rules.now c.args.goals.first c.args.goals.second c.args.goal.now c.args.second.now in over)) (Among rs) (number_at (length c.args.rules.now / rule_width)) c.args.first c.args.stage.walked c.args.stage.seen c.span_of-span.result.low c.span_of-span.result.high c.span_of-span.result.top c.span_of-span.result.old c.span_of-span.result.warm
+          c.loop-row.invariant.closed rs S' (subst (λ (k : ℕ). (x : ℕ) → x < c.span_of-span.result.old → (x < c.args.stage.walked) × Lit (in_words c.round.calls c.round.n c.round.answers c.round.m).answers (uses_in c.round.calls c.round.list) c.args.stage.seen k c.span_of-span.result.warm) r.known_all W)) in rows_at) rs S))) in rules_at) c.requires.standing.roots c.requires.standing.round in
+          c.loop-after.invariant.going c.requires.standing.roots _ ((let given_at : (rs : List (ℕ × ℕ)) (begun : Begin) → Rules ((let over : Bodies = bodies_with c.args.rules.now c.args.goals.first c.args.goals.second c.args.goal.now c.args.second.now in over)) (Among rs) (number_at (length c.args.rules.now / rule_width)) c.args.first c.args.stage.walked c.args.stage.seen c.span_of-span.result.low c.span_of-span.result.high c.span_of-span.result.top c.span_of-span.result.old c.span_of-span.result.warm
           c.args.stage.round c.args.stage.calls c.args.stage.answers c.loop-row.row c.loop-rule.rule begun (in_words c.next_walk-walk.new.calls c.loop-rule.n c.loop-rule.answers c.loop-rule.m) (uses_in c.next_walk-walk.new.calls c.loop-rule.list)
           → Given ((let over : Bodies = bodies_with c.args.rules.now c.args.goals.first c.args.goals.second c.args.goal.now c.args.second.now in over)) (Among rs) (in_words c.next_walk-walk.new.calls c.loop-rule.n c.loop-rule.answers c.loop-rule.m)
           c.args.stage.answers c.number_of-number.result c.loop-row.row (before c.args.first c.span_of-span.result.old c.args.stage.seen c.span_of-span.result.warm c.args.stage.round begun) c.steps_for-body.result.now = (λ rs begun R. record {
@@ -343,23 +343,23 @@ slice_bounds-rest-start c =
             row_last = λ x h l. R.rows_closed.latest x (omega (arith, R.rows_closed.since.all_known)) l;
             row_old = omega (arith, R.rows_closed.base_rows, c.loop-row-test.true, c.span_of-span.ensures.spans.top_in);
             since = R.rows_closed.since;
-          }) in given-at) c.requires.standing.roots _ R) R.rows_closed.noted in going_at)))).0.walking.inside,
+          }) in given_at) c.requires.standing.roots _ R) R.rows_closed.noted in going_at)))).0.walking.inside,
       going_fits _ _ _ _ _ _ _ _ _ ((let going_at : Going ((let over : Bodies = bodies_with c.args.rules.now c.args.goals.first c.args.goals.second c.args.goal.now c.args.second.now in over)) (Among c.requires.standing.roots) (in_words c.next_walk-walk.new.calls c.loop-rule.n c.loop-rule.answers c.loop-rule.m)
           c.args.stage.answers c.number_of-number.result c.loop-row.row c.next_walk-walk.result (before c.args.first c.span_of-span.result.old c.args.stage.seen c.span_of-span.result.warm c.args.stage.round (begin (in_words c.round.calls c.round.n c.round.answers c.round.m) (uses_in c.round.calls c.round.list))) c.steps_for-body.result.now
-          (in_words c.loop-after.calls c.loop-after.n c.loop-after.answers c.loop-after.m) (mark_words c.loop-after.calls) (uses_in c.loop-after.calls c.loop-after.list) c.loop-after.chosen c.loop-after.rest.now (spot_of c.loop-after.spot) = let R = (let rules-at : (rs : List (ℕ × ℕ)) → (let First : List (ℕ × ℕ) → Type 0 = (λ roots. Round ((let over : Bodies = bodies_with c.args.rules.now c.args.goals.first c.args.goals.second c.args.goal.now c.args.second.now in over)) (Among roots) c.args.first c.args.stage.walked c.args.stage.seen
+          (in_words c.loop-after.calls c.loop-after.n c.loop-after.answers c.loop-after.m) (mark_words c.loop-after.calls) (uses_in c.loop-after.calls c.loop-after.list) c.loop-after.chosen c.loop-after.rest.now (spot_of c.loop-after.spot) = let R = (let rules_at : (rs : List (ℕ × ℕ)) → (let First : List (ℕ × ℕ) → Type 0 = (λ roots. Round ((let over : Bodies = bodies_with c.args.rules.now c.args.goals.first c.args.goals.second c.args.goal.now c.args.second.now in over)) (Among roots) c.args.first c.args.stage.walked c.args.stage.seen
           (in_words c.args.calls.now c.args.stage.calls c.args.answers.now c.args.stage.answers) (uses_in c.args.calls.now c.args.list.now)) in First) rs
           → Rules ((let over : Bodies = bodies_with c.args.rules.now c.args.goals.first c.args.goals.second c.args.goal.now c.args.second.now in over)) (Among rs) (number_at (length c.args.rules.now / rule_width)) c.args.first c.args.stage.walked c.args.stage.seen c.span_of-span.result.low c.span_of-span.result.high c.span_of-span.result.top c.span_of-span.result.old c.span_of-span.result.warm
-          c.args.stage.round c.args.stage.calls c.args.stage.answers c.loop-row.row c.loop-rule.rule (begin (in_words c.round.calls c.round.n c.round.answers c.round.m) (uses_in c.round.calls c.round.list)) (in_words c.next_walk-walk.new.calls c.loop-rule.n c.loop-rule.answers c.loop-rule.m) (uses_in c.next_walk-walk.new.calls c.loop-rule.list) = (λ rs S. (let marked-at : (rs : List (ℕ × ℕ)) (begun : Begin) → Rules ((let over : Bodies = bodies_with c.args.rules.now c.args.goals.first c.args.goals.second c.args.goal.now c.args.second.now in over)) (Among rs) (number_at (length c.args.rules.now / rule_width)) c.args.first c.args.stage.walked c.args.stage.seen c.span_of-span.result.low c.span_of-span.result.high c.span_of-span.result.top c.span_of-span.result.old c.span_of-span.result.warm
+          c.args.stage.round c.args.stage.calls c.args.stage.answers c.loop-row.row c.loop-rule.rule (begin (in_words c.round.calls c.round.n c.round.answers c.round.m) (uses_in c.round.calls c.round.list)) (in_words c.next_walk-walk.new.calls c.loop-rule.n c.loop-rule.answers c.loop-rule.m) (uses_in c.next_walk-walk.new.calls c.loop-rule.list) = (λ rs S. (let marked_at : (rs : List (ℕ × ℕ)) (begun : Begin) → Rules ((let over : Bodies = bodies_with c.args.rules.now c.args.goals.first c.args.goals.second c.args.goal.now c.args.second.now in over)) (Among rs) (number_at (length c.args.rules.now / rule_width)) c.args.first c.args.stage.walked c.args.stage.seen c.span_of-span.result.low c.span_of-span.result.high c.span_of-span.result.top c.span_of-span.result.old c.span_of-span.result.warm
           c.args.stage.round c.args.stage.calls c.args.stage.answers c.loop-row.row c.loop-rule.rule begun (in_words c.loop-rule.calls c.loop-rule.n c.loop-rule.answers c.loop-rule.m) (uses_in c.loop-rule.calls c.loop-rule.list)
           → Rules ((let over : Bodies = bodies_with c.args.rules.now c.args.goals.first c.args.goals.second c.args.goal.now c.args.second.now in over)) (Among rs) (number_at (length c.args.rules.now / rule_width)) c.args.first c.args.stage.walked c.args.stage.seen c.span_of-span.result.low c.span_of-span.result.high c.span_of-span.result.top c.span_of-span.result.old c.span_of-span.result.warm
-          c.args.stage.round c.args.stage.calls c.args.stage.answers c.loop-row.row c.loop-rule.rule begun (in_words c.next_walk-walk.new.calls c.loop-rule.n c.loop-rule.answers c.loop-rule.m) (uses_in c.next_walk-walk.new.calls c.loop-rule.list) = (λ rs begun R. rules-marked (ap (λ (z : Calls). tables z (packed_answers c.loop-rule.answers c.loop-rule.m)) (alone_calls c.next_walk-walk.ensures.1 c.loop-rule.n)) (marked_uses c.next_walk-walk.ensures.1 c.loop-rule.list) R) in marked-at) rs _ (c.loop-rule.invariant.closed rs _ ((let rows_at : (rs : List (ℕ × ℕ)) → (let First : List (ℕ × ℕ) → Type 0 = (λ roots. Round ((let over : Bodies = bodies_with c.args.rules.now c.args.goals.first c.args.goals.second c.args.goal.now c.args.second.now in over)) (Among roots) c.args.first c.args.stage.walked c.args.stage.seen
+          c.args.stage.round c.args.stage.calls c.args.stage.answers c.loop-row.row c.loop-rule.rule begun (in_words c.next_walk-walk.new.calls c.loop-rule.n c.loop-rule.answers c.loop-rule.m) (uses_in c.next_walk-walk.new.calls c.loop-rule.list) = (λ rs begun R. rules_marked (ap (λ (z : Calls). tables z (packed_answers c.loop-rule.answers c.loop-rule.m)) (alone_calls c.next_walk-walk.ensures.1 c.loop-rule.n)) (marked_uses c.next_walk-walk.ensures.1 c.loop-rule.list) R) in marked_at) rs _ (c.loop-rule.invariant.closed rs _ ((let rows_at : (rs : List (ℕ × ℕ)) → (let First : List (ℕ × ℕ) → Type 0 = (λ roots. Round ((let over : Bodies = bodies_with c.args.rules.now c.args.goals.first c.args.goals.second c.args.goal.now c.args.second.now in over)) (Among roots) c.args.first c.args.stage.walked c.args.stage.seen
           (in_words c.args.calls.now c.args.stage.calls c.args.answers.now c.args.stage.answers) (uses_in c.args.calls.now c.args.list.now)) in First) rs
           → Rows ((let over : Bodies = bodies_with c.args.rules.now c.args.goals.first c.args.goals.second c.args.goal.now c.args.second.now in over)) (Among rs) c.args.first c.args.stage.walked c.args.stage.seen c.span_of-span.result.low c.span_of-span.result.high c.span_of-span.result.top c.span_of-span.result.old c.span_of-span.result.warm
           c.args.stage.round c.args.stage.calls c.args.stage.answers c.loop-row.row (begin (in_words c.round.calls c.round.n c.round.answers c.round.m) (uses_in c.round.calls c.round.list)) (in_words c.loop-row.calls c.loop-row.n c.loop-row.answers c.loop-row.m) (uses_in c.loop-row.calls c.loop-row.list) = (λ rs S. let r = c.round.invariant in
           let b = c.span_of-span.ensures.begun in
           let (S', W) = r.closed rs (round_kept _ _ (kept_same b.low) S) b.lit in
-          c.loop-row.invariant.closed rs S' (subst (λ (k : ℕ). (x : ℕ) → x < c.span_of-span.result.old → (x < c.args.stage.walked) × Lit (in_words c.round.calls c.round.n c.round.answers c.round.m).answers (uses_in c.round.calls c.round.list) c.args.stage.seen k c.span_of-span.result.warm) r.known_all W)) in rows_at) rs S))) in rules-at) c.requires.standing.roots c.requires.standing.round in
-          c.loop-after.invariant.going c.requires.standing.roots _ ((let given-at : (rs : List (ℕ × ℕ)) (begun : Begin) → Rules ((let over : Bodies = bodies_with c.args.rules.now c.args.goals.first c.args.goals.second c.args.goal.now c.args.second.now in over)) (Among rs) (number_at (length c.args.rules.now / rule_width)) c.args.first c.args.stage.walked c.args.stage.seen c.span_of-span.result.low c.span_of-span.result.high c.span_of-span.result.top c.span_of-span.result.old c.span_of-span.result.warm
+          c.loop-row.invariant.closed rs S' (subst (λ (k : ℕ). (x : ℕ) → x < c.span_of-span.result.old → (x < c.args.stage.walked) × Lit (in_words c.round.calls c.round.n c.round.answers c.round.m).answers (uses_in c.round.calls c.round.list) c.args.stage.seen k c.span_of-span.result.warm) r.known_all W)) in rows_at) rs S))) in rules_at) c.requires.standing.roots c.requires.standing.round in
+          c.loop-after.invariant.going c.requires.standing.roots _ ((let given_at : (rs : List (ℕ × ℕ)) (begun : Begin) → Rules ((let over : Bodies = bodies_with c.args.rules.now c.args.goals.first c.args.goals.second c.args.goal.now c.args.second.now in over)) (Among rs) (number_at (length c.args.rules.now / rule_width)) c.args.first c.args.stage.walked c.args.stage.seen c.span_of-span.result.low c.span_of-span.result.high c.span_of-span.result.top c.span_of-span.result.old c.span_of-span.result.warm
           c.args.stage.round c.args.stage.calls c.args.stage.answers c.loop-row.row c.loop-rule.rule begun (in_words c.next_walk-walk.new.calls c.loop-rule.n c.loop-rule.answers c.loop-rule.m) (uses_in c.next_walk-walk.new.calls c.loop-rule.list)
           → Given ((let over : Bodies = bodies_with c.args.rules.now c.args.goals.first c.args.goals.second c.args.goal.now c.args.second.now in over)) (Among rs) (in_words c.next_walk-walk.new.calls c.loop-rule.n c.loop-rule.answers c.loop-rule.m)
           c.args.stage.answers c.number_of-number.result c.loop-row.row (before c.args.first c.span_of-span.result.old c.args.stage.seen c.span_of-span.result.warm c.args.stage.round begun) c.steps_for-body.result.now = (λ rs begun R. record {
@@ -374,7 +374,7 @@ slice_bounds-rest-start c =
             row_last = λ x h l. R.rows_closed.latest x (omega (arith, R.rows_closed.since.all_known)) l;
             row_old = omega (arith, R.rows_closed.base_rows, c.loop-row-test.true, c.span_of-span.ensures.spans.top_in);
             since = R.rows_closed.since;
-          }) in given-at) c.requires.standing.roots _ R) R.rows_closed.noted in going_at)),
+          }) in given_at) c.requires.standing.roots _ R) R.rows_closed.noted in going_at)),
     )
 
 pub slice_bounds-rest-end : goal.slice_bounds-rest-end
@@ -383,20 +383,20 @@ slice_bounds-rest-end c =
       arith,
       (rw c.in-On.is at (c.turn-turn.ensures.leaving _ _ _ _ ((let going_at : Going ((let over : Bodies = bodies_with c.args.rules.now c.args.goals.first c.args.goals.second c.args.goal.now c.args.second.now in over)) (Among c.requires.standing.roots) (in_words c.next_walk-walk.new.calls c.loop-rule.n c.loop-rule.answers c.loop-rule.m)
           c.args.stage.answers c.number_of-number.result c.loop-row.row c.next_walk-walk.result (before c.args.first c.span_of-span.result.old c.args.stage.seen c.span_of-span.result.warm c.args.stage.round (begin (in_words c.round.calls c.round.n c.round.answers c.round.m) (uses_in c.round.calls c.round.list))) c.steps_for-body.result.now
-          (in_words c.loop-after.calls c.loop-after.n c.loop-after.answers c.loop-after.m) (mark_words c.loop-after.calls) (uses_in c.loop-after.calls c.loop-after.list) c.loop-after.chosen c.loop-after.rest.now (spot_of c.loop-after.spot) = let R = (let rules-at : (rs : List (ℕ × ℕ)) → (let First : List (ℕ × ℕ) → Type 0 = (λ roots. Round ((let over : Bodies = bodies_with c.args.rules.now c.args.goals.first c.args.goals.second c.args.goal.now c.args.second.now in over)) (Among roots) c.args.first c.args.stage.walked c.args.stage.seen
+          (in_words c.loop-after.calls c.loop-after.n c.loop-after.answers c.loop-after.m) (mark_words c.loop-after.calls) (uses_in c.loop-after.calls c.loop-after.list) c.loop-after.chosen c.loop-after.rest.now (spot_of c.loop-after.spot) = let R = (let rules_at : (rs : List (ℕ × ℕ)) → (let First : List (ℕ × ℕ) → Type 0 = (λ roots. Round ((let over : Bodies = bodies_with c.args.rules.now c.args.goals.first c.args.goals.second c.args.goal.now c.args.second.now in over)) (Among roots) c.args.first c.args.stage.walked c.args.stage.seen
           (in_words c.args.calls.now c.args.stage.calls c.args.answers.now c.args.stage.answers) (uses_in c.args.calls.now c.args.list.now)) in First) rs
           → Rules ((let over : Bodies = bodies_with c.args.rules.now c.args.goals.first c.args.goals.second c.args.goal.now c.args.second.now in over)) (Among rs) (number_at (length c.args.rules.now / rule_width)) c.args.first c.args.stage.walked c.args.stage.seen c.span_of-span.result.low c.span_of-span.result.high c.span_of-span.result.top c.span_of-span.result.old c.span_of-span.result.warm
-          c.args.stage.round c.args.stage.calls c.args.stage.answers c.loop-row.row c.loop-rule.rule (begin (in_words c.round.calls c.round.n c.round.answers c.round.m) (uses_in c.round.calls c.round.list)) (in_words c.next_walk-walk.new.calls c.loop-rule.n c.loop-rule.answers c.loop-rule.m) (uses_in c.next_walk-walk.new.calls c.loop-rule.list) = (λ rs S. (let marked-at : (rs : List (ℕ × ℕ)) (begun : Begin) → Rules ((let over : Bodies = bodies_with c.args.rules.now c.args.goals.first c.args.goals.second c.args.goal.now c.args.second.now in over)) (Among rs) (number_at (length c.args.rules.now / rule_width)) c.args.first c.args.stage.walked c.args.stage.seen c.span_of-span.result.low c.span_of-span.result.high c.span_of-span.result.top c.span_of-span.result.old c.span_of-span.result.warm
+          c.args.stage.round c.args.stage.calls c.args.stage.answers c.loop-row.row c.loop-rule.rule (begin (in_words c.round.calls c.round.n c.round.answers c.round.m) (uses_in c.round.calls c.round.list)) (in_words c.next_walk-walk.new.calls c.loop-rule.n c.loop-rule.answers c.loop-rule.m) (uses_in c.next_walk-walk.new.calls c.loop-rule.list) = (λ rs S. (let marked_at : (rs : List (ℕ × ℕ)) (begun : Begin) → Rules ((let over : Bodies = bodies_with c.args.rules.now c.args.goals.first c.args.goals.second c.args.goal.now c.args.second.now in over)) (Among rs) (number_at (length c.args.rules.now / rule_width)) c.args.first c.args.stage.walked c.args.stage.seen c.span_of-span.result.low c.span_of-span.result.high c.span_of-span.result.top c.span_of-span.result.old c.span_of-span.result.warm
           c.args.stage.round c.args.stage.calls c.args.stage.answers c.loop-row.row c.loop-rule.rule begun (in_words c.loop-rule.calls c.loop-rule.n c.loop-rule.answers c.loop-rule.m) (uses_in c.loop-rule.calls c.loop-rule.list)
           → Rules ((let over : Bodies = bodies_with c.args.rules.now c.args.goals.first c.args.goals.second c.args.goal.now c.args.second.now in over)) (Among rs) (number_at (length c.args.rules.now / rule_width)) c.args.first c.args.stage.walked c.args.stage.seen c.span_of-span.result.low c.span_of-span.result.high c.span_of-span.result.top c.span_of-span.result.old c.span_of-span.result.warm
-          c.args.stage.round c.args.stage.calls c.args.stage.answers c.loop-row.row c.loop-rule.rule begun (in_words c.next_walk-walk.new.calls c.loop-rule.n c.loop-rule.answers c.loop-rule.m) (uses_in c.next_walk-walk.new.calls c.loop-rule.list) = (λ rs begun R. rules-marked (ap (λ (z : Calls). tables z (packed_answers c.loop-rule.answers c.loop-rule.m)) (alone_calls c.next_walk-walk.ensures.1 c.loop-rule.n)) (marked_uses c.next_walk-walk.ensures.1 c.loop-rule.list) R) in marked-at) rs _ (c.loop-rule.invariant.closed rs _ ((let rows_at : (rs : List (ℕ × ℕ)) → (let First : List (ℕ × ℕ) → Type 0 = (λ roots. Round ((let over : Bodies = bodies_with c.args.rules.now c.args.goals.first c.args.goals.second c.args.goal.now c.args.second.now in over)) (Among roots) c.args.first c.args.stage.walked c.args.stage.seen
+          c.args.stage.round c.args.stage.calls c.args.stage.answers c.loop-row.row c.loop-rule.rule begun (in_words c.next_walk-walk.new.calls c.loop-rule.n c.loop-rule.answers c.loop-rule.m) (uses_in c.next_walk-walk.new.calls c.loop-rule.list) = (λ rs begun R. rules_marked (ap (λ (z : Calls). tables z (packed_answers c.loop-rule.answers c.loop-rule.m)) (alone_calls c.next_walk-walk.ensures.1 c.loop-rule.n)) (marked_uses c.next_walk-walk.ensures.1 c.loop-rule.list) R) in marked_at) rs _ (c.loop-rule.invariant.closed rs _ ((let rows_at : (rs : List (ℕ × ℕ)) → (let First : List (ℕ × ℕ) → Type 0 = (λ roots. Round ((let over : Bodies = bodies_with c.args.rules.now c.args.goals.first c.args.goals.second c.args.goal.now c.args.second.now in over)) (Among roots) c.args.first c.args.stage.walked c.args.stage.seen
           (in_words c.args.calls.now c.args.stage.calls c.args.answers.now c.args.stage.answers) (uses_in c.args.calls.now c.args.list.now)) in First) rs
           → Rows ((let over : Bodies = bodies_with c.args.rules.now c.args.goals.first c.args.goals.second c.args.goal.now c.args.second.now in over)) (Among rs) c.args.first c.args.stage.walked c.args.stage.seen c.span_of-span.result.low c.span_of-span.result.high c.span_of-span.result.top c.span_of-span.result.old c.span_of-span.result.warm
           c.args.stage.round c.args.stage.calls c.args.stage.answers c.loop-row.row (begin (in_words c.round.calls c.round.n c.round.answers c.round.m) (uses_in c.round.calls c.round.list)) (in_words c.loop-row.calls c.loop-row.n c.loop-row.answers c.loop-row.m) (uses_in c.loop-row.calls c.loop-row.list) = (λ rs S. let r = c.round.invariant in
           let b = c.span_of-span.ensures.begun in
           let (S', W) = r.closed rs (round_kept _ _ (kept_same b.low) S) b.lit in
-          c.loop-row.invariant.closed rs S' (subst (λ (k : ℕ). (x : ℕ) → x < c.span_of-span.result.old → (x < c.args.stage.walked) × Lit (in_words c.round.calls c.round.n c.round.answers c.round.m).answers (uses_in c.round.calls c.round.list) c.args.stage.seen k c.span_of-span.result.warm) r.known_all W)) in rows_at) rs S))) in rules-at) c.requires.standing.roots c.requires.standing.round in
-          c.loop-after.invariant.going c.requires.standing.roots _ ((let given-at : (rs : List (ℕ × ℕ)) (begun : Begin) → Rules ((let over : Bodies = bodies_with c.args.rules.now c.args.goals.first c.args.goals.second c.args.goal.now c.args.second.now in over)) (Among rs) (number_at (length c.args.rules.now / rule_width)) c.args.first c.args.stage.walked c.args.stage.seen c.span_of-span.result.low c.span_of-span.result.high c.span_of-span.result.top c.span_of-span.result.old c.span_of-span.result.warm
+          c.loop-row.invariant.closed rs S' (subst (λ (k : ℕ). (x : ℕ) → x < c.span_of-span.result.old → (x < c.args.stage.walked) × Lit (in_words c.round.calls c.round.n c.round.answers c.round.m).answers (uses_in c.round.calls c.round.list) c.args.stage.seen k c.span_of-span.result.warm) r.known_all W)) in rows_at) rs S))) in rules_at) c.requires.standing.roots c.requires.standing.round in
+          c.loop-after.invariant.going c.requires.standing.roots _ ((let given_at : (rs : List (ℕ × ℕ)) (begun : Begin) → Rules ((let over : Bodies = bodies_with c.args.rules.now c.args.goals.first c.args.goals.second c.args.goal.now c.args.second.now in over)) (Among rs) (number_at (length c.args.rules.now / rule_width)) c.args.first c.args.stage.walked c.args.stage.seen c.span_of-span.result.low c.span_of-span.result.high c.span_of-span.result.top c.span_of-span.result.old c.span_of-span.result.warm
           c.args.stage.round c.args.stage.calls c.args.stage.answers c.loop-row.row c.loop-rule.rule begun (in_words c.next_walk-walk.new.calls c.loop-rule.n c.loop-rule.answers c.loop-rule.m) (uses_in c.next_walk-walk.new.calls c.loop-rule.list)
           → Given ((let over : Bodies = bodies_with c.args.rules.now c.args.goals.first c.args.goals.second c.args.goal.now c.args.second.now in over)) (Among rs) (in_words c.next_walk-walk.new.calls c.loop-rule.n c.loop-rule.answers c.loop-rule.m)
           c.args.stage.answers c.number_of-number.result c.loop-row.row (before c.args.first c.span_of-span.result.old c.args.stage.seen c.span_of-span.result.warm c.args.stage.round begun) c.steps_for-body.result.now = (λ rs begun R. record {
@@ -411,23 +411,23 @@ slice_bounds-rest-end c =
             row_last = λ x h l. R.rows_closed.latest x (omega (arith, R.rows_closed.since.all_known)) l;
             row_old = omega (arith, R.rows_closed.base_rows, c.loop-row-test.true, c.span_of-span.ensures.spans.top_in);
             since = R.rows_closed.since;
-          }) in given-at) c.requires.standing.roots _ R) R.rows_closed.noted in going_at)))).0.walking.inside,
+          }) in given_at) c.requires.standing.roots _ R) R.rows_closed.noted in going_at)))).0.walking.inside,
       going_fits _ _ _ _ _ _ _ _ _ ((let going_at : Going ((let over : Bodies = bodies_with c.args.rules.now c.args.goals.first c.args.goals.second c.args.goal.now c.args.second.now in over)) (Among c.requires.standing.roots) (in_words c.next_walk-walk.new.calls c.loop-rule.n c.loop-rule.answers c.loop-rule.m)
           c.args.stage.answers c.number_of-number.result c.loop-row.row c.next_walk-walk.result (before c.args.first c.span_of-span.result.old c.args.stage.seen c.span_of-span.result.warm c.args.stage.round (begin (in_words c.round.calls c.round.n c.round.answers c.round.m) (uses_in c.round.calls c.round.list))) c.steps_for-body.result.now
-          (in_words c.loop-after.calls c.loop-after.n c.loop-after.answers c.loop-after.m) (mark_words c.loop-after.calls) (uses_in c.loop-after.calls c.loop-after.list) c.loop-after.chosen c.loop-after.rest.now (spot_of c.loop-after.spot) = let R = (let rules-at : (rs : List (ℕ × ℕ)) → (let First : List (ℕ × ℕ) → Type 0 = (λ roots. Round ((let over : Bodies = bodies_with c.args.rules.now c.args.goals.first c.args.goals.second c.args.goal.now c.args.second.now in over)) (Among roots) c.args.first c.args.stage.walked c.args.stage.seen
+          (in_words c.loop-after.calls c.loop-after.n c.loop-after.answers c.loop-after.m) (mark_words c.loop-after.calls) (uses_in c.loop-after.calls c.loop-after.list) c.loop-after.chosen c.loop-after.rest.now (spot_of c.loop-after.spot) = let R = (let rules_at : (rs : List (ℕ × ℕ)) → (let First : List (ℕ × ℕ) → Type 0 = (λ roots. Round ((let over : Bodies = bodies_with c.args.rules.now c.args.goals.first c.args.goals.second c.args.goal.now c.args.second.now in over)) (Among roots) c.args.first c.args.stage.walked c.args.stage.seen
           (in_words c.args.calls.now c.args.stage.calls c.args.answers.now c.args.stage.answers) (uses_in c.args.calls.now c.args.list.now)) in First) rs
           → Rules ((let over : Bodies = bodies_with c.args.rules.now c.args.goals.first c.args.goals.second c.args.goal.now c.args.second.now in over)) (Among rs) (number_at (length c.args.rules.now / rule_width)) c.args.first c.args.stage.walked c.args.stage.seen c.span_of-span.result.low c.span_of-span.result.high c.span_of-span.result.top c.span_of-span.result.old c.span_of-span.result.warm
-          c.args.stage.round c.args.stage.calls c.args.stage.answers c.loop-row.row c.loop-rule.rule (begin (in_words c.round.calls c.round.n c.round.answers c.round.m) (uses_in c.round.calls c.round.list)) (in_words c.next_walk-walk.new.calls c.loop-rule.n c.loop-rule.answers c.loop-rule.m) (uses_in c.next_walk-walk.new.calls c.loop-rule.list) = (λ rs S. (let marked-at : (rs : List (ℕ × ℕ)) (begun : Begin) → Rules ((let over : Bodies = bodies_with c.args.rules.now c.args.goals.first c.args.goals.second c.args.goal.now c.args.second.now in over)) (Among rs) (number_at (length c.args.rules.now / rule_width)) c.args.first c.args.stage.walked c.args.stage.seen c.span_of-span.result.low c.span_of-span.result.high c.span_of-span.result.top c.span_of-span.result.old c.span_of-span.result.warm
+          c.args.stage.round c.args.stage.calls c.args.stage.answers c.loop-row.row c.loop-rule.rule (begin (in_words c.round.calls c.round.n c.round.answers c.round.m) (uses_in c.round.calls c.round.list)) (in_words c.next_walk-walk.new.calls c.loop-rule.n c.loop-rule.answers c.loop-rule.m) (uses_in c.next_walk-walk.new.calls c.loop-rule.list) = (λ rs S. (let marked_at : (rs : List (ℕ × ℕ)) (begun : Begin) → Rules ((let over : Bodies = bodies_with c.args.rules.now c.args.goals.first c.args.goals.second c.args.goal.now c.args.second.now in over)) (Among rs) (number_at (length c.args.rules.now / rule_width)) c.args.first c.args.stage.walked c.args.stage.seen c.span_of-span.result.low c.span_of-span.result.high c.span_of-span.result.top c.span_of-span.result.old c.span_of-span.result.warm
           c.args.stage.round c.args.stage.calls c.args.stage.answers c.loop-row.row c.loop-rule.rule begun (in_words c.loop-rule.calls c.loop-rule.n c.loop-rule.answers c.loop-rule.m) (uses_in c.loop-rule.calls c.loop-rule.list)
           → Rules ((let over : Bodies = bodies_with c.args.rules.now c.args.goals.first c.args.goals.second c.args.goal.now c.args.second.now in over)) (Among rs) (number_at (length c.args.rules.now / rule_width)) c.args.first c.args.stage.walked c.args.stage.seen c.span_of-span.result.low c.span_of-span.result.high c.span_of-span.result.top c.span_of-span.result.old c.span_of-span.result.warm
-          c.args.stage.round c.args.stage.calls c.args.stage.answers c.loop-row.row c.loop-rule.rule begun (in_words c.next_walk-walk.new.calls c.loop-rule.n c.loop-rule.answers c.loop-rule.m) (uses_in c.next_walk-walk.new.calls c.loop-rule.list) = (λ rs begun R. rules-marked (ap (λ (z : Calls). tables z (packed_answers c.loop-rule.answers c.loop-rule.m)) (alone_calls c.next_walk-walk.ensures.1 c.loop-rule.n)) (marked_uses c.next_walk-walk.ensures.1 c.loop-rule.list) R) in marked-at) rs _ (c.loop-rule.invariant.closed rs _ ((let rows_at : (rs : List (ℕ × ℕ)) → (let First : List (ℕ × ℕ) → Type 0 = (λ roots. Round ((let over : Bodies = bodies_with c.args.rules.now c.args.goals.first c.args.goals.second c.args.goal.now c.args.second.now in over)) (Among roots) c.args.first c.args.stage.walked c.args.stage.seen
+          c.args.stage.round c.args.stage.calls c.args.stage.answers c.loop-row.row c.loop-rule.rule begun (in_words c.next_walk-walk.new.calls c.loop-rule.n c.loop-rule.answers c.loop-rule.m) (uses_in c.next_walk-walk.new.calls c.loop-rule.list) = (λ rs begun R. rules_marked (ap (λ (z : Calls). tables z (packed_answers c.loop-rule.answers c.loop-rule.m)) (alone_calls c.next_walk-walk.ensures.1 c.loop-rule.n)) (marked_uses c.next_walk-walk.ensures.1 c.loop-rule.list) R) in marked_at) rs _ (c.loop-rule.invariant.closed rs _ ((let rows_at : (rs : List (ℕ × ℕ)) → (let First : List (ℕ × ℕ) → Type 0 = (λ roots. Round ((let over : Bodies = bodies_with c.args.rules.now c.args.goals.first c.args.goals.second c.args.goal.now c.args.second.now in over)) (Among roots) c.args.first c.args.stage.walked c.args.stage.seen
           (in_words c.args.calls.now c.args.stage.calls c.args.answers.now c.args.stage.answers) (uses_in c.args.calls.now c.args.list.now)) in First) rs
           → Rows ((let over : Bodies = bodies_with c.args.rules.now c.args.goals.first c.args.goals.second c.args.goal.now c.args.second.now in over)) (Among rs) c.args.first c.args.stage.walked c.args.stage.seen c.span_of-span.result.low c.span_of-span.result.high c.span_of-span.result.top c.span_of-span.result.old c.span_of-span.result.warm
           c.args.stage.round c.args.stage.calls c.args.stage.answers c.loop-row.row (begin (in_words c.round.calls c.round.n c.round.answers c.round.m) (uses_in c.round.calls c.round.list)) (in_words c.loop-row.calls c.loop-row.n c.loop-row.answers c.loop-row.m) (uses_in c.loop-row.calls c.loop-row.list) = (λ rs S. let r = c.round.invariant in
           let b = c.span_of-span.ensures.begun in
           let (S', W) = r.closed rs (round_kept _ _ (kept_same b.low) S) b.lit in
-          c.loop-row.invariant.closed rs S' (subst (λ (k : ℕ). (x : ℕ) → x < c.span_of-span.result.old → (x < c.args.stage.walked) × Lit (in_words c.round.calls c.round.n c.round.answers c.round.m).answers (uses_in c.round.calls c.round.list) c.args.stage.seen k c.span_of-span.result.warm) r.known_all W)) in rows_at) rs S))) in rules-at) c.requires.standing.roots c.requires.standing.round in
-          c.loop-after.invariant.going c.requires.standing.roots _ ((let given-at : (rs : List (ℕ × ℕ)) (begun : Begin) → Rules ((let over : Bodies = bodies_with c.args.rules.now c.args.goals.first c.args.goals.second c.args.goal.now c.args.second.now in over)) (Among rs) (number_at (length c.args.rules.now / rule_width)) c.args.first c.args.stage.walked c.args.stage.seen c.span_of-span.result.low c.span_of-span.result.high c.span_of-span.result.top c.span_of-span.result.old c.span_of-span.result.warm
+          c.loop-row.invariant.closed rs S' (subst (λ (k : ℕ). (x : ℕ) → x < c.span_of-span.result.old → (x < c.args.stage.walked) × Lit (in_words c.round.calls c.round.n c.round.answers c.round.m).answers (uses_in c.round.calls c.round.list) c.args.stage.seen k c.span_of-span.result.warm) r.known_all W)) in rows_at) rs S))) in rules_at) c.requires.standing.roots c.requires.standing.round in
+          c.loop-after.invariant.going c.requires.standing.roots _ ((let given_at : (rs : List (ℕ × ℕ)) (begun : Begin) → Rules ((let over : Bodies = bodies_with c.args.rules.now c.args.goals.first c.args.goals.second c.args.goal.now c.args.second.now in over)) (Among rs) (number_at (length c.args.rules.now / rule_width)) c.args.first c.args.stage.walked c.args.stage.seen c.span_of-span.result.low c.span_of-span.result.high c.span_of-span.result.top c.span_of-span.result.old c.span_of-span.result.warm
           c.args.stage.round c.args.stage.calls c.args.stage.answers c.loop-row.row c.loop-rule.rule begun (in_words c.next_walk-walk.new.calls c.loop-rule.n c.loop-rule.answers c.loop-rule.m) (uses_in c.next_walk-walk.new.calls c.loop-rule.list)
           → Given ((let over : Bodies = bodies_with c.args.rules.now c.args.goals.first c.args.goals.second c.args.goal.now c.args.second.now in over)) (Among rs) (in_words c.next_walk-walk.new.calls c.loop-rule.n c.loop-rule.answers c.loop-rule.m)
           c.args.stage.answers c.number_of-number.result c.loop-row.row (before c.args.first c.span_of-span.result.old c.args.stage.seen c.span_of-span.result.warm c.args.stage.round begun) c.steps_for-body.result.now = (λ rs begun R. record {
@@ -442,27 +442,27 @@ slice_bounds-rest-end c =
             row_last = λ x h l. R.rows_closed.latest x (omega (arith, R.rows_closed.since.all_known)) l;
             row_old = omega (arith, R.rows_closed.base_rows, c.loop-row-test.true, c.span_of-span.ensures.spans.top_in);
             since = R.rows_closed.since;
-          }) in given-at) c.requires.standing.roots _ R) R.rows_closed.noted in going_at)),
+          }) in given_at) c.requires.standing.roots _ R) R.rows_closed.noted in going_at)),
     )
 
 pub loop-after-smaller-in-On : goal.loop-after-smaller-in-On
 loop-after-smaller-in-On c =
     let O = (rw c.in-On.is at (c.turn-turn.ensures.leaving _ _ _ _ ((let going_at : Going ((let over : Bodies = bodies_with c.args.rules.now c.args.goals.first c.args.goals.second c.args.goal.now c.args.second.now in over)) (Among c.requires.standing.roots) (in_words c.next_walk-walk.new.calls c.loop-rule.n c.loop-rule.answers c.loop-rule.m)
     c.args.stage.answers c.number_of-number.result c.loop-row.row c.next_walk-walk.result (before c.args.first c.span_of-span.result.old c.args.stage.seen c.span_of-span.result.warm c.args.stage.round (begin (in_words c.round.calls c.round.n c.round.answers c.round.m) (uses_in c.round.calls c.round.list))) c.steps_for-body.result.now
-    (in_words c.loop-after.calls c.loop-after.n c.loop-after.answers c.loop-after.m) (mark_words c.loop-after.calls) (uses_in c.loop-after.calls c.loop-after.list) c.loop-after.chosen c.loop-after.rest.now (spot_of c.loop-after.spot) = let R = (let rules-at : (rs : List (ℕ × ℕ)) → (let First : List (ℕ × ℕ) → Type 0 = (λ roots. Round ((let over : Bodies = bodies_with c.args.rules.now c.args.goals.first c.args.goals.second c.args.goal.now c.args.second.now in over)) (Among roots) c.args.first c.args.stage.walked c.args.stage.seen
+    (in_words c.loop-after.calls c.loop-after.n c.loop-after.answers c.loop-after.m) (mark_words c.loop-after.calls) (uses_in c.loop-after.calls c.loop-after.list) c.loop-after.chosen c.loop-after.rest.now (spot_of c.loop-after.spot) = let R = (let rules_at : (rs : List (ℕ × ℕ)) → (let First : List (ℕ × ℕ) → Type 0 = (λ roots. Round ((let over : Bodies = bodies_with c.args.rules.now c.args.goals.first c.args.goals.second c.args.goal.now c.args.second.now in over)) (Among roots) c.args.first c.args.stage.walked c.args.stage.seen
     (in_words c.args.calls.now c.args.stage.calls c.args.answers.now c.args.stage.answers) (uses_in c.args.calls.now c.args.list.now)) in First) rs
     → Rules ((let over : Bodies = bodies_with c.args.rules.now c.args.goals.first c.args.goals.second c.args.goal.now c.args.second.now in over)) (Among rs) (number_at (length c.args.rules.now / rule_width)) c.args.first c.args.stage.walked c.args.stage.seen c.span_of-span.result.low c.span_of-span.result.high c.span_of-span.result.top c.span_of-span.result.old c.span_of-span.result.warm
-    c.args.stage.round c.args.stage.calls c.args.stage.answers c.loop-row.row c.loop-rule.rule (begin (in_words c.round.calls c.round.n c.round.answers c.round.m) (uses_in c.round.calls c.round.list)) (in_words c.next_walk-walk.new.calls c.loop-rule.n c.loop-rule.answers c.loop-rule.m) (uses_in c.next_walk-walk.new.calls c.loop-rule.list) = (λ rs S. (let marked-at : (rs : List (ℕ × ℕ)) (begun : Begin) → Rules ((let over : Bodies = bodies_with c.args.rules.now c.args.goals.first c.args.goals.second c.args.goal.now c.args.second.now in over)) (Among rs) (number_at (length c.args.rules.now / rule_width)) c.args.first c.args.stage.walked c.args.stage.seen c.span_of-span.result.low c.span_of-span.result.high c.span_of-span.result.top c.span_of-span.result.old c.span_of-span.result.warm
+    c.args.stage.round c.args.stage.calls c.args.stage.answers c.loop-row.row c.loop-rule.rule (begin (in_words c.round.calls c.round.n c.round.answers c.round.m) (uses_in c.round.calls c.round.list)) (in_words c.next_walk-walk.new.calls c.loop-rule.n c.loop-rule.answers c.loop-rule.m) (uses_in c.next_walk-walk.new.calls c.loop-rule.list) = (λ rs S. (let marked_at : (rs : List (ℕ × ℕ)) (begun : Begin) → Rules ((let over : Bodies = bodies_with c.args.rules.now c.args.goals.first c.args.goals.second c.args.goal.now c.args.second.now in over)) (Among rs) (number_at (length c.args.rules.now / rule_width)) c.args.first c.args.stage.walked c.args.stage.seen c.span_of-span.result.low c.span_of-span.result.high c.span_of-span.result.top c.span_of-span.result.old c.span_of-span.result.warm
     c.args.stage.round c.args.stage.calls c.args.stage.answers c.loop-row.row c.loop-rule.rule begun (in_words c.loop-rule.calls c.loop-rule.n c.loop-rule.answers c.loop-rule.m) (uses_in c.loop-rule.calls c.loop-rule.list)
     → Rules ((let over : Bodies = bodies_with c.args.rules.now c.args.goals.first c.args.goals.second c.args.goal.now c.args.second.now in over)) (Among rs) (number_at (length c.args.rules.now / rule_width)) c.args.first c.args.stage.walked c.args.stage.seen c.span_of-span.result.low c.span_of-span.result.high c.span_of-span.result.top c.span_of-span.result.old c.span_of-span.result.warm
-    c.args.stage.round c.args.stage.calls c.args.stage.answers c.loop-row.row c.loop-rule.rule begun (in_words c.next_walk-walk.new.calls c.loop-rule.n c.loop-rule.answers c.loop-rule.m) (uses_in c.next_walk-walk.new.calls c.loop-rule.list) = (λ rs begun R. rules-marked (ap (λ (z : Calls). tables z (packed_answers c.loop-rule.answers c.loop-rule.m)) (alone_calls c.next_walk-walk.ensures.1 c.loop-rule.n)) (marked_uses c.next_walk-walk.ensures.1 c.loop-rule.list) R) in marked-at) rs _ (c.loop-rule.invariant.closed rs _ ((let rows_at : (rs : List (ℕ × ℕ)) → (let First : List (ℕ × ℕ) → Type 0 = (λ roots. Round ((let over : Bodies = bodies_with c.args.rules.now c.args.goals.first c.args.goals.second c.args.goal.now c.args.second.now in over)) (Among roots) c.args.first c.args.stage.walked c.args.stage.seen
+    c.args.stage.round c.args.stage.calls c.args.stage.answers c.loop-row.row c.loop-rule.rule begun (in_words c.next_walk-walk.new.calls c.loop-rule.n c.loop-rule.answers c.loop-rule.m) (uses_in c.next_walk-walk.new.calls c.loop-rule.list) = (λ rs begun R. rules_marked (ap (λ (z : Calls). tables z (packed_answers c.loop-rule.answers c.loop-rule.m)) (alone_calls c.next_walk-walk.ensures.1 c.loop-rule.n)) (marked_uses c.next_walk-walk.ensures.1 c.loop-rule.list) R) in marked_at) rs _ (c.loop-rule.invariant.closed rs _ ((let rows_at : (rs : List (ℕ × ℕ)) → (let First : List (ℕ × ℕ) → Type 0 = (λ roots. Round ((let over : Bodies = bodies_with c.args.rules.now c.args.goals.first c.args.goals.second c.args.goal.now c.args.second.now in over)) (Among roots) c.args.first c.args.stage.walked c.args.stage.seen
     (in_words c.args.calls.now c.args.stage.calls c.args.answers.now c.args.stage.answers) (uses_in c.args.calls.now c.args.list.now)) in First) rs
     → Rows ((let over : Bodies = bodies_with c.args.rules.now c.args.goals.first c.args.goals.second c.args.goal.now c.args.second.now in over)) (Among rs) c.args.first c.args.stage.walked c.args.stage.seen c.span_of-span.result.low c.span_of-span.result.high c.span_of-span.result.top c.span_of-span.result.old c.span_of-span.result.warm
     c.args.stage.round c.args.stage.calls c.args.stage.answers c.loop-row.row (begin (in_words c.round.calls c.round.n c.round.answers c.round.m) (uses_in c.round.calls c.round.list)) (in_words c.loop-row.calls c.loop-row.n c.loop-row.answers c.loop-row.m) (uses_in c.loop-row.calls c.loop-row.list) = (λ rs S. let r = c.round.invariant in
     let b = c.span_of-span.ensures.begun in
     let (S', W) = r.closed rs (round_kept _ _ (kept_same b.low) S) b.lit in
-    c.loop-row.invariant.closed rs S' (subst (λ (k : ℕ). (x : ℕ) → x < c.span_of-span.result.old → (x < c.args.stage.walked) × Lit (in_words c.round.calls c.round.n c.round.answers c.round.m).answers (uses_in c.round.calls c.round.list) c.args.stage.seen k c.span_of-span.result.warm) r.known_all W)) in rows_at) rs S))) in rules-at) c.requires.standing.roots c.requires.standing.round in
-    c.loop-after.invariant.going c.requires.standing.roots _ ((let given-at : (rs : List (ℕ × ℕ)) (begun : Begin) → Rules ((let over : Bodies = bodies_with c.args.rules.now c.args.goals.first c.args.goals.second c.args.goal.now c.args.second.now in over)) (Among rs) (number_at (length c.args.rules.now / rule_width)) c.args.first c.args.stage.walked c.args.stage.seen c.span_of-span.result.low c.span_of-span.result.high c.span_of-span.result.top c.span_of-span.result.old c.span_of-span.result.warm
+    c.loop-row.invariant.closed rs S' (subst (λ (k : ℕ). (x : ℕ) → x < c.span_of-span.result.old → (x < c.args.stage.walked) × Lit (in_words c.round.calls c.round.n c.round.answers c.round.m).answers (uses_in c.round.calls c.round.list) c.args.stage.seen k c.span_of-span.result.warm) r.known_all W)) in rows_at) rs S))) in rules_at) c.requires.standing.roots c.requires.standing.round in
+    c.loop-after.invariant.going c.requires.standing.roots _ ((let given_at : (rs : List (ℕ × ℕ)) (begun : Begin) → Rules ((let over : Bodies = bodies_with c.args.rules.now c.args.goals.first c.args.goals.second c.args.goal.now c.args.second.now in over)) (Among rs) (number_at (length c.args.rules.now / rule_width)) c.args.first c.args.stage.walked c.args.stage.seen c.span_of-span.result.low c.span_of-span.result.high c.span_of-span.result.top c.span_of-span.result.old c.span_of-span.result.warm
     c.args.stage.round c.args.stage.calls c.args.stage.answers c.loop-row.row c.loop-rule.rule begun (in_words c.next_walk-walk.new.calls c.loop-rule.n c.loop-rule.answers c.loop-rule.m) (uses_in c.next_walk-walk.new.calls c.loop-rule.list)
     → Given ((let over : Bodies = bodies_with c.args.rules.now c.args.goals.first c.args.goals.second c.args.goal.now c.args.second.now in over)) (Among rs) (in_words c.next_walk-walk.new.calls c.loop-rule.n c.loop-rule.answers c.loop-rule.m)
     c.args.stage.answers c.number_of-number.result c.loop-row.row (before c.args.first c.span_of-span.result.old c.args.stage.seen c.span_of-span.result.warm c.args.stage.round begun) c.steps_for-body.result.now = (λ rs begun R. record {
@@ -477,23 +477,23 @@ loop-after-smaller-in-On c =
       row_last = λ x h l. R.rows_closed.latest x (omega (arith, R.rows_closed.since.all_known)) l;
       row_old = omega (arith, R.rows_closed.base_rows, c.loop-row-test.true, c.span_of-span.ensures.spans.top_in);
       since = R.rows_closed.since;
-    }) in given-at) c.requires.standing.roots _ R) R.rows_closed.noted in going_at)))) in
+    }) in given_at) c.requires.standing.roots _ R) R.rows_closed.noted in going_at)))) in
     on_less _ _ _ _ _ _ _ _ _ ((let going_at : Going ((let over : Bodies = bodies_with c.args.rules.now c.args.goals.first c.args.goals.second c.args.goal.now c.args.second.now in over)) (Among c.requires.standing.roots) (in_words c.next_walk-walk.new.calls c.loop-rule.n c.loop-rule.answers c.loop-rule.m)
     c.args.stage.answers c.number_of-number.result c.loop-row.row c.next_walk-walk.result (before c.args.first c.span_of-span.result.old c.args.stage.seen c.span_of-span.result.warm c.args.stage.round (begin (in_words c.round.calls c.round.n c.round.answers c.round.m) (uses_in c.round.calls c.round.list))) c.steps_for-body.result.now
-    (in_words c.loop-after.calls c.loop-after.n c.loop-after.answers c.loop-after.m) (mark_words c.loop-after.calls) (uses_in c.loop-after.calls c.loop-after.list) c.loop-after.chosen c.loop-after.rest.now (spot_of c.loop-after.spot) = let R = (let rules-at : (rs : List (ℕ × ℕ)) → (let First : List (ℕ × ℕ) → Type 0 = (λ roots. Round ((let over : Bodies = bodies_with c.args.rules.now c.args.goals.first c.args.goals.second c.args.goal.now c.args.second.now in over)) (Among roots) c.args.first c.args.stage.walked c.args.stage.seen
+    (in_words c.loop-after.calls c.loop-after.n c.loop-after.answers c.loop-after.m) (mark_words c.loop-after.calls) (uses_in c.loop-after.calls c.loop-after.list) c.loop-after.chosen c.loop-after.rest.now (spot_of c.loop-after.spot) = let R = (let rules_at : (rs : List (ℕ × ℕ)) → (let First : List (ℕ × ℕ) → Type 0 = (λ roots. Round ((let over : Bodies = bodies_with c.args.rules.now c.args.goals.first c.args.goals.second c.args.goal.now c.args.second.now in over)) (Among roots) c.args.first c.args.stage.walked c.args.stage.seen
     (in_words c.args.calls.now c.args.stage.calls c.args.answers.now c.args.stage.answers) (uses_in c.args.calls.now c.args.list.now)) in First) rs
     → Rules ((let over : Bodies = bodies_with c.args.rules.now c.args.goals.first c.args.goals.second c.args.goal.now c.args.second.now in over)) (Among rs) (number_at (length c.args.rules.now / rule_width)) c.args.first c.args.stage.walked c.args.stage.seen c.span_of-span.result.low c.span_of-span.result.high c.span_of-span.result.top c.span_of-span.result.old c.span_of-span.result.warm
-    c.args.stage.round c.args.stage.calls c.args.stage.answers c.loop-row.row c.loop-rule.rule (begin (in_words c.round.calls c.round.n c.round.answers c.round.m) (uses_in c.round.calls c.round.list)) (in_words c.next_walk-walk.new.calls c.loop-rule.n c.loop-rule.answers c.loop-rule.m) (uses_in c.next_walk-walk.new.calls c.loop-rule.list) = (λ rs S. (let marked-at : (rs : List (ℕ × ℕ)) (begun : Begin) → Rules ((let over : Bodies = bodies_with c.args.rules.now c.args.goals.first c.args.goals.second c.args.goal.now c.args.second.now in over)) (Among rs) (number_at (length c.args.rules.now / rule_width)) c.args.first c.args.stage.walked c.args.stage.seen c.span_of-span.result.low c.span_of-span.result.high c.span_of-span.result.top c.span_of-span.result.old c.span_of-span.result.warm
+    c.args.stage.round c.args.stage.calls c.args.stage.answers c.loop-row.row c.loop-rule.rule (begin (in_words c.round.calls c.round.n c.round.answers c.round.m) (uses_in c.round.calls c.round.list)) (in_words c.next_walk-walk.new.calls c.loop-rule.n c.loop-rule.answers c.loop-rule.m) (uses_in c.next_walk-walk.new.calls c.loop-rule.list) = (λ rs S. (let marked_at : (rs : List (ℕ × ℕ)) (begun : Begin) → Rules ((let over : Bodies = bodies_with c.args.rules.now c.args.goals.first c.args.goals.second c.args.goal.now c.args.second.now in over)) (Among rs) (number_at (length c.args.rules.now / rule_width)) c.args.first c.args.stage.walked c.args.stage.seen c.span_of-span.result.low c.span_of-span.result.high c.span_of-span.result.top c.span_of-span.result.old c.span_of-span.result.warm
     c.args.stage.round c.args.stage.calls c.args.stage.answers c.loop-row.row c.loop-rule.rule begun (in_words c.loop-rule.calls c.loop-rule.n c.loop-rule.answers c.loop-rule.m) (uses_in c.loop-rule.calls c.loop-rule.list)
     → Rules ((let over : Bodies = bodies_with c.args.rules.now c.args.goals.first c.args.goals.second c.args.goal.now c.args.second.now in over)) (Among rs) (number_at (length c.args.rules.now / rule_width)) c.args.first c.args.stage.walked c.args.stage.seen c.span_of-span.result.low c.span_of-span.result.high c.span_of-span.result.top c.span_of-span.result.old c.span_of-span.result.warm
-    c.args.stage.round c.args.stage.calls c.args.stage.answers c.loop-row.row c.loop-rule.rule begun (in_words c.next_walk-walk.new.calls c.loop-rule.n c.loop-rule.answers c.loop-rule.m) (uses_in c.next_walk-walk.new.calls c.loop-rule.list) = (λ rs begun R. rules-marked (ap (λ (z : Calls). tables z (packed_answers c.loop-rule.answers c.loop-rule.m)) (alone_calls c.next_walk-walk.ensures.1 c.loop-rule.n)) (marked_uses c.next_walk-walk.ensures.1 c.loop-rule.list) R) in marked-at) rs _ (c.loop-rule.invariant.closed rs _ ((let rows_at : (rs : List (ℕ × ℕ)) → (let First : List (ℕ × ℕ) → Type 0 = (λ roots. Round ((let over : Bodies = bodies_with c.args.rules.now c.args.goals.first c.args.goals.second c.args.goal.now c.args.second.now in over)) (Among roots) c.args.first c.args.stage.walked c.args.stage.seen
+    c.args.stage.round c.args.stage.calls c.args.stage.answers c.loop-row.row c.loop-rule.rule begun (in_words c.next_walk-walk.new.calls c.loop-rule.n c.loop-rule.answers c.loop-rule.m) (uses_in c.next_walk-walk.new.calls c.loop-rule.list) = (λ rs begun R. rules_marked (ap (λ (z : Calls). tables z (packed_answers c.loop-rule.answers c.loop-rule.m)) (alone_calls c.next_walk-walk.ensures.1 c.loop-rule.n)) (marked_uses c.next_walk-walk.ensures.1 c.loop-rule.list) R) in marked_at) rs _ (c.loop-rule.invariant.closed rs _ ((let rows_at : (rs : List (ℕ × ℕ)) → (let First : List (ℕ × ℕ) → Type 0 = (λ roots. Round ((let over : Bodies = bodies_with c.args.rules.now c.args.goals.first c.args.goals.second c.args.goal.now c.args.second.now in over)) (Among roots) c.args.first c.args.stage.walked c.args.stage.seen
     (in_words c.args.calls.now c.args.stage.calls c.args.answers.now c.args.stage.answers) (uses_in c.args.calls.now c.args.list.now)) in First) rs
     → Rows ((let over : Bodies = bodies_with c.args.rules.now c.args.goals.first c.args.goals.second c.args.goal.now c.args.second.now in over)) (Among rs) c.args.first c.args.stage.walked c.args.stage.seen c.span_of-span.result.low c.span_of-span.result.high c.span_of-span.result.top c.span_of-span.result.old c.span_of-span.result.warm
     c.args.stage.round c.args.stage.calls c.args.stage.answers c.loop-row.row (begin (in_words c.round.calls c.round.n c.round.answers c.round.m) (uses_in c.round.calls c.round.list)) (in_words c.loop-row.calls c.loop-row.n c.loop-row.answers c.loop-row.m) (uses_in c.loop-row.calls c.loop-row.list) = (λ rs S. let r = c.round.invariant in
     let b = c.span_of-span.ensures.begun in
     let (S', W) = r.closed rs (round_kept _ _ (kept_same b.low) S) b.lit in
-    c.loop-row.invariant.closed rs S' (subst (λ (k : ℕ). (x : ℕ) → x < c.span_of-span.result.old → (x < c.args.stage.walked) × Lit (in_words c.round.calls c.round.n c.round.answers c.round.m).answers (uses_in c.round.calls c.round.list) c.args.stage.seen k c.span_of-span.result.warm) r.known_all W)) in rows_at) rs S))) in rules-at) c.requires.standing.roots c.requires.standing.round in
-    c.loop-after.invariant.going c.requires.standing.roots _ ((let given-at : (rs : List (ℕ × ℕ)) (begun : Begin) → Rules ((let over : Bodies = bodies_with c.args.rules.now c.args.goals.first c.args.goals.second c.args.goal.now c.args.second.now in over)) (Among rs) (number_at (length c.args.rules.now / rule_width)) c.args.first c.args.stage.walked c.args.stage.seen c.span_of-span.result.low c.span_of-span.result.high c.span_of-span.result.top c.span_of-span.result.old c.span_of-span.result.warm
+    c.loop-row.invariant.closed rs S' (subst (λ (k : ℕ). (x : ℕ) → x < c.span_of-span.result.old → (x < c.args.stage.walked) × Lit (in_words c.round.calls c.round.n c.round.answers c.round.m).answers (uses_in c.round.calls c.round.list) c.args.stage.seen k c.span_of-span.result.warm) r.known_all W)) in rows_at) rs S))) in rules_at) c.requires.standing.roots c.requires.standing.round in
+    c.loop-after.invariant.going c.requires.standing.roots _ ((let given_at : (rs : List (ℕ × ℕ)) (begun : Begin) → Rules ((let over : Bodies = bodies_with c.args.rules.now c.args.goals.first c.args.goals.second c.args.goal.now c.args.second.now in over)) (Among rs) (number_at (length c.args.rules.now / rule_width)) c.args.first c.args.stage.walked c.args.stage.seen c.span_of-span.result.low c.span_of-span.result.high c.span_of-span.result.top c.span_of-span.result.old c.span_of-span.result.warm
     c.args.stage.round c.args.stage.calls c.args.stage.answers c.loop-row.row c.loop-rule.rule begun (in_words c.next_walk-walk.new.calls c.loop-rule.n c.loop-rule.answers c.loop-rule.m) (uses_in c.next_walk-walk.new.calls c.loop-rule.list)
     → Given ((let over : Bodies = bodies_with c.args.rules.now c.args.goals.first c.args.goals.second c.args.goal.now c.args.second.now in over)) (Among rs) (in_words c.next_walk-walk.new.calls c.loop-rule.n c.loop-rule.answers c.loop-rule.m)
     c.args.stage.answers c.number_of-number.result c.loop-row.row (before c.args.first c.span_of-span.result.old c.args.stage.seen c.span_of-span.result.warm c.args.stage.round begun) c.steps_for-body.result.now = (λ rs begun R. record {
@@ -508,7 +508,7 @@ loop-after-smaller-in-On c =
       row_last = λ x h l. R.rows_closed.latest x (omega (arith, R.rows_closed.since.all_known)) l;
       row_old = omega (arith, R.rows_closed.base_rows, c.loop-row-test.true, c.span_of-span.ensures.spans.top_in);
       since = R.rows_closed.since;
-    }) in given-at) c.requires.standing.roots _ R) R.rows_closed.noted in going_at)) O.0 refl O.1
+    }) in given_at) c.requires.standing.roots _ R) R.rows_closed.noted in going_at)) O.0 refl O.1
 
 pub loop-after-preserved-in-On : goal.loop-after-preserved-in-On
 loop-after-preserved-in-On c =
@@ -525,20 +525,20 @@ offset_bounds-body-place c =
       arith,
       (rw c.in-Back.is at (c.turn-turn.ensures.leaving _ _ _ _ ((let going_at : Going ((let over : Bodies = bodies_with c.args.rules.now c.args.goals.first c.args.goals.second c.args.goal.now c.args.second.now in over)) (Among c.requires.standing.roots) (in_words c.next_walk-walk.new.calls c.loop-rule.n c.loop-rule.answers c.loop-rule.m)
           c.args.stage.answers c.number_of-number.result c.loop-row.row c.next_walk-walk.result (before c.args.first c.span_of-span.result.old c.args.stage.seen c.span_of-span.result.warm c.args.stage.round (begin (in_words c.round.calls c.round.n c.round.answers c.round.m) (uses_in c.round.calls c.round.list))) c.steps_for-body.result.now
-          (in_words c.loop-after.calls c.loop-after.n c.loop-after.answers c.loop-after.m) (mark_words c.loop-after.calls) (uses_in c.loop-after.calls c.loop-after.list) c.loop-after.chosen c.loop-after.rest.now (spot_of c.loop-after.spot) = let R = (let rules-at : (rs : List (ℕ × ℕ)) → (let First : List (ℕ × ℕ) → Type 0 = (λ roots. Round ((let over : Bodies = bodies_with c.args.rules.now c.args.goals.first c.args.goals.second c.args.goal.now c.args.second.now in over)) (Among roots) c.args.first c.args.stage.walked c.args.stage.seen
+          (in_words c.loop-after.calls c.loop-after.n c.loop-after.answers c.loop-after.m) (mark_words c.loop-after.calls) (uses_in c.loop-after.calls c.loop-after.list) c.loop-after.chosen c.loop-after.rest.now (spot_of c.loop-after.spot) = let R = (let rules_at : (rs : List (ℕ × ℕ)) → (let First : List (ℕ × ℕ) → Type 0 = (λ roots. Round ((let over : Bodies = bodies_with c.args.rules.now c.args.goals.first c.args.goals.second c.args.goal.now c.args.second.now in over)) (Among roots) c.args.first c.args.stage.walked c.args.stage.seen
           (in_words c.args.calls.now c.args.stage.calls c.args.answers.now c.args.stage.answers) (uses_in c.args.calls.now c.args.list.now)) in First) rs
           → Rules ((let over : Bodies = bodies_with c.args.rules.now c.args.goals.first c.args.goals.second c.args.goal.now c.args.second.now in over)) (Among rs) (number_at (length c.args.rules.now / rule_width)) c.args.first c.args.stage.walked c.args.stage.seen c.span_of-span.result.low c.span_of-span.result.high c.span_of-span.result.top c.span_of-span.result.old c.span_of-span.result.warm
-          c.args.stage.round c.args.stage.calls c.args.stage.answers c.loop-row.row c.loop-rule.rule (begin (in_words c.round.calls c.round.n c.round.answers c.round.m) (uses_in c.round.calls c.round.list)) (in_words c.next_walk-walk.new.calls c.loop-rule.n c.loop-rule.answers c.loop-rule.m) (uses_in c.next_walk-walk.new.calls c.loop-rule.list) = (λ rs S. (let marked-at : (rs : List (ℕ × ℕ)) (begun : Begin) → Rules ((let over : Bodies = bodies_with c.args.rules.now c.args.goals.first c.args.goals.second c.args.goal.now c.args.second.now in over)) (Among rs) (number_at (length c.args.rules.now / rule_width)) c.args.first c.args.stage.walked c.args.stage.seen c.span_of-span.result.low c.span_of-span.result.high c.span_of-span.result.top c.span_of-span.result.old c.span_of-span.result.warm
+          c.args.stage.round c.args.stage.calls c.args.stage.answers c.loop-row.row c.loop-rule.rule (begin (in_words c.round.calls c.round.n c.round.answers c.round.m) (uses_in c.round.calls c.round.list)) (in_words c.next_walk-walk.new.calls c.loop-rule.n c.loop-rule.answers c.loop-rule.m) (uses_in c.next_walk-walk.new.calls c.loop-rule.list) = (λ rs S. (let marked_at : (rs : List (ℕ × ℕ)) (begun : Begin) → Rules ((let over : Bodies = bodies_with c.args.rules.now c.args.goals.first c.args.goals.second c.args.goal.now c.args.second.now in over)) (Among rs) (number_at (length c.args.rules.now / rule_width)) c.args.first c.args.stage.walked c.args.stage.seen c.span_of-span.result.low c.span_of-span.result.high c.span_of-span.result.top c.span_of-span.result.old c.span_of-span.result.warm
           c.args.stage.round c.args.stage.calls c.args.stage.answers c.loop-row.row c.loop-rule.rule begun (in_words c.loop-rule.calls c.loop-rule.n c.loop-rule.answers c.loop-rule.m) (uses_in c.loop-rule.calls c.loop-rule.list)
           → Rules ((let over : Bodies = bodies_with c.args.rules.now c.args.goals.first c.args.goals.second c.args.goal.now c.args.second.now in over)) (Among rs) (number_at (length c.args.rules.now / rule_width)) c.args.first c.args.stage.walked c.args.stage.seen c.span_of-span.result.low c.span_of-span.result.high c.span_of-span.result.top c.span_of-span.result.old c.span_of-span.result.warm
-          c.args.stage.round c.args.stage.calls c.args.stage.answers c.loop-row.row c.loop-rule.rule begun (in_words c.next_walk-walk.new.calls c.loop-rule.n c.loop-rule.answers c.loop-rule.m) (uses_in c.next_walk-walk.new.calls c.loop-rule.list) = (λ rs begun R. rules-marked (ap (λ (z : Calls). tables z (packed_answers c.loop-rule.answers c.loop-rule.m)) (alone_calls c.next_walk-walk.ensures.1 c.loop-rule.n)) (marked_uses c.next_walk-walk.ensures.1 c.loop-rule.list) R) in marked-at) rs _ (c.loop-rule.invariant.closed rs _ ((let rows_at : (rs : List (ℕ × ℕ)) → (let First : List (ℕ × ℕ) → Type 0 = (λ roots. Round ((let over : Bodies = bodies_with c.args.rules.now c.args.goals.first c.args.goals.second c.args.goal.now c.args.second.now in over)) (Among roots) c.args.first c.args.stage.walked c.args.stage.seen
+          c.args.stage.round c.args.stage.calls c.args.stage.answers c.loop-row.row c.loop-rule.rule begun (in_words c.next_walk-walk.new.calls c.loop-rule.n c.loop-rule.answers c.loop-rule.m) (uses_in c.next_walk-walk.new.calls c.loop-rule.list) = (λ rs begun R. rules_marked (ap (λ (z : Calls). tables z (packed_answers c.loop-rule.answers c.loop-rule.m)) (alone_calls c.next_walk-walk.ensures.1 c.loop-rule.n)) (marked_uses c.next_walk-walk.ensures.1 c.loop-rule.list) R) in marked_at) rs _ (c.loop-rule.invariant.closed rs _ ((let rows_at : (rs : List (ℕ × ℕ)) → (let First : List (ℕ × ℕ) → Type 0 = (λ roots. Round ((let over : Bodies = bodies_with c.args.rules.now c.args.goals.first c.args.goals.second c.args.goal.now c.args.second.now in over)) (Among roots) c.args.first c.args.stage.walked c.args.stage.seen
           (in_words c.args.calls.now c.args.stage.calls c.args.answers.now c.args.stage.answers) (uses_in c.args.calls.now c.args.list.now)) in First) rs
           → Rows ((let over : Bodies = bodies_with c.args.rules.now c.args.goals.first c.args.goals.second c.args.goal.now c.args.second.now in over)) (Among rs) c.args.first c.args.stage.walked c.args.stage.seen c.span_of-span.result.low c.span_of-span.result.high c.span_of-span.result.top c.span_of-span.result.old c.span_of-span.result.warm
           c.args.stage.round c.args.stage.calls c.args.stage.answers c.loop-row.row (begin (in_words c.round.calls c.round.n c.round.answers c.round.m) (uses_in c.round.calls c.round.list)) (in_words c.loop-row.calls c.loop-row.n c.loop-row.answers c.loop-row.m) (uses_in c.loop-row.calls c.loop-row.list) = (λ rs S. let r = c.round.invariant in
           let b = c.span_of-span.ensures.begun in
           let (S', W) = r.closed rs (round_kept _ _ (kept_same b.low) S) b.lit in
-          c.loop-row.invariant.closed rs S' (subst (λ (k : ℕ). (x : ℕ) → x < c.span_of-span.result.old → (x < c.args.stage.walked) × Lit (in_words c.round.calls c.round.n c.round.answers c.round.m).answers (uses_in c.round.calls c.round.list) c.args.stage.seen k c.span_of-span.result.warm) r.known_all W)) in rows_at) rs S))) in rules-at) c.requires.standing.roots c.requires.standing.round in
-          c.loop-after.invariant.going c.requires.standing.roots _ ((let given-at : (rs : List (ℕ × ℕ)) (begun : Begin) → Rules ((let over : Bodies = bodies_with c.args.rules.now c.args.goals.first c.args.goals.second c.args.goal.now c.args.second.now in over)) (Among rs) (number_at (length c.args.rules.now / rule_width)) c.args.first c.args.stage.walked c.args.stage.seen c.span_of-span.result.low c.span_of-span.result.high c.span_of-span.result.top c.span_of-span.result.old c.span_of-span.result.warm
+          c.loop-row.invariant.closed rs S' (subst (λ (k : ℕ). (x : ℕ) → x < c.span_of-span.result.old → (x < c.args.stage.walked) × Lit (in_words c.round.calls c.round.n c.round.answers c.round.m).answers (uses_in c.round.calls c.round.list) c.args.stage.seen k c.span_of-span.result.warm) r.known_all W)) in rows_at) rs S))) in rules_at) c.requires.standing.roots c.requires.standing.round in
+          c.loop-after.invariant.going c.requires.standing.roots _ ((let given_at : (rs : List (ℕ × ℕ)) (begun : Begin) → Rules ((let over : Bodies = bodies_with c.args.rules.now c.args.goals.first c.args.goals.second c.args.goal.now c.args.second.now in over)) (Among rs) (number_at (length c.args.rules.now / rule_width)) c.args.first c.args.stage.walked c.args.stage.seen c.span_of-span.result.low c.span_of-span.result.high c.span_of-span.result.top c.span_of-span.result.old c.span_of-span.result.warm
           c.args.stage.round c.args.stage.calls c.args.stage.answers c.loop-row.row c.loop-rule.rule begun (in_words c.next_walk-walk.new.calls c.loop-rule.n c.loop-rule.answers c.loop-rule.m) (uses_in c.next_walk-walk.new.calls c.loop-rule.list)
           → Given ((let over : Bodies = bodies_with c.args.rules.now c.args.goals.first c.args.goals.second c.args.goal.now c.args.second.now in over)) (Among rs) (in_words c.next_walk-walk.new.calls c.loop-rule.n c.loop-rule.answers c.loop-rule.m)
           c.args.stage.answers c.number_of-number.result c.loop-row.row (before c.args.first c.span_of-span.result.old c.args.stage.seen c.span_of-span.result.warm c.args.stage.round begun) c.steps_for-body.result.now = (λ rs begun R. record {
@@ -553,23 +553,23 @@ offset_bounds-body-place c =
             row_last = λ x h l. R.rows_closed.latest x (omega (arith, R.rows_closed.since.all_known)) l;
             row_old = omega (arith, R.rows_closed.base_rows, c.loop-row-test.true, c.span_of-span.ensures.spans.top_in);
             since = R.rows_closed.since;
-          }) in given-at) c.requires.standing.roots _ R) R.rows_closed.noted in going_at)))).0.walking.inside,
+          }) in given_at) c.requires.standing.roots _ R) R.rows_closed.noted in going_at)))).0.walking.inside,
       body_short _ _ _ _ _ _ c.next_walk-walk.result _ _ ((let going_at : Going ((let over : Bodies = bodies_with c.args.rules.now c.args.goals.first c.args.goals.second c.args.goal.now c.args.second.now in over)) (Among c.requires.standing.roots) (in_words c.next_walk-walk.new.calls c.loop-rule.n c.loop-rule.answers c.loop-rule.m)
           c.args.stage.answers c.number_of-number.result c.loop-row.row c.next_walk-walk.result (before c.args.first c.span_of-span.result.old c.args.stage.seen c.span_of-span.result.warm c.args.stage.round (begin (in_words c.round.calls c.round.n c.round.answers c.round.m) (uses_in c.round.calls c.round.list))) c.steps_for-body.result.now
-          (in_words c.loop-after.calls c.loop-after.n c.loop-after.answers c.loop-after.m) (mark_words c.loop-after.calls) (uses_in c.loop-after.calls c.loop-after.list) c.loop-after.chosen c.loop-after.rest.now (spot_of c.loop-after.spot) = let R = (let rules-at : (rs : List (ℕ × ℕ)) → (let First : List (ℕ × ℕ) → Type 0 = (λ roots. Round ((let over : Bodies = bodies_with c.args.rules.now c.args.goals.first c.args.goals.second c.args.goal.now c.args.second.now in over)) (Among roots) c.args.first c.args.stage.walked c.args.stage.seen
+          (in_words c.loop-after.calls c.loop-after.n c.loop-after.answers c.loop-after.m) (mark_words c.loop-after.calls) (uses_in c.loop-after.calls c.loop-after.list) c.loop-after.chosen c.loop-after.rest.now (spot_of c.loop-after.spot) = let R = (let rules_at : (rs : List (ℕ × ℕ)) → (let First : List (ℕ × ℕ) → Type 0 = (λ roots. Round ((let over : Bodies = bodies_with c.args.rules.now c.args.goals.first c.args.goals.second c.args.goal.now c.args.second.now in over)) (Among roots) c.args.first c.args.stage.walked c.args.stage.seen
           (in_words c.args.calls.now c.args.stage.calls c.args.answers.now c.args.stage.answers) (uses_in c.args.calls.now c.args.list.now)) in First) rs
           → Rules ((let over : Bodies = bodies_with c.args.rules.now c.args.goals.first c.args.goals.second c.args.goal.now c.args.second.now in over)) (Among rs) (number_at (length c.args.rules.now / rule_width)) c.args.first c.args.stage.walked c.args.stage.seen c.span_of-span.result.low c.span_of-span.result.high c.span_of-span.result.top c.span_of-span.result.old c.span_of-span.result.warm
-          c.args.stage.round c.args.stage.calls c.args.stage.answers c.loop-row.row c.loop-rule.rule (begin (in_words c.round.calls c.round.n c.round.answers c.round.m) (uses_in c.round.calls c.round.list)) (in_words c.next_walk-walk.new.calls c.loop-rule.n c.loop-rule.answers c.loop-rule.m) (uses_in c.next_walk-walk.new.calls c.loop-rule.list) = (λ rs S. (let marked-at : (rs : List (ℕ × ℕ)) (begun : Begin) → Rules ((let over : Bodies = bodies_with c.args.rules.now c.args.goals.first c.args.goals.second c.args.goal.now c.args.second.now in over)) (Among rs) (number_at (length c.args.rules.now / rule_width)) c.args.first c.args.stage.walked c.args.stage.seen c.span_of-span.result.low c.span_of-span.result.high c.span_of-span.result.top c.span_of-span.result.old c.span_of-span.result.warm
+          c.args.stage.round c.args.stage.calls c.args.stage.answers c.loop-row.row c.loop-rule.rule (begin (in_words c.round.calls c.round.n c.round.answers c.round.m) (uses_in c.round.calls c.round.list)) (in_words c.next_walk-walk.new.calls c.loop-rule.n c.loop-rule.answers c.loop-rule.m) (uses_in c.next_walk-walk.new.calls c.loop-rule.list) = (λ rs S. (let marked_at : (rs : List (ℕ × ℕ)) (begun : Begin) → Rules ((let over : Bodies = bodies_with c.args.rules.now c.args.goals.first c.args.goals.second c.args.goal.now c.args.second.now in over)) (Among rs) (number_at (length c.args.rules.now / rule_width)) c.args.first c.args.stage.walked c.args.stage.seen c.span_of-span.result.low c.span_of-span.result.high c.span_of-span.result.top c.span_of-span.result.old c.span_of-span.result.warm
           c.args.stage.round c.args.stage.calls c.args.stage.answers c.loop-row.row c.loop-rule.rule begun (in_words c.loop-rule.calls c.loop-rule.n c.loop-rule.answers c.loop-rule.m) (uses_in c.loop-rule.calls c.loop-rule.list)
           → Rules ((let over : Bodies = bodies_with c.args.rules.now c.args.goals.first c.args.goals.second c.args.goal.now c.args.second.now in over)) (Among rs) (number_at (length c.args.rules.now / rule_width)) c.args.first c.args.stage.walked c.args.stage.seen c.span_of-span.result.low c.span_of-span.result.high c.span_of-span.result.top c.span_of-span.result.old c.span_of-span.result.warm
-          c.args.stage.round c.args.stage.calls c.args.stage.answers c.loop-row.row c.loop-rule.rule begun (in_words c.next_walk-walk.new.calls c.loop-rule.n c.loop-rule.answers c.loop-rule.m) (uses_in c.next_walk-walk.new.calls c.loop-rule.list) = (λ rs begun R. rules-marked (ap (λ (z : Calls). tables z (packed_answers c.loop-rule.answers c.loop-rule.m)) (alone_calls c.next_walk-walk.ensures.1 c.loop-rule.n)) (marked_uses c.next_walk-walk.ensures.1 c.loop-rule.list) R) in marked-at) rs _ (c.loop-rule.invariant.closed rs _ ((let rows_at : (rs : List (ℕ × ℕ)) → (let First : List (ℕ × ℕ) → Type 0 = (λ roots. Round ((let over : Bodies = bodies_with c.args.rules.now c.args.goals.first c.args.goals.second c.args.goal.now c.args.second.now in over)) (Among roots) c.args.first c.args.stage.walked c.args.stage.seen
+          c.args.stage.round c.args.stage.calls c.args.stage.answers c.loop-row.row c.loop-rule.rule begun (in_words c.next_walk-walk.new.calls c.loop-rule.n c.loop-rule.answers c.loop-rule.m) (uses_in c.next_walk-walk.new.calls c.loop-rule.list) = (λ rs begun R. rules_marked (ap (λ (z : Calls). tables z (packed_answers c.loop-rule.answers c.loop-rule.m)) (alone_calls c.next_walk-walk.ensures.1 c.loop-rule.n)) (marked_uses c.next_walk-walk.ensures.1 c.loop-rule.list) R) in marked_at) rs _ (c.loop-rule.invariant.closed rs _ ((let rows_at : (rs : List (ℕ × ℕ)) → (let First : List (ℕ × ℕ) → Type 0 = (λ roots. Round ((let over : Bodies = bodies_with c.args.rules.now c.args.goals.first c.args.goals.second c.args.goal.now c.args.second.now in over)) (Among roots) c.args.first c.args.stage.walked c.args.stage.seen
           (in_words c.args.calls.now c.args.stage.calls c.args.answers.now c.args.stage.answers) (uses_in c.args.calls.now c.args.list.now)) in First) rs
           → Rows ((let over : Bodies = bodies_with c.args.rules.now c.args.goals.first c.args.goals.second c.args.goal.now c.args.second.now in over)) (Among rs) c.args.first c.args.stage.walked c.args.stage.seen c.span_of-span.result.low c.span_of-span.result.high c.span_of-span.result.top c.span_of-span.result.old c.span_of-span.result.warm
           c.args.stage.round c.args.stage.calls c.args.stage.answers c.loop-row.row (begin (in_words c.round.calls c.round.n c.round.answers c.round.m) (uses_in c.round.calls c.round.list)) (in_words c.loop-row.calls c.loop-row.n c.loop-row.answers c.loop-row.m) (uses_in c.loop-row.calls c.loop-row.list) = (λ rs S. let r = c.round.invariant in
           let b = c.span_of-span.ensures.begun in
           let (S', W) = r.closed rs (round_kept _ _ (kept_same b.low) S) b.lit in
-          c.loop-row.invariant.closed rs S' (subst (λ (k : ℕ). (x : ℕ) → x < c.span_of-span.result.old → (x < c.args.stage.walked) × Lit (in_words c.round.calls c.round.n c.round.answers c.round.m).answers (uses_in c.round.calls c.round.list) c.args.stage.seen k c.span_of-span.result.warm) r.known_all W)) in rows_at) rs S))) in rules-at) c.requires.standing.roots c.requires.standing.round in
-          c.loop-after.invariant.going c.requires.standing.roots _ ((let given-at : (rs : List (ℕ × ℕ)) (begun : Begin) → Rules ((let over : Bodies = bodies_with c.args.rules.now c.args.goals.first c.args.goals.second c.args.goal.now c.args.second.now in over)) (Among rs) (number_at (length c.args.rules.now / rule_width)) c.args.first c.args.stage.walked c.args.stage.seen c.span_of-span.result.low c.span_of-span.result.high c.span_of-span.result.top c.span_of-span.result.old c.span_of-span.result.warm
+          c.loop-row.invariant.closed rs S' (subst (λ (k : ℕ). (x : ℕ) → x < c.span_of-span.result.old → (x < c.args.stage.walked) × Lit (in_words c.round.calls c.round.n c.round.answers c.round.m).answers (uses_in c.round.calls c.round.list) c.args.stage.seen k c.span_of-span.result.warm) r.known_all W)) in rows_at) rs S))) in rules_at) c.requires.standing.roots c.requires.standing.round in
+          c.loop-after.invariant.going c.requires.standing.roots _ ((let given_at : (rs : List (ℕ × ℕ)) (begun : Begin) → Rules ((let over : Bodies = bodies_with c.args.rules.now c.args.goals.first c.args.goals.second c.args.goal.now c.args.second.now in over)) (Among rs) (number_at (length c.args.rules.now / rule_width)) c.args.first c.args.stage.walked c.args.stage.seen c.span_of-span.result.low c.span_of-span.result.high c.span_of-span.result.top c.span_of-span.result.old c.span_of-span.result.warm
           c.args.stage.round c.args.stage.calls c.args.stage.answers c.loop-row.row c.loop-rule.rule begun (in_words c.next_walk-walk.new.calls c.loop-rule.n c.loop-rule.answers c.loop-rule.m) (uses_in c.next_walk-walk.new.calls c.loop-rule.list)
           → Given ((let over : Bodies = bodies_with c.args.rules.now c.args.goals.first c.args.goals.second c.args.goal.now c.args.second.now in over)) (Among rs) (in_words c.next_walk-walk.new.calls c.loop-rule.n c.loop-rule.answers c.loop-rule.m)
           c.args.stage.answers c.number_of-number.result c.loop-row.row (before c.args.first c.span_of-span.result.old c.args.stage.seen c.span_of-span.result.warm c.args.stage.round begun) c.steps_for-body.result.now = (λ rs begun R. record {
@@ -584,7 +584,7 @@ offset_bounds-body-place c =
             row_last = λ x h l. R.rows_closed.latest x (omega (arith, R.rows_closed.since.all_known)) l;
             row_old = omega (arith, R.rows_closed.base_rows, c.loop-row-test.true, c.span_of-span.ensures.spans.top_in);
             since = R.rows_closed.since;
-          }) in given-at) c.requires.standing.roots _ R) R.rows_closed.noted in going_at)).turning.given,
+          }) in given_at) c.requires.standing.roots _ R) R.rows_closed.noted in going_at)).turning.given,
     )
 
 pub slice_bounds-rest-count-in-Back : goal.slice_bounds-rest-count-in-Back
@@ -593,20 +593,20 @@ slice_bounds-rest-count-in-Back c =
       arith,
       (rw c.in-Back.is at (c.turn-turn.ensures.leaving _ _ _ _ ((let going_at : Going ((let over : Bodies = bodies_with c.args.rules.now c.args.goals.first c.args.goals.second c.args.goal.now c.args.second.now in over)) (Among c.requires.standing.roots) (in_words c.next_walk-walk.new.calls c.loop-rule.n c.loop-rule.answers c.loop-rule.m)
           c.args.stage.answers c.number_of-number.result c.loop-row.row c.next_walk-walk.result (before c.args.first c.span_of-span.result.old c.args.stage.seen c.span_of-span.result.warm c.args.stage.round (begin (in_words c.round.calls c.round.n c.round.answers c.round.m) (uses_in c.round.calls c.round.list))) c.steps_for-body.result.now
-          (in_words c.loop-after.calls c.loop-after.n c.loop-after.answers c.loop-after.m) (mark_words c.loop-after.calls) (uses_in c.loop-after.calls c.loop-after.list) c.loop-after.chosen c.loop-after.rest.now (spot_of c.loop-after.spot) = let R = (let rules-at : (rs : List (ℕ × ℕ)) → (let First : List (ℕ × ℕ) → Type 0 = (λ roots. Round ((let over : Bodies = bodies_with c.args.rules.now c.args.goals.first c.args.goals.second c.args.goal.now c.args.second.now in over)) (Among roots) c.args.first c.args.stage.walked c.args.stage.seen
+          (in_words c.loop-after.calls c.loop-after.n c.loop-after.answers c.loop-after.m) (mark_words c.loop-after.calls) (uses_in c.loop-after.calls c.loop-after.list) c.loop-after.chosen c.loop-after.rest.now (spot_of c.loop-after.spot) = let R = (let rules_at : (rs : List (ℕ × ℕ)) → (let First : List (ℕ × ℕ) → Type 0 = (λ roots. Round ((let over : Bodies = bodies_with c.args.rules.now c.args.goals.first c.args.goals.second c.args.goal.now c.args.second.now in over)) (Among roots) c.args.first c.args.stage.walked c.args.stage.seen
           (in_words c.args.calls.now c.args.stage.calls c.args.answers.now c.args.stage.answers) (uses_in c.args.calls.now c.args.list.now)) in First) rs
           → Rules ((let over : Bodies = bodies_with c.args.rules.now c.args.goals.first c.args.goals.second c.args.goal.now c.args.second.now in over)) (Among rs) (number_at (length c.args.rules.now / rule_width)) c.args.first c.args.stage.walked c.args.stage.seen c.span_of-span.result.low c.span_of-span.result.high c.span_of-span.result.top c.span_of-span.result.old c.span_of-span.result.warm
-          c.args.stage.round c.args.stage.calls c.args.stage.answers c.loop-row.row c.loop-rule.rule (begin (in_words c.round.calls c.round.n c.round.answers c.round.m) (uses_in c.round.calls c.round.list)) (in_words c.next_walk-walk.new.calls c.loop-rule.n c.loop-rule.answers c.loop-rule.m) (uses_in c.next_walk-walk.new.calls c.loop-rule.list) = (λ rs S. (let marked-at : (rs : List (ℕ × ℕ)) (begun : Begin) → Rules ((let over : Bodies = bodies_with c.args.rules.now c.args.goals.first c.args.goals.second c.args.goal.now c.args.second.now in over)) (Among rs) (number_at (length c.args.rules.now / rule_width)) c.args.first c.args.stage.walked c.args.stage.seen c.span_of-span.result.low c.span_of-span.result.high c.span_of-span.result.top c.span_of-span.result.old c.span_of-span.result.warm
+          c.args.stage.round c.args.stage.calls c.args.stage.answers c.loop-row.row c.loop-rule.rule (begin (in_words c.round.calls c.round.n c.round.answers c.round.m) (uses_in c.round.calls c.round.list)) (in_words c.next_walk-walk.new.calls c.loop-rule.n c.loop-rule.answers c.loop-rule.m) (uses_in c.next_walk-walk.new.calls c.loop-rule.list) = (λ rs S. (let marked_at : (rs : List (ℕ × ℕ)) (begun : Begin) → Rules ((let over : Bodies = bodies_with c.args.rules.now c.args.goals.first c.args.goals.second c.args.goal.now c.args.second.now in over)) (Among rs) (number_at (length c.args.rules.now / rule_width)) c.args.first c.args.stage.walked c.args.stage.seen c.span_of-span.result.low c.span_of-span.result.high c.span_of-span.result.top c.span_of-span.result.old c.span_of-span.result.warm
           c.args.stage.round c.args.stage.calls c.args.stage.answers c.loop-row.row c.loop-rule.rule begun (in_words c.loop-rule.calls c.loop-rule.n c.loop-rule.answers c.loop-rule.m) (uses_in c.loop-rule.calls c.loop-rule.list)
           → Rules ((let over : Bodies = bodies_with c.args.rules.now c.args.goals.first c.args.goals.second c.args.goal.now c.args.second.now in over)) (Among rs) (number_at (length c.args.rules.now / rule_width)) c.args.first c.args.stage.walked c.args.stage.seen c.span_of-span.result.low c.span_of-span.result.high c.span_of-span.result.top c.span_of-span.result.old c.span_of-span.result.warm
-          c.args.stage.round c.args.stage.calls c.args.stage.answers c.loop-row.row c.loop-rule.rule begun (in_words c.next_walk-walk.new.calls c.loop-rule.n c.loop-rule.answers c.loop-rule.m) (uses_in c.next_walk-walk.new.calls c.loop-rule.list) = (λ rs begun R. rules-marked (ap (λ (z : Calls). tables z (packed_answers c.loop-rule.answers c.loop-rule.m)) (alone_calls c.next_walk-walk.ensures.1 c.loop-rule.n)) (marked_uses c.next_walk-walk.ensures.1 c.loop-rule.list) R) in marked-at) rs _ (c.loop-rule.invariant.closed rs _ ((let rows_at : (rs : List (ℕ × ℕ)) → (let First : List (ℕ × ℕ) → Type 0 = (λ roots. Round ((let over : Bodies = bodies_with c.args.rules.now c.args.goals.first c.args.goals.second c.args.goal.now c.args.second.now in over)) (Among roots) c.args.first c.args.stage.walked c.args.stage.seen
+          c.args.stage.round c.args.stage.calls c.args.stage.answers c.loop-row.row c.loop-rule.rule begun (in_words c.next_walk-walk.new.calls c.loop-rule.n c.loop-rule.answers c.loop-rule.m) (uses_in c.next_walk-walk.new.calls c.loop-rule.list) = (λ rs begun R. rules_marked (ap (λ (z : Calls). tables z (packed_answers c.loop-rule.answers c.loop-rule.m)) (alone_calls c.next_walk-walk.ensures.1 c.loop-rule.n)) (marked_uses c.next_walk-walk.ensures.1 c.loop-rule.list) R) in marked_at) rs _ (c.loop-rule.invariant.closed rs _ ((let rows_at : (rs : List (ℕ × ℕ)) → (let First : List (ℕ × ℕ) → Type 0 = (λ roots. Round ((let over : Bodies = bodies_with c.args.rules.now c.args.goals.first c.args.goals.second c.args.goal.now c.args.second.now in over)) (Among roots) c.args.first c.args.stage.walked c.args.stage.seen
           (in_words c.args.calls.now c.args.stage.calls c.args.answers.now c.args.stage.answers) (uses_in c.args.calls.now c.args.list.now)) in First) rs
           → Rows ((let over : Bodies = bodies_with c.args.rules.now c.args.goals.first c.args.goals.second c.args.goal.now c.args.second.now in over)) (Among rs) c.args.first c.args.stage.walked c.args.stage.seen c.span_of-span.result.low c.span_of-span.result.high c.span_of-span.result.top c.span_of-span.result.old c.span_of-span.result.warm
           c.args.stage.round c.args.stage.calls c.args.stage.answers c.loop-row.row (begin (in_words c.round.calls c.round.n c.round.answers c.round.m) (uses_in c.round.calls c.round.list)) (in_words c.loop-row.calls c.loop-row.n c.loop-row.answers c.loop-row.m) (uses_in c.loop-row.calls c.loop-row.list) = (λ rs S. let r = c.round.invariant in
           let b = c.span_of-span.ensures.begun in
           let (S', W) = r.closed rs (round_kept _ _ (kept_same b.low) S) b.lit in
-          c.loop-row.invariant.closed rs S' (subst (λ (k : ℕ). (x : ℕ) → x < c.span_of-span.result.old → (x < c.args.stage.walked) × Lit (in_words c.round.calls c.round.n c.round.answers c.round.m).answers (uses_in c.round.calls c.round.list) c.args.stage.seen k c.span_of-span.result.warm) r.known_all W)) in rows_at) rs S))) in rules-at) c.requires.standing.roots c.requires.standing.round in
-          c.loop-after.invariant.going c.requires.standing.roots _ ((let given-at : (rs : List (ℕ × ℕ)) (begun : Begin) → Rules ((let over : Bodies = bodies_with c.args.rules.now c.args.goals.first c.args.goals.second c.args.goal.now c.args.second.now in over)) (Among rs) (number_at (length c.args.rules.now / rule_width)) c.args.first c.args.stage.walked c.args.stage.seen c.span_of-span.result.low c.span_of-span.result.high c.span_of-span.result.top c.span_of-span.result.old c.span_of-span.result.warm
+          c.loop-row.invariant.closed rs S' (subst (λ (k : ℕ). (x : ℕ) → x < c.span_of-span.result.old → (x < c.args.stage.walked) × Lit (in_words c.round.calls c.round.n c.round.answers c.round.m).answers (uses_in c.round.calls c.round.list) c.args.stage.seen k c.span_of-span.result.warm) r.known_all W)) in rows_at) rs S))) in rules_at) c.requires.standing.roots c.requires.standing.round in
+          c.loop-after.invariant.going c.requires.standing.roots _ ((let given_at : (rs : List (ℕ × ℕ)) (begun : Begin) → Rules ((let over : Bodies = bodies_with c.args.rules.now c.args.goals.first c.args.goals.second c.args.goal.now c.args.second.now in over)) (Among rs) (number_at (length c.args.rules.now / rule_width)) c.args.first c.args.stage.walked c.args.stage.seen c.span_of-span.result.low c.span_of-span.result.high c.span_of-span.result.top c.span_of-span.result.old c.span_of-span.result.warm
           c.args.stage.round c.args.stage.calls c.args.stage.answers c.loop-row.row c.loop-rule.rule begun (in_words c.next_walk-walk.new.calls c.loop-rule.n c.loop-rule.answers c.loop-rule.m) (uses_in c.next_walk-walk.new.calls c.loop-rule.list)
           → Given ((let over : Bodies = bodies_with c.args.rules.now c.args.goals.first c.args.goals.second c.args.goal.now c.args.second.now in over)) (Among rs) (in_words c.next_walk-walk.new.calls c.loop-rule.n c.loop-rule.answers c.loop-rule.m)
           c.args.stage.answers c.number_of-number.result c.loop-row.row (before c.args.first c.span_of-span.result.old c.args.stage.seen c.span_of-span.result.warm c.args.stage.round begun) c.steps_for-body.result.now = (λ rs begun R. record {
@@ -621,7 +621,7 @@ slice_bounds-rest-count-in-Back c =
             row_last = λ x h l. R.rows_closed.latest x (omega (arith, R.rows_closed.since.all_known)) l;
             row_old = omega (arith, R.rows_closed.base_rows, c.loop-row-test.true, c.span_of-span.ensures.spans.top_in);
             since = R.rows_closed.since;
-          }) in given-at) c.requires.standing.roots _ R) R.rows_closed.noted in going_at)))).0.walking.inside,
+          }) in given_at) c.requires.standing.roots _ R) R.rows_closed.noted in going_at)))).0.walking.inside,
     )
 
 pub slice_bounds-rest-start-in-Back : goal.slice_bounds-rest-start-in-Back
@@ -630,20 +630,20 @@ slice_bounds-rest-start-in-Back c =
       arith,
       (rw c.in-Back.is at (c.turn-turn.ensures.leaving _ _ _ _ ((let going_at : Going ((let over : Bodies = bodies_with c.args.rules.now c.args.goals.first c.args.goals.second c.args.goal.now c.args.second.now in over)) (Among c.requires.standing.roots) (in_words c.next_walk-walk.new.calls c.loop-rule.n c.loop-rule.answers c.loop-rule.m)
           c.args.stage.answers c.number_of-number.result c.loop-row.row c.next_walk-walk.result (before c.args.first c.span_of-span.result.old c.args.stage.seen c.span_of-span.result.warm c.args.stage.round (begin (in_words c.round.calls c.round.n c.round.answers c.round.m) (uses_in c.round.calls c.round.list))) c.steps_for-body.result.now
-          (in_words c.loop-after.calls c.loop-after.n c.loop-after.answers c.loop-after.m) (mark_words c.loop-after.calls) (uses_in c.loop-after.calls c.loop-after.list) c.loop-after.chosen c.loop-after.rest.now (spot_of c.loop-after.spot) = let R = (let rules-at : (rs : List (ℕ × ℕ)) → (let First : List (ℕ × ℕ) → Type 0 = (λ roots. Round ((let over : Bodies = bodies_with c.args.rules.now c.args.goals.first c.args.goals.second c.args.goal.now c.args.second.now in over)) (Among roots) c.args.first c.args.stage.walked c.args.stage.seen
+          (in_words c.loop-after.calls c.loop-after.n c.loop-after.answers c.loop-after.m) (mark_words c.loop-after.calls) (uses_in c.loop-after.calls c.loop-after.list) c.loop-after.chosen c.loop-after.rest.now (spot_of c.loop-after.spot) = let R = (let rules_at : (rs : List (ℕ × ℕ)) → (let First : List (ℕ × ℕ) → Type 0 = (λ roots. Round ((let over : Bodies = bodies_with c.args.rules.now c.args.goals.first c.args.goals.second c.args.goal.now c.args.second.now in over)) (Among roots) c.args.first c.args.stage.walked c.args.stage.seen
           (in_words c.args.calls.now c.args.stage.calls c.args.answers.now c.args.stage.answers) (uses_in c.args.calls.now c.args.list.now)) in First) rs
           → Rules ((let over : Bodies = bodies_with c.args.rules.now c.args.goals.first c.args.goals.second c.args.goal.now c.args.second.now in over)) (Among rs) (number_at (length c.args.rules.now / rule_width)) c.args.first c.args.stage.walked c.args.stage.seen c.span_of-span.result.low c.span_of-span.result.high c.span_of-span.result.top c.span_of-span.result.old c.span_of-span.result.warm
-          c.args.stage.round c.args.stage.calls c.args.stage.answers c.loop-row.row c.loop-rule.rule (begin (in_words c.round.calls c.round.n c.round.answers c.round.m) (uses_in c.round.calls c.round.list)) (in_words c.next_walk-walk.new.calls c.loop-rule.n c.loop-rule.answers c.loop-rule.m) (uses_in c.next_walk-walk.new.calls c.loop-rule.list) = (λ rs S. (let marked-at : (rs : List (ℕ × ℕ)) (begun : Begin) → Rules ((let over : Bodies = bodies_with c.args.rules.now c.args.goals.first c.args.goals.second c.args.goal.now c.args.second.now in over)) (Among rs) (number_at (length c.args.rules.now / rule_width)) c.args.first c.args.stage.walked c.args.stage.seen c.span_of-span.result.low c.span_of-span.result.high c.span_of-span.result.top c.span_of-span.result.old c.span_of-span.result.warm
+          c.args.stage.round c.args.stage.calls c.args.stage.answers c.loop-row.row c.loop-rule.rule (begin (in_words c.round.calls c.round.n c.round.answers c.round.m) (uses_in c.round.calls c.round.list)) (in_words c.next_walk-walk.new.calls c.loop-rule.n c.loop-rule.answers c.loop-rule.m) (uses_in c.next_walk-walk.new.calls c.loop-rule.list) = (λ rs S. (let marked_at : (rs : List (ℕ × ℕ)) (begun : Begin) → Rules ((let over : Bodies = bodies_with c.args.rules.now c.args.goals.first c.args.goals.second c.args.goal.now c.args.second.now in over)) (Among rs) (number_at (length c.args.rules.now / rule_width)) c.args.first c.args.stage.walked c.args.stage.seen c.span_of-span.result.low c.span_of-span.result.high c.span_of-span.result.top c.span_of-span.result.old c.span_of-span.result.warm
           c.args.stage.round c.args.stage.calls c.args.stage.answers c.loop-row.row c.loop-rule.rule begun (in_words c.loop-rule.calls c.loop-rule.n c.loop-rule.answers c.loop-rule.m) (uses_in c.loop-rule.calls c.loop-rule.list)
           → Rules ((let over : Bodies = bodies_with c.args.rules.now c.args.goals.first c.args.goals.second c.args.goal.now c.args.second.now in over)) (Among rs) (number_at (length c.args.rules.now / rule_width)) c.args.first c.args.stage.walked c.args.stage.seen c.span_of-span.result.low c.span_of-span.result.high c.span_of-span.result.top c.span_of-span.result.old c.span_of-span.result.warm
-          c.args.stage.round c.args.stage.calls c.args.stage.answers c.loop-row.row c.loop-rule.rule begun (in_words c.next_walk-walk.new.calls c.loop-rule.n c.loop-rule.answers c.loop-rule.m) (uses_in c.next_walk-walk.new.calls c.loop-rule.list) = (λ rs begun R. rules-marked (ap (λ (z : Calls). tables z (packed_answers c.loop-rule.answers c.loop-rule.m)) (alone_calls c.next_walk-walk.ensures.1 c.loop-rule.n)) (marked_uses c.next_walk-walk.ensures.1 c.loop-rule.list) R) in marked-at) rs _ (c.loop-rule.invariant.closed rs _ ((let rows_at : (rs : List (ℕ × ℕ)) → (let First : List (ℕ × ℕ) → Type 0 = (λ roots. Round ((let over : Bodies = bodies_with c.args.rules.now c.args.goals.first c.args.goals.second c.args.goal.now c.args.second.now in over)) (Among roots) c.args.first c.args.stage.walked c.args.stage.seen
+          c.args.stage.round c.args.stage.calls c.args.stage.answers c.loop-row.row c.loop-rule.rule begun (in_words c.next_walk-walk.new.calls c.loop-rule.n c.loop-rule.answers c.loop-rule.m) (uses_in c.next_walk-walk.new.calls c.loop-rule.list) = (λ rs begun R. rules_marked (ap (λ (z : Calls). tables z (packed_answers c.loop-rule.answers c.loop-rule.m)) (alone_calls c.next_walk-walk.ensures.1 c.loop-rule.n)) (marked_uses c.next_walk-walk.ensures.1 c.loop-rule.list) R) in marked_at) rs _ (c.loop-rule.invariant.closed rs _ ((let rows_at : (rs : List (ℕ × ℕ)) → (let First : List (ℕ × ℕ) → Type 0 = (λ roots. Round ((let over : Bodies = bodies_with c.args.rules.now c.args.goals.first c.args.goals.second c.args.goal.now c.args.second.now in over)) (Among roots) c.args.first c.args.stage.walked c.args.stage.seen
           (in_words c.args.calls.now c.args.stage.calls c.args.answers.now c.args.stage.answers) (uses_in c.args.calls.now c.args.list.now)) in First) rs
           → Rows ((let over : Bodies = bodies_with c.args.rules.now c.args.goals.first c.args.goals.second c.args.goal.now c.args.second.now in over)) (Among rs) c.args.first c.args.stage.walked c.args.stage.seen c.span_of-span.result.low c.span_of-span.result.high c.span_of-span.result.top c.span_of-span.result.old c.span_of-span.result.warm
           c.args.stage.round c.args.stage.calls c.args.stage.answers c.loop-row.row (begin (in_words c.round.calls c.round.n c.round.answers c.round.m) (uses_in c.round.calls c.round.list)) (in_words c.loop-row.calls c.loop-row.n c.loop-row.answers c.loop-row.m) (uses_in c.loop-row.calls c.loop-row.list) = (λ rs S. let r = c.round.invariant in
           let b = c.span_of-span.ensures.begun in
           let (S', W) = r.closed rs (round_kept _ _ (kept_same b.low) S) b.lit in
-          c.loop-row.invariant.closed rs S' (subst (λ (k : ℕ). (x : ℕ) → x < c.span_of-span.result.old → (x < c.args.stage.walked) × Lit (in_words c.round.calls c.round.n c.round.answers c.round.m).answers (uses_in c.round.calls c.round.list) c.args.stage.seen k c.span_of-span.result.warm) r.known_all W)) in rows_at) rs S))) in rules-at) c.requires.standing.roots c.requires.standing.round in
-          c.loop-after.invariant.going c.requires.standing.roots _ ((let given-at : (rs : List (ℕ × ℕ)) (begun : Begin) → Rules ((let over : Bodies = bodies_with c.args.rules.now c.args.goals.first c.args.goals.second c.args.goal.now c.args.second.now in over)) (Among rs) (number_at (length c.args.rules.now / rule_width)) c.args.first c.args.stage.walked c.args.stage.seen c.span_of-span.result.low c.span_of-span.result.high c.span_of-span.result.top c.span_of-span.result.old c.span_of-span.result.warm
+          c.loop-row.invariant.closed rs S' (subst (λ (k : ℕ). (x : ℕ) → x < c.span_of-span.result.old → (x < c.args.stage.walked) × Lit (in_words c.round.calls c.round.n c.round.answers c.round.m).answers (uses_in c.round.calls c.round.list) c.args.stage.seen k c.span_of-span.result.warm) r.known_all W)) in rows_at) rs S))) in rules_at) c.requires.standing.roots c.requires.standing.round in
+          c.loop-after.invariant.going c.requires.standing.roots _ ((let given_at : (rs : List (ℕ × ℕ)) (begun : Begin) → Rules ((let over : Bodies = bodies_with c.args.rules.now c.args.goals.first c.args.goals.second c.args.goal.now c.args.second.now in over)) (Among rs) (number_at (length c.args.rules.now / rule_width)) c.args.first c.args.stage.walked c.args.stage.seen c.span_of-span.result.low c.span_of-span.result.high c.span_of-span.result.top c.span_of-span.result.old c.span_of-span.result.warm
           c.args.stage.round c.args.stage.calls c.args.stage.answers c.loop-row.row c.loop-rule.rule begun (in_words c.next_walk-walk.new.calls c.loop-rule.n c.loop-rule.answers c.loop-rule.m) (uses_in c.next_walk-walk.new.calls c.loop-rule.list)
           → Given ((let over : Bodies = bodies_with c.args.rules.now c.args.goals.first c.args.goals.second c.args.goal.now c.args.second.now in over)) (Among rs) (in_words c.next_walk-walk.new.calls c.loop-rule.n c.loop-rule.answers c.loop-rule.m)
           c.args.stage.answers c.number_of-number.result c.loop-row.row (before c.args.first c.span_of-span.result.old c.args.stage.seen c.span_of-span.result.warm c.args.stage.round begun) c.steps_for-body.result.now = (λ rs begun R. record {
@@ -658,7 +658,7 @@ slice_bounds-rest-start-in-Back c =
             row_last = λ x h l. R.rows_closed.latest x (omega (arith, R.rows_closed.since.all_known)) l;
             row_old = omega (arith, R.rows_closed.base_rows, c.loop-row-test.true, c.span_of-span.ensures.spans.top_in);
             since = R.rows_closed.since;
-          }) in given-at) c.requires.standing.roots _ R) R.rows_closed.noted in going_at)))).0.walking.inside,
+          }) in given_at) c.requires.standing.roots _ R) R.rows_closed.noted in going_at)))).0.walking.inside,
     )
 
 pub slice_bounds-rest-end-in-Back : goal.slice_bounds-rest-end-in-Back
@@ -667,20 +667,20 @@ slice_bounds-rest-end-in-Back c =
       arith,
       (rw c.in-Back.is at (c.turn-turn.ensures.leaving _ _ _ _ ((let going_at : Going ((let over : Bodies = bodies_with c.args.rules.now c.args.goals.first c.args.goals.second c.args.goal.now c.args.second.now in over)) (Among c.requires.standing.roots) (in_words c.next_walk-walk.new.calls c.loop-rule.n c.loop-rule.answers c.loop-rule.m)
           c.args.stage.answers c.number_of-number.result c.loop-row.row c.next_walk-walk.result (before c.args.first c.span_of-span.result.old c.args.stage.seen c.span_of-span.result.warm c.args.stage.round (begin (in_words c.round.calls c.round.n c.round.answers c.round.m) (uses_in c.round.calls c.round.list))) c.steps_for-body.result.now
-          (in_words c.loop-after.calls c.loop-after.n c.loop-after.answers c.loop-after.m) (mark_words c.loop-after.calls) (uses_in c.loop-after.calls c.loop-after.list) c.loop-after.chosen c.loop-after.rest.now (spot_of c.loop-after.spot) = let R = (let rules-at : (rs : List (ℕ × ℕ)) → (let First : List (ℕ × ℕ) → Type 0 = (λ roots. Round ((let over : Bodies = bodies_with c.args.rules.now c.args.goals.first c.args.goals.second c.args.goal.now c.args.second.now in over)) (Among roots) c.args.first c.args.stage.walked c.args.stage.seen
+          (in_words c.loop-after.calls c.loop-after.n c.loop-after.answers c.loop-after.m) (mark_words c.loop-after.calls) (uses_in c.loop-after.calls c.loop-after.list) c.loop-after.chosen c.loop-after.rest.now (spot_of c.loop-after.spot) = let R = (let rules_at : (rs : List (ℕ × ℕ)) → (let First : List (ℕ × ℕ) → Type 0 = (λ roots. Round ((let over : Bodies = bodies_with c.args.rules.now c.args.goals.first c.args.goals.second c.args.goal.now c.args.second.now in over)) (Among roots) c.args.first c.args.stage.walked c.args.stage.seen
           (in_words c.args.calls.now c.args.stage.calls c.args.answers.now c.args.stage.answers) (uses_in c.args.calls.now c.args.list.now)) in First) rs
           → Rules ((let over : Bodies = bodies_with c.args.rules.now c.args.goals.first c.args.goals.second c.args.goal.now c.args.second.now in over)) (Among rs) (number_at (length c.args.rules.now / rule_width)) c.args.first c.args.stage.walked c.args.stage.seen c.span_of-span.result.low c.span_of-span.result.high c.span_of-span.result.top c.span_of-span.result.old c.span_of-span.result.warm
-          c.args.stage.round c.args.stage.calls c.args.stage.answers c.loop-row.row c.loop-rule.rule (begin (in_words c.round.calls c.round.n c.round.answers c.round.m) (uses_in c.round.calls c.round.list)) (in_words c.next_walk-walk.new.calls c.loop-rule.n c.loop-rule.answers c.loop-rule.m) (uses_in c.next_walk-walk.new.calls c.loop-rule.list) = (λ rs S. (let marked-at : (rs : List (ℕ × ℕ)) (begun : Begin) → Rules ((let over : Bodies = bodies_with c.args.rules.now c.args.goals.first c.args.goals.second c.args.goal.now c.args.second.now in over)) (Among rs) (number_at (length c.args.rules.now / rule_width)) c.args.first c.args.stage.walked c.args.stage.seen c.span_of-span.result.low c.span_of-span.result.high c.span_of-span.result.top c.span_of-span.result.old c.span_of-span.result.warm
+          c.args.stage.round c.args.stage.calls c.args.stage.answers c.loop-row.row c.loop-rule.rule (begin (in_words c.round.calls c.round.n c.round.answers c.round.m) (uses_in c.round.calls c.round.list)) (in_words c.next_walk-walk.new.calls c.loop-rule.n c.loop-rule.answers c.loop-rule.m) (uses_in c.next_walk-walk.new.calls c.loop-rule.list) = (λ rs S. (let marked_at : (rs : List (ℕ × ℕ)) (begun : Begin) → Rules ((let over : Bodies = bodies_with c.args.rules.now c.args.goals.first c.args.goals.second c.args.goal.now c.args.second.now in over)) (Among rs) (number_at (length c.args.rules.now / rule_width)) c.args.first c.args.stage.walked c.args.stage.seen c.span_of-span.result.low c.span_of-span.result.high c.span_of-span.result.top c.span_of-span.result.old c.span_of-span.result.warm
           c.args.stage.round c.args.stage.calls c.args.stage.answers c.loop-row.row c.loop-rule.rule begun (in_words c.loop-rule.calls c.loop-rule.n c.loop-rule.answers c.loop-rule.m) (uses_in c.loop-rule.calls c.loop-rule.list)
           → Rules ((let over : Bodies = bodies_with c.args.rules.now c.args.goals.first c.args.goals.second c.args.goal.now c.args.second.now in over)) (Among rs) (number_at (length c.args.rules.now / rule_width)) c.args.first c.args.stage.walked c.args.stage.seen c.span_of-span.result.low c.span_of-span.result.high c.span_of-span.result.top c.span_of-span.result.old c.span_of-span.result.warm
-          c.args.stage.round c.args.stage.calls c.args.stage.answers c.loop-row.row c.loop-rule.rule begun (in_words c.next_walk-walk.new.calls c.loop-rule.n c.loop-rule.answers c.loop-rule.m) (uses_in c.next_walk-walk.new.calls c.loop-rule.list) = (λ rs begun R. rules-marked (ap (λ (z : Calls). tables z (packed_answers c.loop-rule.answers c.loop-rule.m)) (alone_calls c.next_walk-walk.ensures.1 c.loop-rule.n)) (marked_uses c.next_walk-walk.ensures.1 c.loop-rule.list) R) in marked-at) rs _ (c.loop-rule.invariant.closed rs _ ((let rows_at : (rs : List (ℕ × ℕ)) → (let First : List (ℕ × ℕ) → Type 0 = (λ roots. Round ((let over : Bodies = bodies_with c.args.rules.now c.args.goals.first c.args.goals.second c.args.goal.now c.args.second.now in over)) (Among roots) c.args.first c.args.stage.walked c.args.stage.seen
+          c.args.stage.round c.args.stage.calls c.args.stage.answers c.loop-row.row c.loop-rule.rule begun (in_words c.next_walk-walk.new.calls c.loop-rule.n c.loop-rule.answers c.loop-rule.m) (uses_in c.next_walk-walk.new.calls c.loop-rule.list) = (λ rs begun R. rules_marked (ap (λ (z : Calls). tables z (packed_answers c.loop-rule.answers c.loop-rule.m)) (alone_calls c.next_walk-walk.ensures.1 c.loop-rule.n)) (marked_uses c.next_walk-walk.ensures.1 c.loop-rule.list) R) in marked_at) rs _ (c.loop-rule.invariant.closed rs _ ((let rows_at : (rs : List (ℕ × ℕ)) → (let First : List (ℕ × ℕ) → Type 0 = (λ roots. Round ((let over : Bodies = bodies_with c.args.rules.now c.args.goals.first c.args.goals.second c.args.goal.now c.args.second.now in over)) (Among roots) c.args.first c.args.stage.walked c.args.stage.seen
           (in_words c.args.calls.now c.args.stage.calls c.args.answers.now c.args.stage.answers) (uses_in c.args.calls.now c.args.list.now)) in First) rs
           → Rows ((let over : Bodies = bodies_with c.args.rules.now c.args.goals.first c.args.goals.second c.args.goal.now c.args.second.now in over)) (Among rs) c.args.first c.args.stage.walked c.args.stage.seen c.span_of-span.result.low c.span_of-span.result.high c.span_of-span.result.top c.span_of-span.result.old c.span_of-span.result.warm
           c.args.stage.round c.args.stage.calls c.args.stage.answers c.loop-row.row (begin (in_words c.round.calls c.round.n c.round.answers c.round.m) (uses_in c.round.calls c.round.list)) (in_words c.loop-row.calls c.loop-row.n c.loop-row.answers c.loop-row.m) (uses_in c.loop-row.calls c.loop-row.list) = (λ rs S. let r = c.round.invariant in
           let b = c.span_of-span.ensures.begun in
           let (S', W) = r.closed rs (round_kept _ _ (kept_same b.low) S) b.lit in
-          c.loop-row.invariant.closed rs S' (subst (λ (k : ℕ). (x : ℕ) → x < c.span_of-span.result.old → (x < c.args.stage.walked) × Lit (in_words c.round.calls c.round.n c.round.answers c.round.m).answers (uses_in c.round.calls c.round.list) c.args.stage.seen k c.span_of-span.result.warm) r.known_all W)) in rows_at) rs S))) in rules-at) c.requires.standing.roots c.requires.standing.round in
-          c.loop-after.invariant.going c.requires.standing.roots _ ((let given-at : (rs : List (ℕ × ℕ)) (begun : Begin) → Rules ((let over : Bodies = bodies_with c.args.rules.now c.args.goals.first c.args.goals.second c.args.goal.now c.args.second.now in over)) (Among rs) (number_at (length c.args.rules.now / rule_width)) c.args.first c.args.stage.walked c.args.stage.seen c.span_of-span.result.low c.span_of-span.result.high c.span_of-span.result.top c.span_of-span.result.old c.span_of-span.result.warm
+          c.loop-row.invariant.closed rs S' (subst (λ (k : ℕ). (x : ℕ) → x < c.span_of-span.result.old → (x < c.args.stage.walked) × Lit (in_words c.round.calls c.round.n c.round.answers c.round.m).answers (uses_in c.round.calls c.round.list) c.args.stage.seen k c.span_of-span.result.warm) r.known_all W)) in rows_at) rs S))) in rules_at) c.requires.standing.roots c.requires.standing.round in
+          c.loop-after.invariant.going c.requires.standing.roots _ ((let given_at : (rs : List (ℕ × ℕ)) (begun : Begin) → Rules ((let over : Bodies = bodies_with c.args.rules.now c.args.goals.first c.args.goals.second c.args.goal.now c.args.second.now in over)) (Among rs) (number_at (length c.args.rules.now / rule_width)) c.args.first c.args.stage.walked c.args.stage.seen c.span_of-span.result.low c.span_of-span.result.high c.span_of-span.result.top c.span_of-span.result.old c.span_of-span.result.warm
           c.args.stage.round c.args.stage.calls c.args.stage.answers c.loop-row.row c.loop-rule.rule begun (in_words c.next_walk-walk.new.calls c.loop-rule.n c.loop-rule.answers c.loop-rule.m) (uses_in c.next_walk-walk.new.calls c.loop-rule.list)
           → Given ((let over : Bodies = bodies_with c.args.rules.now c.args.goals.first c.args.goals.second c.args.goal.now c.args.second.now in over)) (Among rs) (in_words c.next_walk-walk.new.calls c.loop-rule.n c.loop-rule.answers c.loop-rule.m)
           c.args.stage.answers c.number_of-number.result c.loop-row.row (before c.args.first c.span_of-span.result.old c.args.stage.seen c.span_of-span.result.warm c.args.stage.round begun) c.steps_for-body.result.now = (λ rs begun R. record {
@@ -695,27 +695,27 @@ slice_bounds-rest-end-in-Back c =
             row_last = λ x h l. R.rows_closed.latest x (omega (arith, R.rows_closed.since.all_known)) l;
             row_old = omega (arith, R.rows_closed.base_rows, c.loop-row-test.true, c.span_of-span.ensures.spans.top_in);
             since = R.rows_closed.since;
-          }) in given-at) c.requires.standing.roots _ R) R.rows_closed.noted in going_at)))).0.walking.inside,
+          }) in given_at) c.requires.standing.roots _ R) R.rows_closed.noted in going_at)))).0.walking.inside,
     )
 
 pub loop-after-smaller : goal.loop-after-smaller
 loop-after-smaller c =
     let O = (rw c.in-Back.is at (c.turn-turn.ensures.leaving _ _ _ _ ((let going_at : Going ((let over : Bodies = bodies_with c.args.rules.now c.args.goals.first c.args.goals.second c.args.goal.now c.args.second.now in over)) (Among c.requires.standing.roots) (in_words c.next_walk-walk.new.calls c.loop-rule.n c.loop-rule.answers c.loop-rule.m)
     c.args.stage.answers c.number_of-number.result c.loop-row.row c.next_walk-walk.result (before c.args.first c.span_of-span.result.old c.args.stage.seen c.span_of-span.result.warm c.args.stage.round (begin (in_words c.round.calls c.round.n c.round.answers c.round.m) (uses_in c.round.calls c.round.list))) c.steps_for-body.result.now
-    (in_words c.loop-after.calls c.loop-after.n c.loop-after.answers c.loop-after.m) (mark_words c.loop-after.calls) (uses_in c.loop-after.calls c.loop-after.list) c.loop-after.chosen c.loop-after.rest.now (spot_of c.loop-after.spot) = let R = (let rules-at : (rs : List (ℕ × ℕ)) → (let First : List (ℕ × ℕ) → Type 0 = (λ roots. Round ((let over : Bodies = bodies_with c.args.rules.now c.args.goals.first c.args.goals.second c.args.goal.now c.args.second.now in over)) (Among roots) c.args.first c.args.stage.walked c.args.stage.seen
+    (in_words c.loop-after.calls c.loop-after.n c.loop-after.answers c.loop-after.m) (mark_words c.loop-after.calls) (uses_in c.loop-after.calls c.loop-after.list) c.loop-after.chosen c.loop-after.rest.now (spot_of c.loop-after.spot) = let R = (let rules_at : (rs : List (ℕ × ℕ)) → (let First : List (ℕ × ℕ) → Type 0 = (λ roots. Round ((let over : Bodies = bodies_with c.args.rules.now c.args.goals.first c.args.goals.second c.args.goal.now c.args.second.now in over)) (Among roots) c.args.first c.args.stage.walked c.args.stage.seen
     (in_words c.args.calls.now c.args.stage.calls c.args.answers.now c.args.stage.answers) (uses_in c.args.calls.now c.args.list.now)) in First) rs
     → Rules ((let over : Bodies = bodies_with c.args.rules.now c.args.goals.first c.args.goals.second c.args.goal.now c.args.second.now in over)) (Among rs) (number_at (length c.args.rules.now / rule_width)) c.args.first c.args.stage.walked c.args.stage.seen c.span_of-span.result.low c.span_of-span.result.high c.span_of-span.result.top c.span_of-span.result.old c.span_of-span.result.warm
-    c.args.stage.round c.args.stage.calls c.args.stage.answers c.loop-row.row c.loop-rule.rule (begin (in_words c.round.calls c.round.n c.round.answers c.round.m) (uses_in c.round.calls c.round.list)) (in_words c.next_walk-walk.new.calls c.loop-rule.n c.loop-rule.answers c.loop-rule.m) (uses_in c.next_walk-walk.new.calls c.loop-rule.list) = (λ rs S. (let marked-at : (rs : List (ℕ × ℕ)) (begun : Begin) → Rules ((let over : Bodies = bodies_with c.args.rules.now c.args.goals.first c.args.goals.second c.args.goal.now c.args.second.now in over)) (Among rs) (number_at (length c.args.rules.now / rule_width)) c.args.first c.args.stage.walked c.args.stage.seen c.span_of-span.result.low c.span_of-span.result.high c.span_of-span.result.top c.span_of-span.result.old c.span_of-span.result.warm
+    c.args.stage.round c.args.stage.calls c.args.stage.answers c.loop-row.row c.loop-rule.rule (begin (in_words c.round.calls c.round.n c.round.answers c.round.m) (uses_in c.round.calls c.round.list)) (in_words c.next_walk-walk.new.calls c.loop-rule.n c.loop-rule.answers c.loop-rule.m) (uses_in c.next_walk-walk.new.calls c.loop-rule.list) = (λ rs S. (let marked_at : (rs : List (ℕ × ℕ)) (begun : Begin) → Rules ((let over : Bodies = bodies_with c.args.rules.now c.args.goals.first c.args.goals.second c.args.goal.now c.args.second.now in over)) (Among rs) (number_at (length c.args.rules.now / rule_width)) c.args.first c.args.stage.walked c.args.stage.seen c.span_of-span.result.low c.span_of-span.result.high c.span_of-span.result.top c.span_of-span.result.old c.span_of-span.result.warm
     c.args.stage.round c.args.stage.calls c.args.stage.answers c.loop-row.row c.loop-rule.rule begun (in_words c.loop-rule.calls c.loop-rule.n c.loop-rule.answers c.loop-rule.m) (uses_in c.loop-rule.calls c.loop-rule.list)
     → Rules ((let over : Bodies = bodies_with c.args.rules.now c.args.goals.first c.args.goals.second c.args.goal.now c.args.second.now in over)) (Among rs) (number_at (length c.args.rules.now / rule_width)) c.args.first c.args.stage.walked c.args.stage.seen c.span_of-span.result.low c.span_of-span.result.high c.span_of-span.result.top c.span_of-span.result.old c.span_of-span.result.warm
-    c.args.stage.round c.args.stage.calls c.args.stage.answers c.loop-row.row c.loop-rule.rule begun (in_words c.next_walk-walk.new.calls c.loop-rule.n c.loop-rule.answers c.loop-rule.m) (uses_in c.next_walk-walk.new.calls c.loop-rule.list) = (λ rs begun R. rules-marked (ap (λ (z : Calls). tables z (packed_answers c.loop-rule.answers c.loop-rule.m)) (alone_calls c.next_walk-walk.ensures.1 c.loop-rule.n)) (marked_uses c.next_walk-walk.ensures.1 c.loop-rule.list) R) in marked-at) rs _ (c.loop-rule.invariant.closed rs _ ((let rows_at : (rs : List (ℕ × ℕ)) → (let First : List (ℕ × ℕ) → Type 0 = (λ roots. Round ((let over : Bodies = bodies_with c.args.rules.now c.args.goals.first c.args.goals.second c.args.goal.now c.args.second.now in over)) (Among roots) c.args.first c.args.stage.walked c.args.stage.seen
+    c.args.stage.round c.args.stage.calls c.args.stage.answers c.loop-row.row c.loop-rule.rule begun (in_words c.next_walk-walk.new.calls c.loop-rule.n c.loop-rule.answers c.loop-rule.m) (uses_in c.next_walk-walk.new.calls c.loop-rule.list) = (λ rs begun R. rules_marked (ap (λ (z : Calls). tables z (packed_answers c.loop-rule.answers c.loop-rule.m)) (alone_calls c.next_walk-walk.ensures.1 c.loop-rule.n)) (marked_uses c.next_walk-walk.ensures.1 c.loop-rule.list) R) in marked_at) rs _ (c.loop-rule.invariant.closed rs _ ((let rows_at : (rs : List (ℕ × ℕ)) → (let First : List (ℕ × ℕ) → Type 0 = (λ roots. Round ((let over : Bodies = bodies_with c.args.rules.now c.args.goals.first c.args.goals.second c.args.goal.now c.args.second.now in over)) (Among roots) c.args.first c.args.stage.walked c.args.stage.seen
     (in_words c.args.calls.now c.args.stage.calls c.args.answers.now c.args.stage.answers) (uses_in c.args.calls.now c.args.list.now)) in First) rs
     → Rows ((let over : Bodies = bodies_with c.args.rules.now c.args.goals.first c.args.goals.second c.args.goal.now c.args.second.now in over)) (Among rs) c.args.first c.args.stage.walked c.args.stage.seen c.span_of-span.result.low c.span_of-span.result.high c.span_of-span.result.top c.span_of-span.result.old c.span_of-span.result.warm
     c.args.stage.round c.args.stage.calls c.args.stage.answers c.loop-row.row (begin (in_words c.round.calls c.round.n c.round.answers c.round.m) (uses_in c.round.calls c.round.list)) (in_words c.loop-row.calls c.loop-row.n c.loop-row.answers c.loop-row.m) (uses_in c.loop-row.calls c.loop-row.list) = (λ rs S. let r = c.round.invariant in
     let b = c.span_of-span.ensures.begun in
     let (S', W) = r.closed rs (round_kept _ _ (kept_same b.low) S) b.lit in
-    c.loop-row.invariant.closed rs S' (subst (λ (k : ℕ). (x : ℕ) → x < c.span_of-span.result.old → (x < c.args.stage.walked) × Lit (in_words c.round.calls c.round.n c.round.answers c.round.m).answers (uses_in c.round.calls c.round.list) c.args.stage.seen k c.span_of-span.result.warm) r.known_all W)) in rows_at) rs S))) in rules-at) c.requires.standing.roots c.requires.standing.round in
-    c.loop-after.invariant.going c.requires.standing.roots _ ((let given-at : (rs : List (ℕ × ℕ)) (begun : Begin) → Rules ((let over : Bodies = bodies_with c.args.rules.now c.args.goals.first c.args.goals.second c.args.goal.now c.args.second.now in over)) (Among rs) (number_at (length c.args.rules.now / rule_width)) c.args.first c.args.stage.walked c.args.stage.seen c.span_of-span.result.low c.span_of-span.result.high c.span_of-span.result.top c.span_of-span.result.old c.span_of-span.result.warm
+    c.loop-row.invariant.closed rs S' (subst (λ (k : ℕ). (x : ℕ) → x < c.span_of-span.result.old → (x < c.args.stage.walked) × Lit (in_words c.round.calls c.round.n c.round.answers c.round.m).answers (uses_in c.round.calls c.round.list) c.args.stage.seen k c.span_of-span.result.warm) r.known_all W)) in rows_at) rs S))) in rules_at) c.requires.standing.roots c.requires.standing.round in
+    c.loop-after.invariant.going c.requires.standing.roots _ ((let given_at : (rs : List (ℕ × ℕ)) (begun : Begin) → Rules ((let over : Bodies = bodies_with c.args.rules.now c.args.goals.first c.args.goals.second c.args.goal.now c.args.second.now in over)) (Among rs) (number_at (length c.args.rules.now / rule_width)) c.args.first c.args.stage.walked c.args.stage.seen c.span_of-span.result.low c.span_of-span.result.high c.span_of-span.result.top c.span_of-span.result.old c.span_of-span.result.warm
     c.args.stage.round c.args.stage.calls c.args.stage.answers c.loop-row.row c.loop-rule.rule begun (in_words c.next_walk-walk.new.calls c.loop-rule.n c.loop-rule.answers c.loop-rule.m) (uses_in c.next_walk-walk.new.calls c.loop-rule.list)
     → Given ((let over : Bodies = bodies_with c.args.rules.now c.args.goals.first c.args.goals.second c.args.goal.now c.args.second.now in over)) (Among rs) (in_words c.next_walk-walk.new.calls c.loop-rule.n c.loop-rule.answers c.loop-rule.m)
     c.args.stage.answers c.number_of-number.result c.loop-row.row (before c.args.first c.span_of-span.result.old c.args.stage.seen c.span_of-span.result.warm c.args.stage.round begun) c.steps_for-body.result.now = (λ rs begun R. record {
@@ -730,7 +730,7 @@ loop-after-smaller c =
       row_last = λ x h l. R.rows_closed.latest x (omega (arith, R.rows_closed.since.all_known)) l;
       row_old = omega (arith, R.rows_closed.base_rows, c.loop-row-test.true, c.span_of-span.ensures.spans.top_in);
       since = R.rows_closed.since;
-    }) in given-at) c.requires.standing.roots _ R) R.rows_closed.noted in going_at)))) in
+    }) in given_at) c.requires.standing.roots _ R) R.rows_closed.noted in going_at)))) in
     back_less _ _ _ _ _ _ _ _ _ _ O.0 refl O.1
 
 pub loop-after-preserved : goal.loop-after-preserved
@@ -755,20 +755,20 @@ loop-rule-preserved c =
     let l = c.loop-rule.invariant in
     let O = rw c.in-Done.is at (c.turn-turn.ensures.leaving _ _ _ _ ((let going_at : Going ((let over : Bodies = bodies_with c.args.rules.now c.args.goals.first c.args.goals.second c.args.goal.now c.args.second.now in over)) (Among c.requires.standing.roots) (in_words c.next_walk-walk.new.calls c.loop-rule.n c.loop-rule.answers c.loop-rule.m)
     c.args.stage.answers c.number_of-number.result c.loop-row.row c.next_walk-walk.result (before c.args.first c.span_of-span.result.old c.args.stage.seen c.span_of-span.result.warm c.args.stage.round (begin (in_words c.round.calls c.round.n c.round.answers c.round.m) (uses_in c.round.calls c.round.list))) c.steps_for-body.result.now
-    (in_words c.loop-after.calls c.loop-after.n c.loop-after.answers c.loop-after.m) (mark_words c.loop-after.calls) (uses_in c.loop-after.calls c.loop-after.list) c.loop-after.chosen c.loop-after.rest.now (spot_of c.loop-after.spot) = let R = (let rules-at : (rs : List (ℕ × ℕ)) → (let First : List (ℕ × ℕ) → Type 0 = (λ roots. Round ((let over : Bodies = bodies_with c.args.rules.now c.args.goals.first c.args.goals.second c.args.goal.now c.args.second.now in over)) (Among roots) c.args.first c.args.stage.walked c.args.stage.seen
+    (in_words c.loop-after.calls c.loop-after.n c.loop-after.answers c.loop-after.m) (mark_words c.loop-after.calls) (uses_in c.loop-after.calls c.loop-after.list) c.loop-after.chosen c.loop-after.rest.now (spot_of c.loop-after.spot) = let R = (let rules_at : (rs : List (ℕ × ℕ)) → (let First : List (ℕ × ℕ) → Type 0 = (λ roots. Round ((let over : Bodies = bodies_with c.args.rules.now c.args.goals.first c.args.goals.second c.args.goal.now c.args.second.now in over)) (Among roots) c.args.first c.args.stage.walked c.args.stage.seen
     (in_words c.args.calls.now c.args.stage.calls c.args.answers.now c.args.stage.answers) (uses_in c.args.calls.now c.args.list.now)) in First) rs
     → Rules ((let over : Bodies = bodies_with c.args.rules.now c.args.goals.first c.args.goals.second c.args.goal.now c.args.second.now in over)) (Among rs) (number_at (length c.args.rules.now / rule_width)) c.args.first c.args.stage.walked c.args.stage.seen c.span_of-span.result.low c.span_of-span.result.high c.span_of-span.result.top c.span_of-span.result.old c.span_of-span.result.warm
-    c.args.stage.round c.args.stage.calls c.args.stage.answers c.loop-row.row c.loop-rule.rule (begin (in_words c.round.calls c.round.n c.round.answers c.round.m) (uses_in c.round.calls c.round.list)) (in_words c.next_walk-walk.new.calls c.loop-rule.n c.loop-rule.answers c.loop-rule.m) (uses_in c.next_walk-walk.new.calls c.loop-rule.list) = (λ rs S. (let marked-at : (rs : List (ℕ × ℕ)) (begun : Begin) → Rules ((let over : Bodies = bodies_with c.args.rules.now c.args.goals.first c.args.goals.second c.args.goal.now c.args.second.now in over)) (Among rs) (number_at (length c.args.rules.now / rule_width)) c.args.first c.args.stage.walked c.args.stage.seen c.span_of-span.result.low c.span_of-span.result.high c.span_of-span.result.top c.span_of-span.result.old c.span_of-span.result.warm
+    c.args.stage.round c.args.stage.calls c.args.stage.answers c.loop-row.row c.loop-rule.rule (begin (in_words c.round.calls c.round.n c.round.answers c.round.m) (uses_in c.round.calls c.round.list)) (in_words c.next_walk-walk.new.calls c.loop-rule.n c.loop-rule.answers c.loop-rule.m) (uses_in c.next_walk-walk.new.calls c.loop-rule.list) = (λ rs S. (let marked_at : (rs : List (ℕ × ℕ)) (begun : Begin) → Rules ((let over : Bodies = bodies_with c.args.rules.now c.args.goals.first c.args.goals.second c.args.goal.now c.args.second.now in over)) (Among rs) (number_at (length c.args.rules.now / rule_width)) c.args.first c.args.stage.walked c.args.stage.seen c.span_of-span.result.low c.span_of-span.result.high c.span_of-span.result.top c.span_of-span.result.old c.span_of-span.result.warm
     c.args.stage.round c.args.stage.calls c.args.stage.answers c.loop-row.row c.loop-rule.rule begun (in_words c.loop-rule.calls c.loop-rule.n c.loop-rule.answers c.loop-rule.m) (uses_in c.loop-rule.calls c.loop-rule.list)
     → Rules ((let over : Bodies = bodies_with c.args.rules.now c.args.goals.first c.args.goals.second c.args.goal.now c.args.second.now in over)) (Among rs) (number_at (length c.args.rules.now / rule_width)) c.args.first c.args.stage.walked c.args.stage.seen c.span_of-span.result.low c.span_of-span.result.high c.span_of-span.result.top c.span_of-span.result.old c.span_of-span.result.warm
-    c.args.stage.round c.args.stage.calls c.args.stage.answers c.loop-row.row c.loop-rule.rule begun (in_words c.next_walk-walk.new.calls c.loop-rule.n c.loop-rule.answers c.loop-rule.m) (uses_in c.next_walk-walk.new.calls c.loop-rule.list) = (λ rs begun R. rules-marked (ap (λ (z : Calls). tables z (packed_answers c.loop-rule.answers c.loop-rule.m)) (alone_calls c.next_walk-walk.ensures.1 c.loop-rule.n)) (marked_uses c.next_walk-walk.ensures.1 c.loop-rule.list) R) in marked-at) rs _ (c.loop-rule.invariant.closed rs _ ((let rows_at : (rs : List (ℕ × ℕ)) → (let First : List (ℕ × ℕ) → Type 0 = (λ roots. Round ((let over : Bodies = bodies_with c.args.rules.now c.args.goals.first c.args.goals.second c.args.goal.now c.args.second.now in over)) (Among roots) c.args.first c.args.stage.walked c.args.stage.seen
+    c.args.stage.round c.args.stage.calls c.args.stage.answers c.loop-row.row c.loop-rule.rule begun (in_words c.next_walk-walk.new.calls c.loop-rule.n c.loop-rule.answers c.loop-rule.m) (uses_in c.next_walk-walk.new.calls c.loop-rule.list) = (λ rs begun R. rules_marked (ap (λ (z : Calls). tables z (packed_answers c.loop-rule.answers c.loop-rule.m)) (alone_calls c.next_walk-walk.ensures.1 c.loop-rule.n)) (marked_uses c.next_walk-walk.ensures.1 c.loop-rule.list) R) in marked_at) rs _ (c.loop-rule.invariant.closed rs _ ((let rows_at : (rs : List (ℕ × ℕ)) → (let First : List (ℕ × ℕ) → Type 0 = (λ roots. Round ((let over : Bodies = bodies_with c.args.rules.now c.args.goals.first c.args.goals.second c.args.goal.now c.args.second.now in over)) (Among roots) c.args.first c.args.stage.walked c.args.stage.seen
     (in_words c.args.calls.now c.args.stage.calls c.args.answers.now c.args.stage.answers) (uses_in c.args.calls.now c.args.list.now)) in First) rs
     → Rows ((let over : Bodies = bodies_with c.args.rules.now c.args.goals.first c.args.goals.second c.args.goal.now c.args.second.now in over)) (Among rs) c.args.first c.args.stage.walked c.args.stage.seen c.span_of-span.result.low c.span_of-span.result.high c.span_of-span.result.top c.span_of-span.result.old c.span_of-span.result.warm
     c.args.stage.round c.args.stage.calls c.args.stage.answers c.loop-row.row (begin (in_words c.round.calls c.round.n c.round.answers c.round.m) (uses_in c.round.calls c.round.list)) (in_words c.loop-row.calls c.loop-row.n c.loop-row.answers c.loop-row.m) (uses_in c.loop-row.calls c.loop-row.list) = (λ rs S. let r = c.round.invariant in
     let b = c.span_of-span.ensures.begun in
     let (S', W) = r.closed rs (round_kept _ _ (kept_same b.low) S) b.lit in
-    c.loop-row.invariant.closed rs S' (subst (λ (k : ℕ). (x : ℕ) → x < c.span_of-span.result.old → (x < c.args.stage.walked) × Lit (in_words c.round.calls c.round.n c.round.answers c.round.m).answers (uses_in c.round.calls c.round.list) c.args.stage.seen k c.span_of-span.result.warm) r.known_all W)) in rows_at) rs S))) in rules-at) c.requires.standing.roots c.requires.standing.round in
-    c.loop-after.invariant.going c.requires.standing.roots _ ((let given-at : (rs : List (ℕ × ℕ)) (begun : Begin) → Rules ((let over : Bodies = bodies_with c.args.rules.now c.args.goals.first c.args.goals.second c.args.goal.now c.args.second.now in over)) (Among rs) (number_at (length c.args.rules.now / rule_width)) c.args.first c.args.stage.walked c.args.stage.seen c.span_of-span.result.low c.span_of-span.result.high c.span_of-span.result.top c.span_of-span.result.old c.span_of-span.result.warm
+    c.loop-row.invariant.closed rs S' (subst (λ (k : ℕ). (x : ℕ) → x < c.span_of-span.result.old → (x < c.args.stage.walked) × Lit (in_words c.round.calls c.round.n c.round.answers c.round.m).answers (uses_in c.round.calls c.round.list) c.args.stage.seen k c.span_of-span.result.warm) r.known_all W)) in rows_at) rs S))) in rules_at) c.requires.standing.roots c.requires.standing.round in
+    c.loop-after.invariant.going c.requires.standing.roots _ ((let given_at : (rs : List (ℕ × ℕ)) (begun : Begin) → Rules ((let over : Bodies = bodies_with c.args.rules.now c.args.goals.first c.args.goals.second c.args.goal.now c.args.second.now in over)) (Among rs) (number_at (length c.args.rules.now / rule_width)) c.args.first c.args.stage.walked c.args.stage.seen c.span_of-span.result.low c.span_of-span.result.high c.span_of-span.result.top c.span_of-span.result.old c.span_of-span.result.warm
     c.args.stage.round c.args.stage.calls c.args.stage.answers c.loop-row.row c.loop-rule.rule begun (in_words c.next_walk-walk.new.calls c.loop-rule.n c.loop-rule.answers c.loop-rule.m) (uses_in c.next_walk-walk.new.calls c.loop-rule.list)
     → Given ((let over : Bodies = bodies_with c.args.rules.now c.args.goals.first c.args.goals.second c.args.goal.now c.args.second.now in over)) (Among rs) (in_words c.next_walk-walk.new.calls c.loop-rule.n c.loop-rule.answers c.loop-rule.m)
     c.args.stage.answers c.number_of-number.result c.loop-row.row (before c.args.first c.span_of-span.result.old c.args.stage.seen c.span_of-span.result.warm c.args.stage.round begun) c.steps_for-body.result.now = (λ rs begun R. record {
@@ -783,7 +783,7 @@ loop-rule-preserved c =
       row_last = λ x h l. R.rows_closed.latest x (omega (arith, R.rows_closed.since.all_known)) l;
       row_old = omega (arith, R.rows_closed.base_rows, c.loop-row-test.true, c.span_of-span.ensures.spans.top_in);
       since = R.rows_closed.since;
-    }) in given-at) c.requires.standing.roots _ R) R.rows_closed.noted in going_at))) in
+    }) in given_at) c.requires.standing.roots _ R) R.rows_closed.noted in going_at))) in
     let more = uses_trans w.words.uses_more s.uses_more in
     let a = c.next_walk-walk.ensures.1 in
     record {
@@ -793,18 +793,18 @@ loop-rule-preserved c =
         answers_long = s.answers_long ∙ w.words.answers_long ∙ l.words.answers_long;
         kept = s.kept;
         indexed = s.indexed;
-        uses_more = uses_trans l.words.uses_more (uses_trans ((let uses-walked : UsesGrew (uses_in c.loop-rule.calls c.loop-rule.list) (uses_in c.loop-after.calls c.loop-after.list) = uses_trans (uses_same (marked_uses c.next_walk-walk.ensures.1 c.loop-rule.list)) c.loop-after.invariant.words.uses_more in uses-walked)) s.uses_more);
+        uses_more = uses_trans l.words.uses_more (uses_trans ((let uses_walked : UsesGrew (uses_in c.loop-rule.calls c.loop-rule.list) (uses_in c.loop-after.calls c.loop-after.list) = uses_trans (uses_same (marked_uses c.next_walk-walk.ensures.1 c.loop-rule.list)) c.loop-after.invariant.words.uses_more in uses_walked)) s.uses_more);
       };
       stamped = O.stamped;
       rule_in = omega (arith, c.loop-rule-test.true, c.past_body-past.ensures.0);
       rows_in = omega (arith, l.rows_in, O.grew.calls_more);
       known_in = omega (arith, l.known_in, O.grew.answers_more);
       closed = λ roots begun R.
-          (let Q = (let marked-at : (rs : List (ℕ × ℕ)) (begun : Begin) → Rules ((let over : Bodies = bodies_with c.args.rules.now c.args.goals.first c.args.goals.second c.args.goal.now c.args.second.now in over)) (Among rs) (number_at (length c.args.rules.now / rule_width)) c.args.first c.args.stage.walked c.args.stage.seen c.span_of-span.result.low c.span_of-span.result.high c.span_of-span.result.top c.span_of-span.result.old c.span_of-span.result.warm
+          (let Q = (let marked_at : (rs : List (ℕ × ℕ)) (begun : Begin) → Rules ((let over : Bodies = bodies_with c.args.rules.now c.args.goals.first c.args.goals.second c.args.goal.now c.args.second.now in over)) (Among rs) (number_at (length c.args.rules.now / rule_width)) c.args.first c.args.stage.walked c.args.stage.seen c.span_of-span.result.low c.span_of-span.result.high c.span_of-span.result.top c.span_of-span.result.old c.span_of-span.result.warm
           c.args.stage.round c.args.stage.calls c.args.stage.answers c.loop-row.row c.loop-rule.rule begun (in_words c.loop-rule.calls c.loop-rule.n c.loop-rule.answers c.loop-rule.m) (uses_in c.loop-rule.calls c.loop-rule.list)
           → Rules ((let over : Bodies = bodies_with c.args.rules.now c.args.goals.first c.args.goals.second c.args.goal.now c.args.second.now in over)) (Among rs) (number_at (length c.args.rules.now / rule_width)) c.args.first c.args.stage.walked c.args.stage.seen c.span_of-span.result.low c.span_of-span.result.high c.span_of-span.result.top c.span_of-span.result.old c.span_of-span.result.warm
-          c.args.stage.round c.args.stage.calls c.args.stage.answers c.loop-row.row c.loop-rule.rule begun (in_words c.next_walk-walk.new.calls c.loop-rule.n c.loop-rule.answers c.loop-rule.m) (uses_in c.next_walk-walk.new.calls c.loop-rule.list) = (λ rs begun R. rules-marked (ap (λ (z : Calls). tables z (packed_answers c.loop-rule.answers c.loop-rule.m)) (alone_calls c.next_walk-walk.ensures.1 c.loop-rule.n)) (marked_uses c.next_walk-walk.ensures.1 c.loop-rule.list) R) in marked-at) roots begun (l.closed roots begun R) in
-          let end = rw c.in-Done.is at (c.turn-turn.ensures.leaving _ _ _ _ (w.going roots begun ((let given-at : (rs : List (ℕ × ℕ)) (begun : Begin) → Rules ((let over : Bodies = bodies_with c.args.rules.now c.args.goals.first c.args.goals.second c.args.goal.now c.args.second.now in over)) (Among rs) (number_at (length c.args.rules.now / rule_width)) c.args.first c.args.stage.walked c.args.stage.seen c.span_of-span.result.low c.span_of-span.result.high c.span_of-span.result.top c.span_of-span.result.old c.span_of-span.result.warm
+          c.args.stage.round c.args.stage.calls c.args.stage.answers c.loop-row.row c.loop-rule.rule begun (in_words c.next_walk-walk.new.calls c.loop-rule.n c.loop-rule.answers c.loop-rule.m) (uses_in c.next_walk-walk.new.calls c.loop-rule.list) = (λ rs begun R. rules_marked (ap (λ (z : Calls). tables z (packed_answers c.loop-rule.answers c.loop-rule.m)) (alone_calls c.next_walk-walk.ensures.1 c.loop-rule.n)) (marked_uses c.next_walk-walk.ensures.1 c.loop-rule.list) R) in marked_at) roots begun (l.closed roots begun R) in
+          let end = rw c.in-Done.is at (c.turn-turn.ensures.leaving _ _ _ _ (w.going roots begun ((let given_at : (rs : List (ℕ × ℕ)) (begun : Begin) → Rules ((let over : Bodies = bodies_with c.args.rules.now c.args.goals.first c.args.goals.second c.args.goal.now c.args.second.now in over)) (Among rs) (number_at (length c.args.rules.now / rule_width)) c.args.first c.args.stage.walked c.args.stage.seen c.span_of-span.result.low c.span_of-span.result.high c.span_of-span.result.top c.span_of-span.result.old c.span_of-span.result.warm
           c.args.stage.round c.args.stage.calls c.args.stage.answers c.loop-row.row c.loop-rule.rule begun (in_words c.next_walk-walk.new.calls c.loop-rule.n c.loop-rule.answers c.loop-rule.m) (uses_in c.next_walk-walk.new.calls c.loop-rule.list)
           → Given ((let over : Bodies = bodies_with c.args.rules.now c.args.goals.first c.args.goals.second c.args.goal.now c.args.second.now in over)) (Among rs) (in_words c.next_walk-walk.new.calls c.loop-rule.n c.loop-rule.answers c.loop-rule.m)
           c.args.stage.answers c.number_of-number.result c.loop-row.row (before c.args.first c.span_of-span.result.old c.args.stage.seen c.span_of-span.result.warm c.args.stage.round begun) c.steps_for-body.result.now = (λ rs begun R. record {
@@ -819,7 +819,7 @@ loop-rule-preserved c =
             row_last = λ x h l. R.rows_closed.latest x (omega (arith, R.rows_closed.since.all_known)) l;
             row_old = omega (arith, R.rows_closed.base_rows, c.loop-row-test.true, c.span_of-span.ensures.spans.top_in);
             since = R.rows_closed.since;
-          }) in given-at) roots begun Q) Q.rows_closed.noted)) in
+          }) in given_at) roots begun Q) Q.rows_closed.noted)) in
           rules_next _ _ _ Q (omega (arith, c.loop-row-test.true, c.span_of-span.ensures.spans.top_in)) c.number_of-number.ensures ((let words_at : c.steps_for-body.result.now ≡ ((let over : Bodies = bodies_with c.args.rules.now c.args.goals.first c.args.goals.second c.args.goal.now c.args.second.now in over)).words c.number_of-number.result ((open_calls c.next_walk-walk.new.calls c.loop-rule.n).action c.loop-row.row) = rw ((let action_at : (open_calls c.next_walk-walk.new.calls c.loop-rule.n).action c.loop-row.row ≡ c.action_of-action.result = ap (λ (z : Calls). z.action c.loop-row.row) (alone_calls c.next_walk-walk.ensures.1 c.loop-rule.n) ∙ sym c.action_of-action.ensures in action_at)) c.steps_for-body.ensures.0 in words_at)) more end.made (λ x h k. end.latest x (omega (arith, Q.rows_closed.since.all_known)) k) end);
     }
 
@@ -851,7 +851,7 @@ loop-row-preserved c =
           let R = l.closed roots _ R₀ in
           let same = R.rows_closed.since.made.grew.action_same {i = c.loop-row.row} (omega (arith, c.loop-row-test.true, c.span_of-span.ensures.spans.top_in, R₀.base_rows)) ∙ sym (R₀.since.made.grew.action_same {i = c.loop-row.row} (omega (arith, c.loop-row-test.true, c.span_of-span.ensures.spans.top_in, R₀.base_rows))) in
           rows_next _ _ _ (λ k a e. numbers_all c.args.rules.now c.args.goals.first c.args.goals.second c.args.goal.now c.args.second.now k a e)
-          (rules-past _ _ _ R (λ k h m e. true_not_false (sym (rw (same, ← c.action_of-own.ensures) at e) ∙ c.past_body-past.ensures.1 k (omega (arith, c.loop-rule-test.false)) m))));
+          (rules_past _ _ _ R (λ k h m e. true_not_false (sym (rw (same, ← c.action_of-own.ensures) at e) ∙ c.past_body-past.ensures.1 k (omega (arith, c.loop-rule-test.false)) m))));
     }
 
 pub shape_of-calls-in-round : goal.shape_of-calls-in-round
@@ -867,7 +867,7 @@ pub returns-in-round : goal.returns-in-round
 returns-in-round c =
     let l = c.loop-row.invariant in
     let r = c.round.invariant in
-    let u = (let uses-here : UsesGrew (uses_in c.args.calls.now c.span_of-span.new.list) (uses_in c.loop-row.calls c.loop-row.list) = uses_trans c.round.invariant.words.uses_more c.loop-row.invariant.words.uses_more in uses-here) in
+    let u = (let uses_here : UsesGrew (uses_in c.args.calls.now c.span_of-span.new.list) (uses_in c.loop-row.calls c.loop-row.list) = uses_trans c.round.invariant.words.uses_more c.loop-row.invariant.words.uses_more in uses_here) in
     let R₀ = (let rows_at : (rs : List (ℕ × ℕ)) → (let First : List (ℕ × ℕ) → Type 0 = (λ roots. Round ((let over : Bodies = bodies_with c.args.rules.now c.args.goals.first c.args.goals.second c.args.goal.now c.args.second.now in over)) (Among roots) c.args.first c.args.stage.walked c.args.stage.seen
     (in_words c.args.calls.now c.args.stage.calls c.args.answers.now c.args.stage.answers) (uses_in c.args.calls.now c.args.list.now)) in First) rs
     → Rows ((let over : Bodies = bodies_with c.args.rules.now c.args.goals.first c.args.goals.second c.args.goal.now c.args.second.now in over)) (Among rs) c.args.first c.args.stage.walked c.args.stage.seen c.span_of-span.result.low c.span_of-span.result.high c.span_of-span.result.top c.span_of-span.result.old c.span_of-span.result.warm
@@ -910,7 +910,7 @@ shape_of-answers c = c.turn-turn.ensures.stays.answers_long ∙ (let answers_at 
 pub returns : goal.returns
 returns c =
     let s = c.turn-turn.ensures.stays in
-    let u = uses_trans ((let uses-at : UsesGrew (uses_in c.args.calls.now c.span_of-span.new.list) (uses_in c.loop-after.calls c.loop-after.list) = uses_trans ((let uses-here : UsesGrew (uses_in c.args.calls.now c.span_of-span.new.list) (uses_in c.loop-row.calls c.loop-row.list) = uses_trans c.round.invariant.words.uses_more c.loop-row.invariant.words.uses_more in uses-here)) (uses_trans c.loop-rule.invariant.words.uses_more ((let uses-walked : UsesGrew (uses_in c.loop-rule.calls c.loop-rule.list) (uses_in c.loop-after.calls c.loop-after.list) = uses_trans (uses_same (marked_uses c.next_walk-walk.ensures.1 c.loop-rule.list)) c.loop-after.invariant.words.uses_more in uses-walked))) in uses-at)) s.uses_more in
+    let u = uses_trans ((let uses_at : UsesGrew (uses_in c.args.calls.now c.span_of-span.new.list) (uses_in c.loop-after.calls c.loop-after.list) = uses_trans ((let uses_here : UsesGrew (uses_in c.args.calls.now c.span_of-span.new.list) (uses_in c.loop-row.calls c.loop-row.list) = uses_trans c.round.invariant.words.uses_more c.loop-row.invariant.words.uses_more in uses_here)) (uses_trans c.loop-rule.invariant.words.uses_more ((let uses_walked : UsesGrew (uses_in c.loop-rule.calls c.loop-rule.list) (uses_in c.loop-after.calls c.loop-after.list) = uses_trans (uses_same (marked_uses c.next_walk-walk.ensures.1 c.loop-rule.list)) c.loop-after.invariant.words.uses_more in uses_walked))) in uses_at)) s.uses_more in
     record {
       calls_long = s.calls_long ∙ (let calls_at : length c.loop-after.calls ≡ length c.args.calls.now = c.loop-after.invariant.words.calls_long ∙ c.next_walk-walk.ensures.1.long ∙ c.loop-rule.invariant.words.calls_long ∙ c.loop-row.invariant.words.calls_long ∙ c.round.invariant.words.calls_long in calls_at);
       list_long = s.list_long ∙ (let list_at : length c.loop-after.list ≡ length c.args.list.now = c.loop-after.invariant.words.list_long ∙ c.loop-rule.invariant.words.list_long ∙ c.loop-row.invariant.words.list_long ∙ c.round.invariant.words.list_long ∙ c.span_of-span.ensures.looks_alone.long in list_at);
@@ -926,20 +926,20 @@ returns c =
       stale = λ k. omega (arith, u.heats k, c.span_of-span.ensures.begun.stale k);
       next = λ e. absurd (true_not_false e);
       outgrown = λ _ roots S.
-          (let R = (let rules-at : (rs : List (ℕ × ℕ)) → (let First : List (ℕ × ℕ) → Type 0 = (λ roots. Round ((let over : Bodies = bodies_with c.args.rules.now c.args.goals.first c.args.goals.second c.args.goal.now c.args.second.now in over)) (Among roots) c.args.first c.args.stage.walked c.args.stage.seen
+          (let R = (let rules_at : (rs : List (ℕ × ℕ)) → (let First : List (ℕ × ℕ) → Type 0 = (λ roots. Round ((let over : Bodies = bodies_with c.args.rules.now c.args.goals.first c.args.goals.second c.args.goal.now c.args.second.now in over)) (Among roots) c.args.first c.args.stage.walked c.args.stage.seen
           (in_words c.args.calls.now c.args.stage.calls c.args.answers.now c.args.stage.answers) (uses_in c.args.calls.now c.args.list.now)) in First) rs
           → Rules ((let over : Bodies = bodies_with c.args.rules.now c.args.goals.first c.args.goals.second c.args.goal.now c.args.second.now in over)) (Among rs) (number_at (length c.args.rules.now / rule_width)) c.args.first c.args.stage.walked c.args.stage.seen c.span_of-span.result.low c.span_of-span.result.high c.span_of-span.result.top c.span_of-span.result.old c.span_of-span.result.warm
-          c.args.stage.round c.args.stage.calls c.args.stage.answers c.loop-row.row c.loop-rule.rule (begin (in_words c.round.calls c.round.n c.round.answers c.round.m) (uses_in c.round.calls c.round.list)) (in_words c.next_walk-walk.new.calls c.loop-rule.n c.loop-rule.answers c.loop-rule.m) (uses_in c.next_walk-walk.new.calls c.loop-rule.list) = (λ rs S. (let marked-at : (rs : List (ℕ × ℕ)) (begun : Begin) → Rules ((let over : Bodies = bodies_with c.args.rules.now c.args.goals.first c.args.goals.second c.args.goal.now c.args.second.now in over)) (Among rs) (number_at (length c.args.rules.now / rule_width)) c.args.first c.args.stage.walked c.args.stage.seen c.span_of-span.result.low c.span_of-span.result.high c.span_of-span.result.top c.span_of-span.result.old c.span_of-span.result.warm
+          c.args.stage.round c.args.stage.calls c.args.stage.answers c.loop-row.row c.loop-rule.rule (begin (in_words c.round.calls c.round.n c.round.answers c.round.m) (uses_in c.round.calls c.round.list)) (in_words c.next_walk-walk.new.calls c.loop-rule.n c.loop-rule.answers c.loop-rule.m) (uses_in c.next_walk-walk.new.calls c.loop-rule.list) = (λ rs S. (let marked_at : (rs : List (ℕ × ℕ)) (begun : Begin) → Rules ((let over : Bodies = bodies_with c.args.rules.now c.args.goals.first c.args.goals.second c.args.goal.now c.args.second.now in over)) (Among rs) (number_at (length c.args.rules.now / rule_width)) c.args.first c.args.stage.walked c.args.stage.seen c.span_of-span.result.low c.span_of-span.result.high c.span_of-span.result.top c.span_of-span.result.old c.span_of-span.result.warm
           c.args.stage.round c.args.stage.calls c.args.stage.answers c.loop-row.row c.loop-rule.rule begun (in_words c.loop-rule.calls c.loop-rule.n c.loop-rule.answers c.loop-rule.m) (uses_in c.loop-rule.calls c.loop-rule.list)
           → Rules ((let over : Bodies = bodies_with c.args.rules.now c.args.goals.first c.args.goals.second c.args.goal.now c.args.second.now in over)) (Among rs) (number_at (length c.args.rules.now / rule_width)) c.args.first c.args.stage.walked c.args.stage.seen c.span_of-span.result.low c.span_of-span.result.high c.span_of-span.result.top c.span_of-span.result.old c.span_of-span.result.warm
-          c.args.stage.round c.args.stage.calls c.args.stage.answers c.loop-row.row c.loop-rule.rule begun (in_words c.next_walk-walk.new.calls c.loop-rule.n c.loop-rule.answers c.loop-rule.m) (uses_in c.next_walk-walk.new.calls c.loop-rule.list) = (λ rs begun R. rules-marked (ap (λ (z : Calls). tables z (packed_answers c.loop-rule.answers c.loop-rule.m)) (alone_calls c.next_walk-walk.ensures.1 c.loop-rule.n)) (marked_uses c.next_walk-walk.ensures.1 c.loop-rule.list) R) in marked-at) rs _ (c.loop-rule.invariant.closed rs _ ((let rows_at : (rs : List (ℕ × ℕ)) → (let First : List (ℕ × ℕ) → Type 0 = (λ roots. Round ((let over : Bodies = bodies_with c.args.rules.now c.args.goals.first c.args.goals.second c.args.goal.now c.args.second.now in over)) (Among roots) c.args.first c.args.stage.walked c.args.stage.seen
+          c.args.stage.round c.args.stage.calls c.args.stage.answers c.loop-row.row c.loop-rule.rule begun (in_words c.next_walk-walk.new.calls c.loop-rule.n c.loop-rule.answers c.loop-rule.m) (uses_in c.next_walk-walk.new.calls c.loop-rule.list) = (λ rs begun R. rules_marked (ap (λ (z : Calls). tables z (packed_answers c.loop-rule.answers c.loop-rule.m)) (alone_calls c.next_walk-walk.ensures.1 c.loop-rule.n)) (marked_uses c.next_walk-walk.ensures.1 c.loop-rule.list) R) in marked_at) rs _ (c.loop-rule.invariant.closed rs _ ((let rows_at : (rs : List (ℕ × ℕ)) → (let First : List (ℕ × ℕ) → Type 0 = (λ roots. Round ((let over : Bodies = bodies_with c.args.rules.now c.args.goals.first c.args.goals.second c.args.goal.now c.args.second.now in over)) (Among roots) c.args.first c.args.stage.walked c.args.stage.seen
           (in_words c.args.calls.now c.args.stage.calls c.args.answers.now c.args.stage.answers) (uses_in c.args.calls.now c.args.list.now)) in First) rs
           → Rows ((let over : Bodies = bodies_with c.args.rules.now c.args.goals.first c.args.goals.second c.args.goal.now c.args.second.now in over)) (Among rs) c.args.first c.args.stage.walked c.args.stage.seen c.span_of-span.result.low c.span_of-span.result.high c.span_of-span.result.top c.span_of-span.result.old c.span_of-span.result.warm
           c.args.stage.round c.args.stage.calls c.args.stage.answers c.loop-row.row (begin (in_words c.round.calls c.round.n c.round.answers c.round.m) (uses_in c.round.calls c.round.list)) (in_words c.loop-row.calls c.loop-row.n c.loop-row.answers c.loop-row.m) (uses_in c.loop-row.calls c.loop-row.list) = (λ rs S. let r = c.round.invariant in
           let b = c.span_of-span.ensures.begun in
           let (S', W) = r.closed rs (round_kept _ _ (kept_same b.low) S) b.lit in
-          c.loop-row.invariant.closed rs S' (subst (λ (k : ℕ). (x : ℕ) → x < c.span_of-span.result.old → (x < c.args.stage.walked) × Lit (in_words c.round.calls c.round.n c.round.answers c.round.m).answers (uses_in c.round.calls c.round.list) c.args.stage.seen k c.span_of-span.result.warm) r.known_all W)) in rows_at) rs S))) in rules-at) roots S in
-          let O = rw c.in-Full.is at (c.turn-turn.ensures.leaving _ _ _ _ (c.loop-after.invariant.going roots _ ((let given-at : (rs : List (ℕ × ℕ)) (begun : Begin) → Rules ((let over : Bodies = bodies_with c.args.rules.now c.args.goals.first c.args.goals.second c.args.goal.now c.args.second.now in over)) (Among rs) (number_at (length c.args.rules.now / rule_width)) c.args.first c.args.stage.walked c.args.stage.seen c.span_of-span.result.low c.span_of-span.result.high c.span_of-span.result.top c.span_of-span.result.old c.span_of-span.result.warm
+          c.loop-row.invariant.closed rs S' (subst (λ (k : ℕ). (x : ℕ) → x < c.span_of-span.result.old → (x < c.args.stage.walked) × Lit (in_words c.round.calls c.round.n c.round.answers c.round.m).answers (uses_in c.round.calls c.round.list) c.args.stage.seen k c.span_of-span.result.warm) r.known_all W)) in rows_at) rs S))) in rules_at) roots S in
+          let O = rw c.in-Full.is at (c.turn-turn.ensures.leaving _ _ _ _ (c.loop-after.invariant.going roots _ ((let given_at : (rs : List (ℕ × ℕ)) (begun : Begin) → Rules ((let over : Bodies = bodies_with c.args.rules.now c.args.goals.first c.args.goals.second c.args.goal.now c.args.second.now in over)) (Among rs) (number_at (length c.args.rules.now / rule_width)) c.args.first c.args.stage.walked c.args.stage.seen c.span_of-span.result.low c.span_of-span.result.high c.span_of-span.result.top c.span_of-span.result.old c.span_of-span.result.warm
           c.args.stage.round c.args.stage.calls c.args.stage.answers c.loop-row.row c.loop-rule.rule begun (in_words c.next_walk-walk.new.calls c.loop-rule.n c.loop-rule.answers c.loop-rule.m) (uses_in c.next_walk-walk.new.calls c.loop-rule.list)
           → Given ((let over : Bodies = bodies_with c.args.rules.now c.args.goals.first c.args.goals.second c.args.goal.now c.args.second.now in over)) (Among rs) (in_words c.next_walk-walk.new.calls c.loop-rule.n c.loop-rule.answers c.loop-rule.m)
           c.args.stage.answers c.number_of-number.result c.loop-row.row (before c.args.first c.span_of-span.result.old c.args.stage.seen c.span_of-span.result.warm c.args.stage.round begun) c.steps_for-body.result.now = (λ rs begun R. record {
@@ -954,6 +954,6 @@ returns c =
             row_last = λ x h l. R.rows_closed.latest x (omega (arith, R.rows_closed.since.all_known)) l;
             row_old = omega (arith, R.rows_closed.base_rows, c.loop-row-test.true, c.span_of-span.ensures.spans.top_in);
             since = R.rows_closed.since;
-          }) in given-at) roots _ R) R.rows_closed.noted)) in
+          }) in given_at) roots _ R) R.rows_closed.noted)) in
           rw ((let calls_at : length c.loop-after.calls ≡ length c.args.calls.now = c.loop-after.invariant.words.calls_long ∙ c.next_walk-walk.ensures.1.long ∙ c.loop-rule.invariant.words.calls_long ∙ c.loop-row.invariant.words.calls_long ∙ c.round.invariant.words.calls_long in calls_at)) at O);
     }

@@ -9,13 +9,13 @@ use Rattle.rehearsal.specs.Rehearsed.{not_read, evaluated}
 use Rattle.rehearsal.proofs.Reading.{Read, read_accepted, read_refused, few_rules, rules_fit, goal_fits, asks}
 use Rattle.rehearsal.proofs.rehearse.Goals as goal
 
-abbrev refusal-at : Sheet → Rehearsal
-refusal-at x = record { refusal = x.refusal; line = x.line; ends = 0; calls = 0; answers = 0; rounds = 0 }
+abbrev refusal_at : Sheet → Rehearsal
+refusal_at x = record { refusal = x.refusal; line = x.line; ends = 0; calls = 0; answers = 0; rounds = 0 }
 
 pub returns-then-read-ne0 : goal.returns-then-read-ne0
 returns-then-read-ne0 c =
     let (number, line, e, g) = read_refused c.args.text.now (replicate 4608 0) refl c.read-read.result c.read-read.ensures.value c.if-read-ne0.true in
-    not_read number line e (ap (λ (x : Sheet). refusal-at x) g) refl
+    not_read number line e (ap (λ (x : Sheet). refusal_at x) g) refl
 
 pub overflow_mul-used : goal.overflow_mul-used
 overflow_mul-used c = let f = few_rules ((let read : Read c.args.text.now c.read-read.new.rules c.read-read.result = read_accepted c.args.text.now (replicate 4608 0) refl c.read-read.new.rules c.read-read.result c.read-read.ensures.value c.read-read.ensures.rules_after c.if-read-ne0.false in read)) in search rules

@@ -28,7 +28,7 @@ pub returns-then-put : goal.returns-then-put
 returns-then-put c =
     let j = c.args.job in record {
       stays = (
-        (let put-stays : (k : ℕ) → k ≡ c.add_call-put.result.count → Stays c.args.job.most c.args.calls.now c.args.list.now c.args.answers.now c.add_call-put.new.calls c.add_call-put.new.list k
+        (let put_stays : (k : ℕ) → k ≡ c.add_call-put.result.count → Stays c.args.job.most c.args.calls.now c.args.list.now c.args.answers.now c.add_call-put.new.calls c.add_call-put.new.list k
             c.args.answers.now c.args.m = (λ k e. rw e ((let stays_put : Stays c.args.job.most c.args.calls.now c.args.list.now c.args.answers.now c.add_call-put.new.calls c.add_call-put.new.list c.add_call-put.result.count
             c.args.answers.now c.args.m = let x = c.add_call-put.ensures in
             record {
@@ -38,12 +38,12 @@ returns-then-put c =
               kept = record { calls_open = x.calls_open.0; answers_open = c.requires.0.answers_open };
               indexed = record { of_calls = x.calls_open.1; of_answers = called_index x.calls_kept c.requires.1.of_answers };
               uses_more = uses_same (called_uses x.calls_kept);
-            } in stays_put))) in put-stays) _ (omega arith),
+            } in stays_put))) in put_stays) _ (omega arith),
         refl,
       );
-      stepped = λ bodies roots b begun body h e z d T. turn_calls_full bodies (Among roots) b j.known j.rule j.row j.walk (past_of j begun) body T h e j.most ((let put-at : (a : ℕ) → a ≡ c.args.step
+      stepped = λ bodies roots b begun body h e z d T. turn_calls_full bodies (Among roots) b j.known j.rule j.row j.walk (past_of j begun) body T h e j.most ((let put_at : (a : ℕ) → a ≡ c.args.step
           → CallPut (room call_width (length c.args.calls.now)) (open_calls c.args.calls.now c.args.n) (a % 256)
-          c.args.spot.state.0 c.args.job.round (open_calls c.add_call-put.new.calls c.add_call-put.result.count) c.add_call-put.result.row c.add_call-put.result.full = (λ a z. rw (z, ← c.index.ensures) c.add_call-put.ensures.call_put) in put-at) _ z) c.if-put.true;
+          c.args.spot.state.0 c.args.job.round (open_calls c.add_call-put.new.calls c.add_call-put.result.count) c.add_call-put.result.row c.add_call-put.result.full = (λ a z. rw (z, ← c.index.ensures) c.add_call-put.ensures.call_put) in put_at) _ z) c.if-put.true;
     }
 
 pub note-requires : goal.note-requires
@@ -57,7 +57,7 @@ is_marked-requires c = (
   (let stamped : Stamped (mark_words c.note.new.calls) c.args.job.walk = stamped_in (alone_marks c.note.ensures.uses_alone ∙ called_marks c.add_call-put.ensures.calls_kept) c.requires.2 in stamped),
   omega (
     arith,
-    ((let stays-noted : Stays c.args.job.most c.args.calls.now c.args.list.now c.args.answers.now c.note.new.calls c.add_call-put.new.list
+    ((let stays_noted : Stays c.args.job.most c.args.calls.now c.args.list.now c.args.answers.now c.note.new.calls c.add_call-put.new.list
         c.add_call-put.result.count c.args.answers.now c.args.m = let s = (let stays_put : Stays c.args.job.most c.args.calls.now c.args.list.now c.args.answers.now c.add_call-put.new.calls c.add_call-put.new.list c.add_call-put.result.count
         c.args.answers.now c.args.m = let x = c.add_call-put.ensures in
         record {
@@ -76,7 +76,7 @@ is_marked-requires c = (
           kept = noted_kept a (omega (arith, (let row_in : c.add_call-put.result.full ≡ false → c.add_call-put.result.row < c.add_call-put.result.count = (λ f. put_inside c.add_call-put.ensures.call_put f) in row_in) c.if-put.false)) s.kept;
           indexed = noted_indexed a s.indexed;
           uses_more = uses_trans s.uses_more (c.note.ensures.by_index c.add_call-put.new.list).grew;
-        } in stays-noted)).kept.calls_open.stored.fits,
+        } in stays_noted)).kept.calls_open.stored.fits,
     (let row_in : c.add_call-put.result.full ≡ false → c.add_call-put.result.row < c.add_call-put.result.count = (λ f. put_inside c.add_call-put.ensures.call_put f) in row_in) c.if-put.false,
   ),
   c.requires.3,
@@ -86,7 +86,7 @@ pub returns-then-is_marked : goal.returns-then-is_marked
 returns-then-is_marked c =
     let j = c.args.job in record {
       stays = (
-        (let stays-noted : Stays c.args.job.most c.args.calls.now c.args.list.now c.args.answers.now c.note.new.calls c.add_call-put.new.list
+        (let stays_noted : Stays c.args.job.most c.args.calls.now c.args.list.now c.args.answers.now c.note.new.calls c.add_call-put.new.list
             c.add_call-put.result.count c.args.answers.now c.args.m = let s = (let stays_put : Stays c.args.job.most c.args.calls.now c.args.list.now c.args.answers.now c.add_call-put.new.calls c.add_call-put.new.list c.add_call-put.result.count
             c.args.answers.now c.args.m = let x = c.add_call-put.ensures in
             record {
@@ -105,7 +105,7 @@ returns-then-is_marked c =
               kept = noted_kept a (omega (arith, (let row_in : c.add_call-put.result.full ≡ false → c.add_call-put.result.row < c.add_call-put.result.count = (λ f. put_inside c.add_call-put.ensures.call_put f) in row_in) c.if-put.false)) s.kept;
               indexed = noted_indexed a s.indexed;
               uses_more = uses_trans s.uses_more (c.note.ensures.by_index c.add_call-put.new.list).grew;
-            } in stays-noted),
+            } in stays_noted),
         refl,
       );
       stepped = λ bodies roots b begun body h e z d T. (
@@ -113,9 +113,9 @@ returns-then-is_marked c =
             → Turning bodies (Among roots) b c.args.job.known c.args.job.rule c.args.job.row c.args.job.walk (past_of c.args.job begun) body
             (in_words c.args.calls.now c.args.n c.args.answers.now c.args.m) (mark_words c.args.calls.now) (uses_in c.args.calls.now c.args.list.now) c.args.chosen.now c.args.at (spot_of c.args.spot)
             → Facing bodies (Among roots) b c.args.job.known c.args.job.rule c.args.job.row c.args.job.walk (past_of c.args.job begun) body
-            c.note.new.calls c.add_call-put.new.list c.add_call-put.result.count c.args.answers.now c.args.m c.args.chosen.now c.args.at (spot_of c.args.spot) c.add_call-put.result.row = (λ bodies roots b begun body h e z T. faced bodies (Among roots) b c.args.job.known c.args.job.rule c.args.job.row c.args.job.walk (past_of c.args.job begun) body T h e ((let put-at : (a : ℕ) → a ≡ c.args.step
+            c.note.new.calls c.add_call-put.new.list c.add_call-put.result.count c.args.answers.now c.args.m c.args.chosen.now c.args.at (spot_of c.args.spot) c.add_call-put.result.row = (λ bodies roots b begun body h e z T. faced bodies (Among roots) b c.args.job.known c.args.job.rule c.args.job.row c.args.job.walk (past_of c.args.job begun) body T h e ((let put_at : (a : ℕ) → a ≡ c.args.step
             → CallPut (room call_width (length c.args.calls.now)) (open_calls c.args.calls.now c.args.n) (a % 256)
-            c.args.spot.state.0 c.args.job.round (open_calls c.add_call-put.new.calls c.add_call-put.result.count) c.add_call-put.result.row c.add_call-put.result.full = (λ a z. rw (z, ← c.index.ensures) c.add_call-put.ensures.call_put) in put-at) _ z) c.if-put.false
+            c.args.spot.state.0 c.args.job.round (open_calls c.add_call-put.new.calls c.add_call-put.result.count) c.add_call-put.result.row c.add_call-put.result.full = (λ a z. rw (z, ← c.index.ensures) c.add_call-put.ensures.call_put) in put_at) _ z) c.if-put.false
             c.add_call-put.ensures.calls_kept c.note.ensures.uses_alone (c.note.ensures.by_index c.add_call-put.new.list)) in facing) bodies roots b begun body h e z T) (rw c.if-is_marked.true at c.is_marked.ensures),
         refl,
       );
@@ -126,7 +126,7 @@ mark-requires c = (
   (let stamped : Stamped (mark_words c.note.new.calls) c.args.job.walk = stamped_in (alone_marks c.note.ensures.uses_alone ∙ called_marks c.add_call-put.ensures.calls_kept) c.requires.2 in stamped),
   omega (
     arith,
-    ((let stays-noted : Stays c.args.job.most c.args.calls.now c.args.list.now c.args.answers.now c.note.new.calls c.add_call-put.new.list
+    ((let stays_noted : Stays c.args.job.most c.args.calls.now c.args.list.now c.args.answers.now c.note.new.calls c.add_call-put.new.list
         c.add_call-put.result.count c.args.answers.now c.args.m = let s = (let stays_put : Stays c.args.job.most c.args.calls.now c.args.list.now c.args.answers.now c.add_call-put.new.calls c.add_call-put.new.list c.add_call-put.result.count
         c.args.answers.now c.args.m = let x = c.add_call-put.ensures in
         record {
@@ -145,7 +145,7 @@ mark-requires c = (
           kept = noted_kept a (omega (arith, (let row_in : c.add_call-put.result.full ≡ false → c.add_call-put.result.row < c.add_call-put.result.count = (λ f. put_inside c.add_call-put.ensures.call_put f) in row_in) c.if-put.false)) s.kept;
           indexed = noted_indexed a s.indexed;
           uses_more = uses_trans s.uses_more (c.note.ensures.by_index c.add_call-put.new.list).grew;
-        } in stays-noted)).kept.calls_open.stored.fits,
+        } in stays_noted)).kept.calls_open.stored.fits,
     (let row_in : c.add_call-put.result.full ≡ false → c.add_call-put.result.row < c.add_call-put.result.count = (λ f. put_inside c.add_call-put.ensures.call_put f) in row_in) c.if-put.false,
   ),
   c.requires.3,
@@ -154,8 +154,8 @@ mark-requires c = (
 
 pub first_of-first-requires : goal.first_of-first-requires
 first_of-first-requires c =
-    let s = (let stays-marked : Stays c.args.job.most c.args.calls.now c.args.list.now c.args.answers.now c.mark.new.calls c.add_call-put.new.list
-    c.add_call-put.result.count c.args.answers.now c.args.m = let s = (let stays-noted : Stays c.args.job.most c.args.calls.now c.args.list.now c.args.answers.now c.note.new.calls c.add_call-put.new.list
+    let s = (let stays_marked : Stays c.args.job.most c.args.calls.now c.args.list.now c.args.answers.now c.mark.new.calls c.add_call-put.new.list
+    c.add_call-put.result.count c.args.answers.now c.args.m = let s = (let stays_noted : Stays c.args.job.most c.args.calls.now c.args.list.now c.args.answers.now c.note.new.calls c.add_call-put.new.list
     c.add_call-put.result.count c.args.answers.now c.args.m = let s = (let stays_put : Stays c.args.job.most c.args.calls.now c.args.list.now c.args.answers.now c.add_call-put.new.calls c.add_call-put.new.list c.add_call-put.result.count
     c.args.answers.now c.args.m = let x = c.add_call-put.ensures in
     record {
@@ -174,7 +174,7 @@ first_of-first-requires c =
       kept = noted_kept a (omega (arith, (let row_in : c.add_call-put.result.full ≡ false → c.add_call-put.result.row < c.add_call-put.result.count = (λ f. put_inside c.add_call-put.ensures.call_put f) in row_in) c.if-put.false)) s.kept;
       indexed = noted_indexed a s.indexed;
       uses_more = uses_trans s.uses_more (c.note.ensures.by_index c.add_call-put.new.list).grew;
-    } in stays-noted) in
+    } in stays_noted) in
     let a = c.mark.ensures.marks_alone in
     record {
       calls_long = a.long ∙ s.calls_long;
@@ -183,7 +183,7 @@ first_of-first-requires c =
       kept = marked_kept a (omega (arith, (let row_in : c.add_call-put.result.full ≡ false → c.add_call-put.result.row < c.add_call-put.result.count = (λ f. put_inside c.add_call-put.ensures.call_put f) in row_in) c.if-put.false)) s.kept;
       indexed = marked_indexed a s.indexed;
       uses_more = uses_trans s.uses_more (uses_same (marked_uses a c.add_call-put.new.list));
-    } in stays-marked) in
+    } in stays_marked) in
     let o = s.kept.calls_open in
     let l = (let row_in : c.add_call-put.result.full ≡ false → c.add_call-put.result.row < c.add_call-put.result.count = (λ f. put_inside c.add_call-put.ensures.call_put f) in row_in) c.if-put.false in record { row_bound = (omega (arith, o.stored.fits, o.stored.most, l), omega (arith, o.stored.fits, o.stored.most, o.listed, l), omega (arith, c.requires.3)); by_index = (c.args.m, c.requires.4, c.requires.0.answers_open, s.indexed.of_answers) }
 
@@ -191,8 +191,8 @@ pub returns-then-first-job : goal.returns-then-first-job
 returns-then-first-job c =
     let j = c.args.job in record {
       stays = (
-        (let stays-marked : Stays c.args.job.most c.args.calls.now c.args.list.now c.args.answers.now c.mark.new.calls c.add_call-put.new.list
-            c.add_call-put.result.count c.args.answers.now c.args.m = let s = (let stays-noted : Stays c.args.job.most c.args.calls.now c.args.list.now c.args.answers.now c.note.new.calls c.add_call-put.new.list
+        (let stays_marked : Stays c.args.job.most c.args.calls.now c.args.list.now c.args.answers.now c.mark.new.calls c.add_call-put.new.list
+            c.add_call-put.result.count c.args.answers.now c.args.m = let s = (let stays_noted : Stays c.args.job.most c.args.calls.now c.args.list.now c.args.answers.now c.note.new.calls c.add_call-put.new.list
             c.add_call-put.result.count c.args.answers.now c.args.m = let s = (let stays_put : Stays c.args.job.most c.args.calls.now c.args.list.now c.args.answers.now c.add_call-put.new.calls c.add_call-put.new.list c.add_call-put.result.count
             c.args.answers.now c.args.m = let x = c.add_call-put.ensures in
             record {
@@ -211,7 +211,7 @@ returns-then-first-job c =
               kept = noted_kept a (omega (arith, (let row_in : c.add_call-put.result.full ≡ false → c.add_call-put.result.row < c.add_call-put.result.count = (λ f. put_inside c.add_call-put.ensures.call_put f) in row_in) c.if-put.false)) s.kept;
               indexed = noted_indexed a s.indexed;
               uses_more = uses_trans s.uses_more (c.note.ensures.by_index c.add_call-put.new.list).grew;
-            } in stays-noted) in
+            } in stays_noted) in
             let a = c.mark.ensures.marks_alone in
             record {
               calls_long = a.long ∙ s.calls_long;
@@ -220,7 +220,7 @@ returns-then-first-job c =
               kept = marked_kept a (omega (arith, (let row_in : c.add_call-put.result.full ≡ false → c.add_call-put.result.row < c.add_call-put.result.count = (λ f. put_inside c.add_call-put.ensures.call_put f) in row_in) c.if-put.false)) s.kept;
               indexed = marked_indexed a s.indexed;
               uses_more = uses_trans s.uses_more (uses_same (marked_uses a c.add_call-put.new.list));
-            } in stays-marked),
+            } in stays_marked),
         refl,
       );
       stepped = λ bodies roots b begun body h e z d T. (
@@ -228,9 +228,9 @@ returns-then-first-job c =
             → Turning bodies (Among roots) b c.args.job.known c.args.job.rule c.args.job.row c.args.job.walk (past_of c.args.job begun) body
             (in_words c.args.calls.now c.args.n c.args.answers.now c.args.m) (mark_words c.args.calls.now) (uses_in c.args.calls.now c.args.list.now) c.args.chosen.now c.args.at (spot_of c.args.spot)
             → Facing bodies (Among roots) b c.args.job.known c.args.job.rule c.args.job.row c.args.job.walk (past_of c.args.job begun) body
-            c.note.new.calls c.add_call-put.new.list c.add_call-put.result.count c.args.answers.now c.args.m c.args.chosen.now c.args.at (spot_of c.args.spot) c.add_call-put.result.row = (λ bodies roots b begun body h e z T. faced bodies (Among roots) b c.args.job.known c.args.job.rule c.args.job.row c.args.job.walk (past_of c.args.job begun) body T h e ((let put-at : (a : ℕ) → a ≡ c.args.step
+            c.note.new.calls c.add_call-put.new.list c.add_call-put.result.count c.args.answers.now c.args.m c.args.chosen.now c.args.at (spot_of c.args.spot) c.add_call-put.result.row = (λ bodies roots b begun body h e z T. faced bodies (Among roots) b c.args.job.known c.args.job.rule c.args.job.row c.args.job.walk (past_of c.args.job begun) body T h e ((let put_at : (a : ℕ) → a ≡ c.args.step
             → CallPut (room call_width (length c.args.calls.now)) (open_calls c.args.calls.now c.args.n) (a % 256)
-            c.args.spot.state.0 c.args.job.round (open_calls c.add_call-put.new.calls c.add_call-put.result.count) c.add_call-put.result.row c.add_call-put.result.full = (λ a z. rw (z, ← c.index.ensures) c.add_call-put.ensures.call_put) in put-at) _ z) c.if-put.false
+            c.args.spot.state.0 c.args.job.round (open_calls c.add_call-put.new.calls c.add_call-put.result.count) c.add_call-put.result.row c.add_call-put.result.full = (λ a z. rw (z, ← c.index.ensures) c.add_call-put.ensures.call_put) in put_at) _ z) c.if-put.false
             c.add_call-put.ensures.calls_kept c.note.ensures.uses_alone (c.note.ensures.by_index c.add_call-put.new.list)) in facing) bodies roots b begun body h e z T) c.mark.ensures.marks_alone c.mark.ensures.calls_after ((let row_small : c.add_call-put.result.full ≡ false → c.add_call-put.result.row < 65536 = (λ f. omega (arith, c.add_call-put.ensures.calls_open.0.stored.most, (let row_in : c.add_call-put.result.full ≡ false → c.add_call-put.result.row < c.add_call-put.result.count = (λ f. put_inside c.add_call-put.ensures.call_put f) in row_in) f)) in row_small) c.if-put.false) (rw c.if-is_marked.false at c.is_marked.ensures)
             (rw c.if-first-job.true at (c.first_of-first.ensures.1 begun body d)),
         refl,
@@ -251,8 +251,8 @@ overflow_add-after c = omega (arith, c.requires.0.answers_open.fits, c.requires.
 
 pub shape_of-calls : goal.shape_of-calls
 shape_of-calls c =
-    ((let stays-marked : Stays c.args.job.most c.args.calls.now c.args.list.now c.args.answers.now c.mark.new.calls c.add_call-put.new.list
-    c.add_call-put.result.count c.args.answers.now c.args.m = let s = (let stays-noted : Stays c.args.job.most c.args.calls.now c.args.list.now c.args.answers.now c.note.new.calls c.add_call-put.new.list
+    ((let stays_marked : Stays c.args.job.most c.args.calls.now c.args.list.now c.args.answers.now c.mark.new.calls c.add_call-put.new.list
+    c.add_call-put.result.count c.args.answers.now c.args.m = let s = (let stays_noted : Stays c.args.job.most c.args.calls.now c.args.list.now c.args.answers.now c.note.new.calls c.add_call-put.new.list
     c.add_call-put.result.count c.args.answers.now c.args.m = let s = (let stays_put : Stays c.args.job.most c.args.calls.now c.args.list.now c.args.answers.now c.add_call-put.new.calls c.add_call-put.new.list c.add_call-put.result.count
     c.args.answers.now c.args.m = let x = c.add_call-put.ensures in
     record {
@@ -271,7 +271,7 @@ shape_of-calls c =
       kept = noted_kept a (omega (arith, (let row_in : c.add_call-put.result.full ≡ false → c.add_call-put.result.row < c.add_call-put.result.count = (λ f. put_inside c.add_call-put.ensures.call_put f) in row_in) c.if-put.false)) s.kept;
       indexed = noted_indexed a s.indexed;
       uses_more = uses_trans s.uses_more (c.note.ensures.by_index c.add_call-put.new.list).grew;
-    } in stays-noted) in
+    } in stays_noted) in
     let a = c.mark.ensures.marks_alone in
     record {
       calls_long = a.long ∙ s.calls_long;
@@ -280,12 +280,12 @@ shape_of-calls c =
       kept = marked_kept a (omega (arith, (let row_in : c.add_call-put.result.full ≡ false → c.add_call-put.result.row < c.add_call-put.result.count = (λ f. put_inside c.add_call-put.ensures.call_put f) in row_in) c.if-put.false)) s.kept;
       indexed = marked_indexed a s.indexed;
       uses_more = uses_trans s.uses_more (uses_same (marked_uses a c.add_call-put.new.list));
-    } in stays-marked)).calls_long
+    } in stays_marked)).calls_long
 
 pub shape_of-list : goal.shape_of-list
 shape_of-list c =
-    ((let stays-marked : Stays c.args.job.most c.args.calls.now c.args.list.now c.args.answers.now c.mark.new.calls c.add_call-put.new.list
-    c.add_call-put.result.count c.args.answers.now c.args.m = let s = (let stays-noted : Stays c.args.job.most c.args.calls.now c.args.list.now c.args.answers.now c.note.new.calls c.add_call-put.new.list
+    ((let stays_marked : Stays c.args.job.most c.args.calls.now c.args.list.now c.args.answers.now c.mark.new.calls c.add_call-put.new.list
+    c.add_call-put.result.count c.args.answers.now c.args.m = let s = (let stays_noted : Stays c.args.job.most c.args.calls.now c.args.list.now c.args.answers.now c.note.new.calls c.add_call-put.new.list
     c.add_call-put.result.count c.args.answers.now c.args.m = let s = (let stays_put : Stays c.args.job.most c.args.calls.now c.args.list.now c.args.answers.now c.add_call-put.new.calls c.add_call-put.new.list c.add_call-put.result.count
     c.args.answers.now c.args.m = let x = c.add_call-put.ensures in
     record {
@@ -304,7 +304,7 @@ shape_of-list c =
       kept = noted_kept a (omega (arith, (let row_in : c.add_call-put.result.full ≡ false → c.add_call-put.result.row < c.add_call-put.result.count = (λ f. put_inside c.add_call-put.ensures.call_put f) in row_in) c.if-put.false)) s.kept;
       indexed = noted_indexed a s.indexed;
       uses_more = uses_trans s.uses_more (c.note.ensures.by_index c.add_call-put.new.list).grew;
-    } in stays-noted) in
+    } in stays_noted) in
     let a = c.mark.ensures.marks_alone in
     record {
       calls_long = a.long ∙ s.calls_long;
@@ -313,7 +313,7 @@ shape_of-list c =
       kept = marked_kept a (omega (arith, (let row_in : c.add_call-put.result.full ≡ false → c.add_call-put.result.row < c.add_call-put.result.count = (λ f. put_inside c.add_call-put.ensures.call_put f) in row_in) c.if-put.false)) s.kept;
       indexed = marked_indexed a s.indexed;
       uses_more = uses_trans s.uses_more (uses_same (marked_uses a c.add_call-put.new.list));
-    } in stays-marked)).list_long
+    } in stays_marked)).list_long
 
 pub returns : goal.returns
 returns c =
@@ -321,8 +321,8 @@ returns c =
     let at = c.args.at in
     let first = c.first_of-first.result in record {
       stays = (
-        (let stays-marked : Stays c.args.job.most c.args.calls.now c.args.list.now c.args.answers.now c.mark.new.calls c.add_call-put.new.list
-            c.add_call-put.result.count c.args.answers.now c.args.m = let s = (let stays-noted : Stays c.args.job.most c.args.calls.now c.args.list.now c.args.answers.now c.note.new.calls c.add_call-put.new.list
+        (let stays_marked : Stays c.args.job.most c.args.calls.now c.args.list.now c.args.answers.now c.mark.new.calls c.add_call-put.new.list
+            c.add_call-put.result.count c.args.answers.now c.args.m = let s = (let stays_noted : Stays c.args.job.most c.args.calls.now c.args.list.now c.args.answers.now c.note.new.calls c.add_call-put.new.list
             c.add_call-put.result.count c.args.answers.now c.args.m = let s = (let stays_put : Stays c.args.job.most c.args.calls.now c.args.list.now c.args.answers.now c.add_call-put.new.calls c.add_call-put.new.list c.add_call-put.result.count
             c.args.answers.now c.args.m = let x = c.add_call-put.ensures in
             record {
@@ -341,7 +341,7 @@ returns c =
               kept = noted_kept a (omega (arith, (let row_in : c.add_call-put.result.full ≡ false → c.add_call-put.result.row < c.add_call-put.result.count = (λ f. put_inside c.add_call-put.ensures.call_put f) in row_in) c.if-put.false)) s.kept;
               indexed = noted_indexed a s.indexed;
               uses_more = uses_trans s.uses_more (c.note.ensures.by_index c.add_call-put.new.list).grew;
-            } in stays-noted) in
+            } in stays_noted) in
             let a = c.mark.ensures.marks_alone in
             record {
               calls_long = a.long ∙ s.calls_long;
@@ -350,7 +350,7 @@ returns c =
               kept = marked_kept a (omega (arith, (let row_in : c.add_call-put.result.full ≡ false → c.add_call-put.result.row < c.add_call-put.result.count = (λ f. put_inside c.add_call-put.ensures.call_put f) in row_in) c.if-put.false)) s.kept;
               indexed = marked_indexed a s.indexed;
               uses_more = uses_trans s.uses_more (uses_same (marked_uses a c.add_call-put.new.list));
-            } in stays-marked),
+            } in stays_marked),
         refl,
       );
       stepped = λ bodies roots b begun body h e z d T. (
@@ -359,9 +359,9 @@ returns c =
             → Turning bodies (Among roots) b c.args.job.known c.args.job.rule c.args.job.row c.args.job.walk (past_of c.args.job begun) body
             (in_words c.args.calls.now c.args.n c.args.answers.now c.args.m) (mark_words c.args.calls.now) (uses_in c.args.calls.now c.args.list.now) c.args.chosen.now c.args.at (spot_of c.args.spot)
             → Facing bodies (Among roots) b c.args.job.known c.args.job.rule c.args.job.row c.args.job.walk (past_of c.args.job begun) body
-            c.note.new.calls c.add_call-put.new.list c.add_call-put.result.count c.args.answers.now c.args.m c.args.chosen.now c.args.at (spot_of c.args.spot) c.add_call-put.result.row = (λ bodies roots b begun body h e z T. faced bodies (Among roots) b c.args.job.known c.args.job.rule c.args.job.row c.args.job.walk (past_of c.args.job begun) body T h e ((let put-at : (a : ℕ) → a ≡ c.args.step
+            c.note.new.calls c.add_call-put.new.list c.add_call-put.result.count c.args.answers.now c.args.m c.args.chosen.now c.args.at (spot_of c.args.spot) c.add_call-put.result.row = (λ bodies roots b begun body h e z T. faced bodies (Among roots) b c.args.job.known c.args.job.rule c.args.job.row c.args.job.walk (past_of c.args.job begun) body T h e ((let put_at : (a : ℕ) → a ≡ c.args.step
             → CallPut (room call_width (length c.args.calls.now)) (open_calls c.args.calls.now c.args.n) (a % 256)
-            c.args.spot.state.0 c.args.job.round (open_calls c.add_call-put.new.calls c.add_call-put.result.count) c.add_call-put.result.row c.add_call-put.result.full = (λ a z. rw (z, ← c.index.ensures) c.add_call-put.ensures.call_put) in put-at) _ z) c.if-put.false
+            c.args.spot.state.0 c.args.job.round (open_calls c.add_call-put.new.calls c.add_call-put.result.count) c.add_call-put.result.row c.add_call-put.result.full = (λ a z. rw (z, ← c.index.ensures) c.add_call-put.ensures.call_put) in put_at) _ z) c.if-put.false
             c.add_call-put.ensures.calls_kept c.note.ensures.uses_alone (c.note.ensures.by_index c.add_call-put.new.list)) in facing) bodies roots b begun body h e z T) c.mark.ensures.marks_alone c.mark.ensures.calls_after ((let row_small : c.add_call-put.result.full ≡ false → c.add_call-put.result.row < 65536 = (λ f. omega (arith, c.add_call-put.ensures.calls_open.0.stored.most, (let row_in : c.add_call-put.result.full ≡ false → c.add_call-put.result.row < c.add_call-put.result.count = (λ f. put_inside c.add_call-put.ensures.call_put f) in row_in) f)) in row_small) c.if-put.false) (rw c.if-is_marked.false at c.is_marked.ensures)
             ((let first_below : c.first_of-first.result < c.args.job.known = omega (arith, c.first_of-first.ensures.0, c.if-first-job.false) in first_below)) (c.first_of-first.ensures.1 begun body d)),
         left_on j.known c.args.chosen.now (set c.args.chosen.now at first) at at (λ q l. get_or-set_other c.args.chosen.now at q first 0 (omega arith)) c.requires.3 refl,

@@ -10,10 +10,10 @@ returns-then-after-eq0 c =
     record { j = r.result.answer; row = rw c.if-after-eq0.true at r.ensures; taken = λ p e. absurd (omega arith) }
 
 pub final_of-requires : goal.final_of-requires
-final_of-requires c = let (m, l, f, x) = c.requires.by_index in omega (arith, (let answer-below : c.retreat-back.result.answer < c.args.known = let r = c.retreat-back in let e : r.result.at ≡ (r.result.at - 1) + 1 = omega arith in (r.ensures.found (r.result.at - 1) e).1 in answer-below), l, f.fits, f.small, f.long)
+final_of-requires c = let (m, l, f, x) = c.requires.by_index in omega (arith, (let answer_below : c.retreat-back.result.answer < c.args.known = let r = c.retreat-back in let e : r.result.at ≡ (r.result.at - 1) + 1 = omega arith in (r.ensures.found (r.result.at - 1) e).1 in answer_below), l, f.fits, f.small, f.long)
 
 pub overflow_add-result : goal.overflow_add-result
-overflow_add-result c = let (m, l, f, x) = c.requires.by_index in omega (arith, (let answer-below : c.retreat-back.result.answer < c.args.known = let r = c.retreat-back in let e : r.result.at ≡ (r.result.at - 1) + 1 = omega arith in (r.ensures.found (r.result.at - 1) e).1 in answer-below), l, f.fits, f.small, f.long)
+overflow_add-result c = let (m, l, f, x) = c.requires.by_index in omega (arith, (let answer_below : c.retreat-back.result.answer < c.args.known = let r = c.retreat-back in let e : r.result.at ≡ (r.result.at - 1) + 1 = omega arith in (r.ensures.found (r.result.at - 1) e).1 in answer_below), l, f.fits, f.small, f.long)
 
 pub returns : goal.returns
 returns c =

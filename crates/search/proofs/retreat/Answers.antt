@@ -29,7 +29,7 @@ pub bounds-chosen-place : goal.bounds-chosen-place
 bounds-chosen-place c = omega (arith, c.requires.at_in_bounds.1)
 
 pub later_answer-later-requires : goal.later_answer-later-requires
-later_answer-later-requires c = record { x_lt_known = (let chosen-below : get_or c.args.chosen.now (c.loop-place.place - 1) 0 < c.args.known = c.requires.at_in_bounds.2 (c.loop-place.place - 1) (omega arith) ((let a_call : is_call (get_or c.args.body.now (c.loop-place.place - 1) 0) ≡ true = sym c.is_call.ensures ∙ c.if-is_call.true in a_call)) in chosen-below); by_index = c.requires.by_index }
+later_answer-later-requires c = record { x_lt_known = (let chosen_below : get_or c.args.chosen.now (c.loop-place.place - 1) 0 < c.args.known = c.requires.at_in_bounds.2 (c.loop-place.place - 1) (omega arith) ((let a_call : is_call (get_or c.args.body.now (c.loop-place.place - 1) 0) ≡ true = sym c.is_call.ensures ∙ c.if-is_call.true in a_call)) in chosen_below); by_index = c.requires.by_index }
 
 pub overflow_add-result : goal.overflow_add-result
 overflow_add-result c = omega (arith, c.requires.at_in_bounds.1)

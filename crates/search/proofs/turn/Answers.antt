@@ -47,7 +47,7 @@ advance-a-requires c =
         omega (arith, T.given.row_in, T.grew.calls_more),
         c.requires.kept.2,
       );
-      q_bound = (let chosen-fits : length c.args.rest.now ≡ 0 → (q : ℕ) → q < 16 → get_or c.args.chosen.now q 0 < 65536 = (λ e q l. let a = c.args in
+      q_bound = (let chosen_fits : length c.args.rest.now ≡ 0 → (q : ℕ) → q < 16 → get_or c.args.chosen.now q 0 < 65536 = (λ e q l. let a = c.args in
           let j = a.job in
           let few : j.known ≤ 65536 = omega (
             arith,
@@ -58,7 +58,7 @@ advance-a-requires c =
             c.requires.kept.0.answers_open.long,
           ) in
           chosen_small c.requires.by_index.0 (Among c.requires.by_index.1) c.requires.by_index.2 j.known j.rule j.row j.walk (past_of j c.requires.by_index.3) a.body.now a.calls.now a.list.now a.n a.answers.now a.m ((let going : Going c.requires.by_index.0 (Among c.requires.by_index.1) c.requires.by_index.2 c.args.job.known c.args.job.rule c.args.job.row c.args.job.walk (past_of c.args.job c.requires.by_index.3) c.args.body.now
-          (in_words c.args.calls.now c.args.n c.args.answers.now c.args.m) (mark_words c.args.calls.now) (uses_in c.args.calls.now c.args.list.now) c.args.chosen.now c.args.rest.now (spot_of c.args.spot) = c.requires.by_index.4 in going)).turning (omega arith) few q) in chosen-fits);
+          (in_words c.args.calls.now c.args.n c.args.answers.now c.args.m) (mark_words c.args.calls.now) (uses_in c.args.calls.now c.args.list.now) c.args.chosen.now c.args.rest.now (spot_of c.args.spot) = c.requires.by_index.4 in going)).turning (omega arith) few q) in chosen_fits);
     }
 
 pub go_back-back-requires : goal.go_back-back-requires

@@ -13,8 +13,8 @@ use Rattle.balancing.proofs.Parts.{filled_aside}
 use Rattle.balancing.proofs.aside.fill_aside.Goals as goal
 
 -- the parts that are lent
-places-in : (calls : List ℕ) (k : ℕ) → k ≡ call_room calls → k ≤ length calls
-places-in calls k e = omega (arith, e)
+places_in : (calls : List ℕ) (k : ℕ) → k ≡ call_room calls → k ≤ length calls
+places_in calls k e = omega (arith, e)
 
 free_in : (answers : List ℕ) (k : ℕ) → k ≡ answer_room answers → freed_words * k ≤ length answers
 free_in answers k e = omega (arith, e)
@@ -23,7 +23,7 @@ pub slice_bounds-fill_rows-end-2 : goal.slice_bounds-fill_rows-end-2
 slice_bounds-fill_rows-end-2 c =
     let calls = c.args.calls.now in
     let r = c.room_of-places in
-    sym (length-take-le r.result calls (places-in calls r.result r.ensures))
+    sym (length-take-le r.result calls (places_in calls r.result r.ensures))
 
 pub slice_bounds-fill_rows-end-4 : goal.slice_bounds-fill_rows-end-4
 slice_bounds-fill_rows-end-4 c =
@@ -39,7 +39,7 @@ fill_rows-requires c =
     let s = c.room_of-most in record {
       accepted = c.requires.accepted;
       calls_in_bounds = (
-        omega (arith, c.requires.rows_len, r.ensures, length-take-le r.result calls (places-in calls r.result r.ensures)),
+        omega (arith, c.requires.rows_len, r.ensures, length-take-le r.result calls (places_in calls r.result r.ensures)),
         omega (arith, s.ensures),
         omega (arith, length-take-le (freed_words * s.result) answers (free_in answers s.result s.ensures)),
       );

@@ -13,20 +13,20 @@ use Rattle.panel.proofs.Fits.{fitting_accepted, first_read, second_read, settled
 use Rattle.panel.proofs.leaving.settle_kept.Goals as goal
 
 pub slice_bounds-first-end : goal.slice_bounds-first-end
-slice_bounds-first-end c = omega (arith, (let first-few : c.goal_into-n.result ≤ 16 = (first_read ((let fits : Fitting c.requires.by_index.0 c.requires.by_index.1 c.args.rules.now c.args.kept.now c.args.calls.now c.args.answers.now = c.requires.by_index.2 in fits)) c.goal_into-n.ensures).0 in first-few), c.goal_into-n.ensures.long)
+slice_bounds-first-end c = omega (arith, (let first_few : c.goal_into-n.result ≤ 16 = (first_read ((let fits : Fitting c.requires.by_index.0 c.requires.by_index.1 c.args.rules.now c.args.kept.now c.args.calls.now c.args.answers.now = c.requires.by_index.2 in fits)) c.goal_into-n.ensures).0 in first_few), c.goal_into-n.ensures.long)
 
 pub slice_bounds-settle-end : goal.slice_bounds-settle-end
-slice_bounds-settle-end c = sym (length-take-le _ _ (omega (arith, (let first-few : c.goal_into-n.result ≤ 16 = (first_read ((let fits : Fitting c.requires.by_index.0 c.requires.by_index.1 c.args.rules.now c.args.kept.now c.args.calls.now c.args.answers.now = c.requires.by_index.2 in fits)) c.goal_into-n.ensures).0 in first-few), c.goal_into-n.ensures.long)))
+slice_bounds-settle-end c = sym (length-take-le _ _ (omega (arith, (let first_few : c.goal_into-n.result ≤ 16 = (first_read ((let fits : Fitting c.requires.by_index.0 c.requires.by_index.1 c.args.rules.now c.args.kept.now c.args.calls.now c.args.answers.now = c.requires.by_index.2 in fits)) c.goal_into-n.ensures).0 in first_few), c.goal_into-n.ensures.long)))
 
 pub slice_bounds-second-end : goal.slice_bounds-second-end
-slice_bounds-second-end c = omega (arith, (let second-few : c.goal_into-m.result ≤ 16 = (second_read ((let fits : Fitting c.requires.by_index.0 c.requires.by_index.1 c.args.rules.now c.args.kept.now c.args.calls.now c.args.answers.now = c.requires.by_index.2 in fits)) c.goal_into-m.ensures).0 in second-few), c.goal_into-m.ensures.long)
+slice_bounds-second-end c = omega (arith, (let second_few : c.goal_into-m.result ≤ 16 = (second_read ((let fits : Fitting c.requires.by_index.0 c.requires.by_index.1 c.args.rules.now c.args.kept.now c.args.calls.now c.args.answers.now = c.requires.by_index.2 in fits)) c.goal_into-m.ensures).0 in second_few), c.goal_into-m.ensures.long)
 
 pub slice_bounds-settle-end-2 : goal.slice_bounds-settle-end-2
-slice_bounds-settle-end-2 c = sym (length-take-le _ _ (omega (arith, (let second-few : c.goal_into-m.result ≤ 16 = (second_read ((let fits : Fitting c.requires.by_index.0 c.requires.by_index.1 c.args.rules.now c.args.kept.now c.args.calls.now c.args.answers.now = c.requires.by_index.2 in fits)) c.goal_into-m.ensures).0 in second-few), c.goal_into-m.ensures.long)))
+slice_bounds-settle-end-2 c = sym (length-take-le _ _ (omega (arith, (let second_few : c.goal_into-m.result ≤ 16 = (second_read ((let fits : Fitting c.requires.by_index.0 c.requires.by_index.1 c.args.rules.now c.args.kept.now c.args.calls.now c.args.answers.now = c.requires.by_index.2 in fits)) c.goal_into-m.ensures).0 in second_few), c.goal_into-m.ensures.long)))
 
 pub settle-requires : goal.settle-requires
 unfolding account_of
-settle-requires c = record { accepted = (c.requires.by_index.0, c.requires.by_index.1, (let first_accepted : AcceptedWords c.requires.by_index.0 c.requires.by_index.1 c.args.rules.now (take c.goal_into-n.result c.goal_into-n.new.goal) = subst (AcceptedWords c.requires.by_index.0 c.requires.by_index.1 c.args.rules.now) (sym ((let first_is : take c.goal_into-n.result c.goal_into-n.new.goal ≡ (ledger_of c.args.kept.now).first.goal = (first_read ((let fits : Fitting c.requires.by_index.0 c.requires.by_index.1 c.args.rules.now c.args.kept.now c.args.calls.now c.args.answers.now = c.requires.by_index.2 in fits)) c.goal_into-n.ensures).1 in first_is))) (fitting_accepted ((let fits : Fitting c.requires.by_index.0 c.requires.by_index.1 c.args.rules.now c.args.kept.now c.args.calls.now c.args.answers.now = c.requires.by_index.2 in fits)) first) in first_accepted), (let second-accepted : AcceptedWords c.requires.by_index.0 c.requires.by_index.1 c.args.rules.now (take c.goal_into-m.result c.goal_into-m.new.goal) = subst (AcceptedWords c.requires.by_index.0 c.requires.by_index.1 c.args.rules.now) (sym ((let second_is : take c.goal_into-m.result c.goal_into-m.new.goal ≡ (ledger_of c.args.kept.now).second.goal = (second_read ((let fits : Fitting c.requires.by_index.0 c.requires.by_index.1 c.args.rules.now c.args.kept.now c.args.calls.now c.args.answers.now = c.requires.by_index.2 in fits)) c.goal_into-m.ensures).1 in second_is))) (fitting_accepted ((let fits : Fitting c.requires.by_index.0 c.requires.by_index.1 c.args.rules.now c.args.kept.now c.args.calls.now c.args.answers.now = c.requires.by_index.2 in fits)) second) in second-accepted)); rows_len = (c.requires.rows_len, omega (arith, c.room_of-most.ensures), omega (arith, c.room_of-most.ensures)) }
+settle-requires c = record { accepted = (c.requires.by_index.0, c.requires.by_index.1, (let first_accepted : AcceptedWords c.requires.by_index.0 c.requires.by_index.1 c.args.rules.now (take c.goal_into-n.result c.goal_into-n.new.goal) = subst (AcceptedWords c.requires.by_index.0 c.requires.by_index.1 c.args.rules.now) (sym ((let first_is : take c.goal_into-n.result c.goal_into-n.new.goal ≡ (ledger_of c.args.kept.now).first.goal = (first_read ((let fits : Fitting c.requires.by_index.0 c.requires.by_index.1 c.args.rules.now c.args.kept.now c.args.calls.now c.args.answers.now = c.requires.by_index.2 in fits)) c.goal_into-n.ensures).1 in first_is))) (fitting_accepted ((let fits : Fitting c.requires.by_index.0 c.requires.by_index.1 c.args.rules.now c.args.kept.now c.args.calls.now c.args.answers.now = c.requires.by_index.2 in fits)) first) in first_accepted), (let second_accepted : AcceptedWords c.requires.by_index.0 c.requires.by_index.1 c.args.rules.now (take c.goal_into-m.result c.goal_into-m.new.goal) = subst (AcceptedWords c.requires.by_index.0 c.requires.by_index.1 c.args.rules.now) (sym ((let second_is : take c.goal_into-m.result c.goal_into-m.new.goal ≡ (ledger_of c.args.kept.now).second.goal = (second_read ((let fits : Fitting c.requires.by_index.0 c.requires.by_index.1 c.args.rules.now c.args.kept.now c.args.calls.now c.args.answers.now = c.requires.by_index.2 in fits)) c.goal_into-m.ensures).1 in second_is))) (fitting_accepted ((let fits : Fitting c.requires.by_index.0 c.requires.by_index.1 c.args.rules.now c.args.kept.now c.args.calls.now c.args.answers.now = c.requires.by_index.2 in fits)) second) in second_accepted)); rows_len = (c.requires.rows_len, omega (arith, c.room_of-most.ensures), omega (arith, c.room_of-most.ensures)) }
 
 pub returns : goal.returns
 returns c =

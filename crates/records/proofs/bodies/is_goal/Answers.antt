@@ -6,11 +6,11 @@ use Rattle.steps.specs.Run.{Goal}
 use Rattle.records.specs.Bodies.{second_goal, is_goal}
 use Rattle.records.proofs.bodies.is_goal.Goals as goal
 
-under-second : (f s : Bool) → s ≡ is_goal f s second_goal
-under-second true true = refl
-under-second true false = refl
-under-second false true = refl
-under-second false false = refl
+under_second : (f s : Bool) → s ≡ is_goal f s second_goal
+under_second true true = refl
+under_second true false = refl
+under_second false true = refl
+under_second false false = refl
 
 under_first : (f s : Bool) → f ≡ is_goal f s Goal
 under_first true true = refl
@@ -19,7 +19,7 @@ under_first false true = refl
 under_first false false = refl
 
 pub returns-then-action-eq-SECOND_GOAL : goal.returns-then-action-eq-SECOND_GOAL
-returns-then-action-eq-SECOND_GOAL c = rw c.if-action-eq-SECOND_GOAL.true (under-second c.args.goals.first c.args.goals.second)
+returns-then-action-eq-SECOND_GOAL c = rw c.if-action-eq-SECOND_GOAL.true (under_second c.args.goals.first c.args.goals.second)
 
 pub returns-then-action-eq-GOAL : goal.returns-then-action-eq-GOAL
 returns-then-action-eq-GOAL c = rw c.if-action-eq-GOAL.true (under_first c.args.goals.first c.args.goals.second)
