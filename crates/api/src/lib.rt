@@ -17,16 +17,14 @@ ghost use Rattle.report.specs.Report.{refusal, output_after};
 ghost use Rattle.marking.specs.Marking.{question, RecordMarked};
 
 // The version, as a host compares it with its header's: 10,000 times the first number, 100 times the second and the third.
-#[unsafe(no_mangle)]
-pub extern "C" fn lawhemuri_version() -> u64
+pub fn lawhemuri_version() -> u64
     ensures { result ≡ 200 }
 {
     200
 }
 
 // Reads a sheet: the rule words of an accepted one go to `rules`, which is unchanged past them and by a refusal.
-#[unsafe(no_mangle)]
-pub extern "C" fn lawhemuri_read(sheet: &[u8], rules: &mut [u16]) -> sheet::Sheet
+pub fn lawhemuri_read(sheet: &[u8], rules: &mut [u16]) -> sheet::Sheet
     ensures value { result ≡ result_of (length rules.old) (read_sheet sheet.now) }
     ensures rules_after { rules.new ≡ rules_after rules.old (read_sheet sheet.now) }
 {
@@ -34,16 +32,14 @@ pub extern "C" fn lawhemuri_read(sheet: &[u8], rules: &mut [u16]) -> sheet::Shee
 }
 
 // Where a fluent's name stands in the sheet; nothing at 0 for a refused sheet or a number too high.
-#[unsafe(no_mangle)]
-pub extern "C" fn lawhemuri_fluent_name(sheet: &[u8], fluent: u64) -> naming::Span
+pub fn lawhemuri_fluent_name(sheet: &[u8], fluent: u64) -> naming::Span
     ensures { result ≡ name_span sheet.now fluent }
 {
     sheet::fluent_span(sheet, fluent)
 }
 
 // Writes an accepted sheet's one fixed text to `text`, which is unchanged past it and by a refusal.
-#[unsafe(no_mangle)]
-pub extern "C" fn lawhemuri_write(sheet: &[u8], text: &mut [u8]) -> writer::Written
+pub fn lawhemuri_write(sheet: &[u8], text: &mut [u8]) -> writer::Written
     ensures value { result ≡ written_in (length text.old) (read_sheet sheet.now) }
     ensures text_after { text.new ≡ out_after text.old (read_sheet sheet.now) }
 {
@@ -51,12 +47,7 @@ pub extern "C" fn lawhemuri_write(sheet: &[u8], text: &mut [u8]) -> writer::Writ
 }
 
 // Writes the one fixed text of two accepted sheets merged to `text`, which is unchanged past it and by a refusal.
-#[unsafe(no_mangle)]
-pub extern "C" fn lawhemuri_merge<'a>(
-    first: &'a [u8],
-    second: &'a [u8],
-    text: &mut [u8],
-) -> merge::Merged
+pub fn lawhemuri_merge<'a>(first: &'a [u8], second: &'a [u8], text: &mut [u8]) -> merge::Merged
     ensures value { result ≡ merged.merged_in (length text.old) (merged.merge_of first.now second.now) }
     ensures text_after { text.new ≡ merged.out_after text.old (merged.merge_of first.now second.now) }
 {
@@ -64,12 +55,7 @@ pub extern "C" fn lawhemuri_merge<'a>(
 }
 
 // Where a merged fluent's name stands, in whichever sheet brought it first; nothing for a merge refused other than with 50 or a number too high.
-#[unsafe(no_mangle)]
-pub extern "C" fn lawhemuri_merged_fluent<'a>(
-    first: &'a [u8],
-    second: &'a [u8],
-    fluent: u64,
-) -> origin::Part
+pub fn lawhemuri_merged_fluent<'a>(first: &'a [u8], second: &'a [u8], fluent: u64) -> origin::Part
     ensures { result ≡ merged_span first.now second.now fluent }
 {
     origin::merged_span(first, second, fluent)
@@ -77,8 +63,7 @@ pub extern "C" fn lawhemuri_merged_fluent<'a>(
 
 // Evaluates the goal from the start: fills the tables with its calls and answers, lists its ends in rising order in `ends`, and the
 // numbers of its call records, by action and then state, in `list`.
-#[unsafe(no_mangle)]
-pub extern "C" fn lawhemuri_evaluate<'a>(
+pub fn lawhemuri_evaluate<'a>(
     fluents: u64,
     actions: u64,
     rules: &'a [u16],
@@ -100,8 +85,7 @@ pub extern "C" fn lawhemuri_evaluate<'a>(
 }
 
 // Runs the goal from each start in turn, with the same tables, one list of ends and one list of calls: four words for each start go to `results`.
-#[unsafe(no_mangle)]
-pub extern "C" fn lawhemuri_class<'a>(
+pub fn lawhemuri_class<'a>(
     fluents: u64,
     actions: u64,
     rules: &'a [u16],
@@ -124,8 +108,7 @@ pub extern "C" fn lawhemuri_class<'a>(
 
 // Lists the path of an answer record, which may come from anybody: the states come first in the list, which is unchanged past them and by a
 // refusal.
-#[unsafe(no_mangle)]
-pub extern "C" fn lawhemuri_path<'a>(
+pub fn lawhemuri_path<'a>(
     fluents: u64,
     actions: u64,
     rules: &'a [u16],
@@ -156,8 +139,7 @@ pub extern "C" fn lawhemuri_path<'a>(
 }
 
 // Finds the record of a call by the list of call record numbers; table and list may come from anybody, and nothing is written.
-#[unsafe(no_mangle)]
-pub extern "C" fn lawhemuri_lookup(
+pub fn lawhemuri_lookup(
     calls: &[u64],
     count: u64,
     list: &[u64],
@@ -170,20 +152,14 @@ pub extern "C" fn lawhemuri_lookup(
 }
 
 // Stores states by fluent. The words come first in `words`, which is unchanged past them and by a refusal.
-#[unsafe(no_mangle)]
-pub extern "C" fn lawhemuri_store(
-    fluents: u64,
-    states: &[u64],
-    words: &mut [u64],
-) -> archive::Archived
+pub fn lawhemuri_store(fluents: u64, states: &[u64], words: &mut [u64]) -> archive::Archived
     ensures { StatesStored fluents states.now words.old result.refusal result.count words.new }
 {
     archive::store(fluents, states, words)
 }
 
 // Restores `count` states. They come first in `states`, which is unchanged past them and by a refusal.
-#[unsafe(no_mangle)]
-pub extern "C" fn lawhemuri_restore(
+pub fn lawhemuri_restore(
     fluents: u64,
     count: u64,
     words: &[u64],
@@ -195,13 +171,7 @@ pub extern "C" fn lawhemuri_restore(
 }
 
 // Gives the refusal, or 0. The figures of a class run, two words each, come first in `out`, which is unchanged past them and by a refusal.
-#[unsafe(no_mangle)]
-pub extern "C" fn lawhemuri_report(
-    fluents: u64,
-    results: &[u64],
-    ends: &[u64],
-    out: &mut [u64],
-) -> u64
+pub fn lawhemuri_report(fluents: u64, results: &[u64], ends: &[u64], out: &mut [u64]) -> u64
     ensures value { result ≡ refusal fluents results.now ends.now (length out.old) }
     ensures out_after { out.new ≡ output_after fluents results.now ends.now out.old }
 {
@@ -210,8 +180,7 @@ pub extern "C" fn lawhemuri_report(
 
 // Marks a trainee's record: whether some complete deduction of the goal from the start carries out just the recorded steps, in order. The first
 // 4,096 words of `table` say the same of every action and any part of the record; it is unchanged past them and by a refusal.
-#[unsafe(no_mangle)]
-pub extern "C" fn lawhemuri_mark(
+pub fn lawhemuri_mark(
     fluents: u64,
     actions: u64,
     rules: &[u16],

@@ -10,8 +10,7 @@ ghost use Rattle.panel.specs.Reply as run;
 
 // Opens one pair of tables for two parties, with a limit of calls and of answers for each: both are emptied, and the words kept from then on are
 // given. 90 changes nothing.
-#[unsafe(no_mangle)]
-pub extern "C" fn lawhemuri_open(
+pub fn lawhemuri_open(
     first_calls: u64,
     first_answers: u64,
     second_calls: u64,
@@ -34,8 +33,7 @@ pub extern "C" fn lawhemuri_open(
 
 // Runs the goal of the second party, or else of the first, from the start: both tables hold the rows of both parties then, its ends stand in rising
 // order in `ends`, and the words kept from then on are given.
-#[unsafe(no_mangle)]
-pub extern "C" fn lawhemuri_share<'a>(
+pub fn lawhemuri_share<'a>(
     second: bool,
     fluents: u64,
     actions: u64,
@@ -59,8 +57,7 @@ pub extern "C" fn lawhemuri_share<'a>(
 
 // Lists the path of an answer record of tables that two parties share, and that may come from anybody: the states come first in the list, which is
 // unchanged past them and by a refusal.
-#[unsafe(no_mangle)]
-pub extern "C" fn lawhemuri_share_path<'a>(
+pub fn lawhemuri_share_path<'a>(
     fluents: u64,
     actions: u64,
     rules: &'a [u16],
