@@ -5,8 +5,10 @@ use native.Mathlib.Decide.{dec_lt, ℕ_discrete}
 use mathlib.Core.Path.{◌≡◌, refl, sym, ap, ◌∙◌}
 use mathlib.Core.Bool.{Bool, true, false, ◌||◌}
 use mathlib.Core.List.{List, [], ◌∷◌, ◌++◌}
-use lib.ListN.{length, get_or, set, length-set, length-append, get_or-append}
-use lib.Seq.{get_or-set_same, get_or-set_other, get_or-append-add, ext_get_or}
+use lib.ListN.{length, get_or, take, drop, set, replicate}
+use lib.Seq.{take-append_seam, drop-append_seam}
+use Rattle.std.proofs.lemmas.List.{set-append_right}
+use borrow.Rule.Slice.PartMut.{put_mid}
 use lib.Dec.{ltb}
 use borrow.Author.Count.{below_none, below_more}
 use borrow.Author.Tests.{lt-ltb, le-ltb, ltb-false, eq-eqb}
@@ -49,80 +51,21 @@ module _ (words : List ℕ) (long : length words ≡ ledger_width) where
 
 -- ---- two accounts and the counts joined
 
--- The first i words of both are written.
-pub record Joining (own other : List ℕ) (i : ℕ) (words : List ℕ) : Type 0 where
-  pub long : length words ≡ ledger_width
-  pub first_done : (k : ℕ) → k < i → get_or words k 0 ≡ get_or own k 0
-  pub second_done : (k : ℕ) → k < i → get_or words (21 + k) 0 ≡ get_or other k 0
+-- The accounts written into 44 words of 0, one behind the other, and then the counts.
+pub joined : (own other : List ℕ) (n m : ℕ) → length own ≡ account_width → length other ≡ account_width
+    → set (set (put_mid 21 21 (own ++ replicate 23 0) other) 42 n) 43 m ≡ own ++ (other ++ (n ∷ m ∷ []))
+joined own other n m e f =
+    let front : take 21 (own ++ replicate 23 0) ≡ own = rw e at (take-append_seam own (replicate 23 0)) in
+    let back : drop 21 (own ++ replicate 23 0) ≡ replicate 23 0 = rw e at (drop-append_seam own (replicate 23 0)) in
+    rw (
+      front,
+      back,
+      set-append_right own (other ++ (0 ∷ 0 ∷ [])) 21 42 n e (omega arith),
+      set-append_right other (0 ∷ 0 ∷ []) 21 21 n f (omega arith),
+      set-append_right own (other ++ (n ∷ 0 ∷ [])) 21 43 m e (omega arith),
+      set-append_right other (n ∷ 0 ∷ []) 21 22 m f (omega arith),
+    ) refl
 
-pub joined_none : (own other words : List ℕ) → length words ≡ ledger_width → Joining own other 0 words
-joined_none own other words e = record { long = e; first_done = below_none _; second_done = below_none _ }
-
-pub joined_more : {own other words : List ℕ} {i : ℕ} → Joining own other i words → i < 21
-    → Joining own other (i + 1) (set (set words i (get_or own i 0)) (21 + i) (get_or other i 0))
-joined_more {own} {other} {words} {i} j l =
-    let v = get_or own i 0 in
-    let w = get_or other i 0 in
-    let here : List ℕ = set words i v in
-    let fits : 21 + i < length here = omega (arith, j.long, length-set words i v) in
-    record {
-      long = length-set here (21 + i) w ∙ length-set words i v ∙ j.long;
-      first_done = below_more _ i
-          (λ k h. get_or-set_other here (21 + i) k w 0 (omega arith) ∙ get_or-set_other words i k v 0 (omega arith) ∙ j.first_done k h)
-          (get_or-set_other here (21 + i) i w 0 (omega arith) ∙ get_or-set_same words i v 0 (omega (arith, j.long)));
-      second_done = below_more _ i
-          (λ k h. get_or-set_other here (21 + i) (21 + k) w 0 (omega arith) ∙ get_or-set_other words i (21 + k) v 0 (omega arith) ∙ j.second_done k h)
-          (get_or-set_same here (21 + i) w 0 fits);
-    }
-
-module _ (own other words : List ℕ) (n m : ℕ) (own_long : length own ≡ account_width) (other_long : length other ≡ account_width) (j : Joining own other 21 words) where
-  abbrev ends : List ℕ
-  ends = set (set words 42 n) 43 m
-
-  apart : (i : ℕ) → i < 42 → get_or ends i 0 ≡ get_or words i 0
-  apart i l = get_or-set_other (set words 42 n) 43 i m 0 (omega arith) ∙ get_or-set_other words 42 i n 0 (omega arith)
-
-  abbrev tail : List ℕ
-  tail = other ++ (n ∷ m ∷ [])
-
-  in_tail : (i k : ℕ) → i ≡ 21 + k → k < 23 → get_or ends i 0 ≡ get_or tail k 0
-  in_tail i k e l = elim (dec_lt k 21) [
-    | yes h ↦ apart i (omega arith) ∙ ap (λ (x : ℕ). get_or words x 0) e ∙ j.second_done k h ∙ sym (get_or-append other (n ∷ m ∷ []) 0 k (omega arith))
-    | no h ↦ last (omega arith) (ℕ_discrete k 21)
-  ]
-    where
-      at_42 : get_or ends 42 0 ≡ n
-      at_42 = get_or-set_other (set words 42 n) 43 42 m 0 (omega arith) ∙ get_or-set_same words 42 n 0 (omega (arith, j.long))
-
-      at_43 : get_or ends 43 0 ≡ m
-      at_43 = get_or-set_same (set words 42 n) 43 m 0 (omega (arith, j.long, length-set words 42 n))
-
-      end_at : (x : ℕ) → get_or tail (length other + x) 0 ≡ get_or (n ∷ m ∷ []) x 0
-      end_at x = get_or-append-add other (n ∷ m ∷ []) x 0
-
-      place : (l : List ℕ) {p q : ℕ} → p ≡ q → get_or l p 0 ≡ get_or l q 0
-      place l e = ap (λ (x : ℕ). get_or l x 0) e
-
-      last : 21 ≤ k → Dec (k ≡ 21) → get_or ends i 0 ≡ get_or tail k 0
-      last g (yes h) = place ends {q = 42} (omega arith) ∙ at_42 ∙ sym (place tail {q = length other + 0} (omega arith) ∙ end_at 0)
-      last g (no h) = place ends {q = 43} (omega arith) ∙ at_43 ∙ sym (place tail {q = length other + 1} (omega arith) ∙ end_at 1)
-
-  pub joined_all : ends ≡ own ++ (other ++ (n ∷ m ∷ []))
-  joined_all = ext_get_or 0 ends (own ++ tail) same at
-    where
-      same : length ends ≡ length (own ++ tail)
-      same = omega (arith, length-set (set words 42 n) 43 m, length-set words 42 n, j.long, length-append own tail, length-append other (n ∷ m ∷ []))
-
-      later : (i k : ℕ) → i ≡ length own + k → k < 23 → get_or ends i 0 ≡ get_or (own ++ tail) i 0
-      later i k e l = in_tail i k (omega arith) l ∙ sym (ap (λ (x : ℕ). get_or (own ++ tail) x 0) e ∙ get_or-append-add own tail k 0)
-
-      at : (i : ℕ) → i < length ends → get_or ends i 0 ≡ get_or (own ++ tail) i 0
-      at i l = elim (dec_lt i 21) [
-        | yes h ↦ apart i (omega arith) ∙ j.first_done i h ∙ sym (get_or-append own tail 0 i (omega arith))
-        | no h ↦ later i (i - 21) (omega arith) (omega (arith, length-set (set words 42 n) 43 m, length-set words 42 n, j.long))
-      ]
-
--- With another account of one party.
 module _ (words : List ℕ) (long : length words ≡ ledger_width) (a : Account) (n m : ℕ) {x y : List ℕ} where
   pub entered_second : {b : Bool} → b ≡ true → x ≡ account_words (account_at words 0) → y ≡ account_words a
       → x ++ (y ++ (n ∷ m ∷ [])) ≡ ledger_words (entered (ledger_of words) (party_of b) a n m)

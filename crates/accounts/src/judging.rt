@@ -29,8 +29,7 @@ pub fn bad_goal(fluents: u64, actions: u64, kept: &[u64], at: usize) -> bool
     if 16 < count {
         return true;
     }
-    let mut i = 0;
-    while i < count {
+    for i in 0..count {
         let word = reading::step(kept, at, i);
         if 65535 < word {
             return true;
@@ -38,7 +37,6 @@ pub fn bad_goal(fluents: u64, actions: u64, kept: &[u64], at: usize) -> bool
         if !accept::good_step(fluents, actions, word as u16) {
             return true;
         }
-        i += 1;
     }
     false
 }
@@ -49,10 +47,7 @@ pub fn bad_account(fluents: u64, actions: u64, kept: &[u64], at: usize) -> bool
     ensures { result ≡ (bad_goal fluents actions (account_at kept.now at).goal
         || bad_state fluents (account_at kept.now at).start) }
 {
-    if bad_goal(fluents, actions, kept, at) {
-        return true;
-    }
-    accept::bad_state(fluents, reading::start(kept, at))
+    bad_goal(fluents, actions, kept, at) || accept::bad_state(fluents, reading::start(kept, at))
 }
 
 // Whether two limits add up to more than a room. They may be any words, and their sum none: so the first is taken from the room.
@@ -60,10 +55,7 @@ fn over(room: usize, first: u64, second: u64) -> bool
     ensures { result ≡ ltb room (first + second) }
 {
     let places = room as u64;
-    if places < first {
-        return true;
-    }
-    places - first < second
+    places < first || places - first < second
 }
 
 // Whether the limits of both parties add up to more than the room of a table: 90.
@@ -71,18 +63,9 @@ pub fn over_limits(first: Limits, second: Limits, calls: &[u64], answers: &[u64]
     ensures { result ≡ over_limits (opened first.calls first.answers second.calls second.answers)
         calls.now answers.now }
 {
-    if over(
-        tables::room_of(calls.len(), CALL_WORDS),
-        first.calls,
-        second.calls,
-    ) {
-        return true;
-    }
-    over(
-        tables::room_of(answers.len(), ANSWER_WORDS),
-        first.answers,
-        second.answers,
-    )
+    let call_room = tables::room_of(calls.len(), CALL_WORDS);
+    let answer_room = tables::room_of(answers.len(), ANSWER_WORDS);
+    over(call_room, first.calls, second.calls) || over(answer_room, first.answers, second.answers)
 }
 
 // Whether a count of records is over its room: 40.
@@ -90,10 +73,9 @@ pub fn over_rooms(kept: &[u64], calls: &[u64], answers: &[u64]) -> bool
     requires { length kept.now ≡ ledger_width }
     ensures { result ≡ over_rooms (ledger_of kept.now) calls.now answers.now }
 {
-    if (tables::room_of(calls.len(), CALL_WORDS) as u64) < kept[CALLS] {
-        return true;
-    }
-    (tables::room_of(answers.len(), ANSWER_WORDS) as u64) < kept[ANSWERS]
+    let call_room = tables::room_of(calls.len(), CALL_WORDS) as u64;
+    let answer_room = tables::room_of(answers.len(), ANSWER_WORDS) as u64;
+    call_room < kept[CALLS] || answer_room < kept[ANSWERS]
 }
 
 // Whether what is kept is not 44 words or meets 23, 24, 40 or 90 with tables of these lengths.

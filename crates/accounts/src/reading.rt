@@ -50,10 +50,7 @@ pub fn start(kept: &[u64], at: usize) -> u64
     requires { at + 22 ≤ length kept.now }
     ensures { result ≡ (account_at kept.now at).start }
 {
-    if holds(kept, at) {
-        return kept[at + 3];
-    }
-    0
+    if holds(kept, at) { kept[at + 3] } else { 0 }
 }
 
 // The count of steps of the goal that it holds rows for, or a number over 16 where they are more; 0 where it holds none.
@@ -62,9 +59,10 @@ pub fn steps(kept: &[u64], at: usize) -> usize
     ensures { StepCount (account_at kept.now at).goal result }
 {
     if holds(kept, at) {
-        return kept[at + 4] as usize;
+        kept[at + 4] as usize
+    } else {
+        0
     }
-    0
 }
 
 // Word i of its goal.
@@ -87,14 +85,12 @@ pub fn goal_into(kept: &[u64], at: usize, goal: &mut [u16]) -> usize
     if MOST_STEPS < count {
         return NO_GOAL;
     }
-    let mut i = 0;
-    while i < count {
+    for i in 0..count {
         let word = step(kept, at, i);
         if MOST_WORD < word {
             return NO_GOAL;
         }
         goal[i] = word as u16;
-        i += 1;
     }
     count
 }

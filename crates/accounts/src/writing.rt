@@ -26,20 +26,14 @@ struct Entry {
 fn flag(holds: bool) -> u64
     ensures { result ≡ cond holds 1 0 }
 {
-    if holds {
-        return 1;
-    }
-    0
+    u64::from(holds)
 }
 
 // Where a party's account begins.
 pub fn place(second: bool) -> usize
     ensures { result ≡ place_of (party_of second) }
 {
-    if second {
-        return reading::SECOND;
-    }
-    0
+    if second { reading::SECOND } else { 0 }
 }
 
 // An account that holds no rows.
@@ -65,10 +59,8 @@ fn entry_at(kept: &[u64], at: usize) -> Entry
     words[2] = flag(reading::holds(kept, at));
     words[3] = reading::start(kept, at);
     words[4] = count as u64;
-    let mut i = 0;
-    while i < count {
+    for i in 0..count {
         words[5 + i] = reading::step(kept, at, i);
-        i += 1;
     }
     Entry { words: words }
 }
@@ -84,10 +76,8 @@ fn holding(limits: Limits, start: u64, goal: &[u16]) -> Entry
     words[2] = 1;
     words[3] = start;
     words[4] = goal.len() as u64;
-    let mut i = 0;
-    while i < goal.len() {
-        words[5 + i] = goal[i] as u64;
-        i += 1;
+    for (i, step) in goal.iter().enumerate() {
+        words[5 + i] = u64::from(*step);
     }
     Entry { words: words }
 }
@@ -97,15 +87,9 @@ fn ledger(first: Entry, second: Entry, calls: usize, answers: usize) -> Kept
     requires { (length first.words ≡ account_width) × (length second.words ≡ account_width) }
     ensures { result.words ≡ first.words ++ (second.words ++ (calls ∷ answers ∷ [])) }
 {
-    let own = first.words;
-    let other = second.words;
     let mut words = [0u64; 44];
-    let mut i = 0;
-    while i < 21 {
-        words[i] = own[i];
-        words[21 + i] = other[i];
-        i += 1;
-    }
+    words[..21].copy_from_slice(&first.words);
+    words[21..42].copy_from_slice(&second.words);
     words[42] = calls as u64;
     words[43] = answers as u64;
     Kept { words: words }
@@ -118,9 +102,10 @@ fn entered(kept: &[u64], second: bool, entry: Entry, calls: usize, answers: usiz
         → result.words ≡ ledger_words (entered (ledger_of kept.now) (party_of second) a calls answers) }
 {
     if second {
-        return ledger(entry_at(kept, 0), entry, calls, answers);
+        ledger(entry_at(kept, 0), entry, calls, answers)
+    } else {
+        ledger(entry, entry_at(kept, reading::SECOND), calls, answers)
     }
-    ledger(entry, entry_at(kept, reading::SECOND), calls, answers)
 }
 
 // What is kept after an opening.
@@ -163,11 +148,7 @@ fn copied(kept: &[u64]) -> Kept
     ensures { result.words ≡ kept.now }
 {
     let mut words = [0u64; 44];
-    let mut i = 0;
-    while i < 44 {
-        words[i] = kept[i];
-        i += 1;
-    }
+    words.copy_from_slice(kept);
     Kept { words: words }
 }
 
@@ -176,8 +157,8 @@ pub fn handed_back(kept: &[u64]) -> Kept
     ensures { result.words ≡ handed_back kept.now }
 {
     if kept.len() == reading::LEDGER_WORDS {
-        return copied(kept);
+        copied(kept)
+    } else {
+        Kept { words: [0u64; 44] }
     }
-    let words = [0u64; 44];
-    Kept { words: words }
 }

@@ -6,7 +6,7 @@
 // (crate `settling`).
 #![tactic(auto)]
 
-ghost use Rattle.std.specs.Prelude.{◌≡◌, ◌*◌, ◌≤◌, length};
+ghost use Rattle.std.specs.Prelude.{◌≡◌, true, false, ◌*◌, ◌≤◌, length, MatchResult};
 ghost use Rattle.steps.specs.Run.{Goal};
 ghost use Rattle.steps.specs.Words.{run_of};
 ghost use Rattle.records.specs.Records.{room, call_width, call_table};
@@ -19,27 +19,17 @@ ghost use Rattle.sharing.specs.Charged.{plain_call_width, plain_answer_width};
 ghost use Rattle.alone.specs.Alone.{RanAlone};
 
 use accounts::reading::Limits;
+use joint::Full;
 use records::bodies::Goals;
 use records::tables;
 use steps::state::Call;
 
-// Whether the run exceeds the limits, and else how many ends, calls and answers it has.
-#[derive(Clone, Copy)]
+// How many ends, calls and answers the run has.
+#[derive(Clone, Copy, Debug, PartialEq, Eq)]
 pub struct Lone {
-    pub full: bool,
     pub ends: u64,
     pub calls: usize,
     pub answers: usize,
-}
-
-impl Lone {
-    // A run that exceeds the limits.
-    const FULL: Lone = Lone {
-        full: true,
-        ends: 0,
-        calls: 0,
-        answers: 0,
-    };
 }
 
 // How many ends the goal has from the start, where the rounds are over. They are listed if the list has places for them, else it stays. The call
@@ -64,7 +54,7 @@ fn ends_of(
     finals::of_call(rows, n, Call::goal(start), answers, m, ends, free)
 }
 
-// Evaluates the goal from the start in places as many as the limits.
+// Evaluates the goal from the start in places as many as the limits, or finds these full.
 fn within<'a>(
     rules: &'a [u16],
     goal: &'a [u16],
@@ -74,14 +64,15 @@ fn within<'a>(
     calls: &mut [u64],
     answers: &mut [u64],
     ends: &mut [u64],
-) -> Lone
+) -> Result<Lone, Full>
     requires accepted { Accepted rules.now goal.now goal.now }
     requires rows_len { (length rows.old ≡ call_width * limits.calls) × (length calls.old ≡ limits.calls) × (limits.calls ≤ 65536) }
     requires answers_bound { limits.answers ≤ room plain_answer_width (length answers.old) }
     ensures rows_len_unchanged { (length rows.new ≡ length rows.old) × (length calls.new ≡ length calls.old)
         × (length answers.new ≡ length answers.old) }
-    ensures ran_alone { RanAlone (run_of rules.now goal.now start) (vacant limits.calls limits.answers) result.full
-        result.ends result.calls result.answers ends.old ends.new }
+    ensures ran_alone { MatchResult result
+        (λ r. RanAlone (run_of rules.now goal.now start) (vacant limits.calls limits.answers) false r.ends r.calls r.answers ends.old ends.new)
+        (λ r. RanAlone (run_of rules.now goal.now start) (vacant limits.calls limits.answers) true 0 0 0 ends.old ends.new) }
 {
     let most = limits.answers as usize;
     let filled = joint::fill_rows(
@@ -95,22 +86,18 @@ fn within<'a>(
         calls,
         answers,
         most,
-    );
+    )?;
     let n = filled.calls;
     let m = filled.answers;
-    if filled.full {
-        return Lone::FULL;
-    }
     let found = ends_of(start, rows, n, answers, m, most, ends);
-    Lone {
-        full: false,
+    Ok(Lone {
         ends: found,
         calls: n,
         answers: m,
-    }
+    })
 }
 
-// Evaluates the goal from the start: whether its run exceeds the limits, its counts, and its ends, listed if the list has places for them. The
+// Evaluates the goal from the start, unless its run exceeds the limits: its counts, and its ends, listed if the list has places for them. The
 // other slices may hold anything before and after.
 pub fn alone<'a>(
     rules: &'a [u16],
@@ -121,15 +108,16 @@ pub fn alone<'a>(
     calls: &mut [u64],
     answers: &mut [u64],
     ends: &mut [u64],
-) -> Lone
+) -> Result<Lone, Full>
     requires accepted { Accepted rules.now goal.now goal.now }
     requires rows_len { (length rows.old ≡ call_width * room plain_call_width (length calls.old))
         × (limits.calls ≤ room plain_call_width (length calls.old))
         × (limits.answers ≤ room plain_answer_width (length answers.old)) }
     ensures rows_len_unchanged { (length rows.new ≡ length rows.old) × (length calls.new ≡ length calls.old)
         × (length answers.new ≡ length answers.old) }
-    ensures ran_alone { RanAlone (run_of rules.now goal.now start) (vacant limits.calls limits.answers) result.full
-        result.ends result.calls result.answers ends.old ends.new }
+    ensures ran_alone { MatchResult result
+        (λ r. RanAlone (run_of rules.now goal.now start) (vacant limits.calls limits.answers) false r.ends r.calls r.answers ends.old ends.new)
+        (λ r. RanAlone (run_of rules.now goal.now start) (vacant limits.calls limits.answers) true 0 0 0 ends.old ends.new) }
 {
     let room = limits.calls as usize;
     let size = tables::CALL_WORDS * room;

@@ -1,5 +1,6 @@
 -- What `store` and `restore` give and leave, for every input. Assumes nothing.
-use Rattle.std.specs.Prelude.{ℕ, ◌+◌, ◌*◌, ◌/◌, ◌%◌, ◌^◌, ◌≡◌, Bool, cond, not, ◌&&◌, List, ◌++◌, length, drop, get_or, eqb, ltb}
+use Rattle.std.specs.Prelude.{ℕ, ◌+◌, ◌*◌, ◌/◌, ◌%◌, ◌^◌, ◌≡◌, Bool, cond, not, ◌&&◌, List, ◌++◌, length, drop, get_or, eqb, ltb, Result, Ok, Err}
+use Rattle.refusals.specs.declared.Refusal.{Refusal}
 use Rattle.refusals.specs.Run.{run_refusals}
 use Rattle.refusals.specs.Archive.{archive_refusals}
 use Rattle.steps.specs.State.{State}
@@ -53,6 +54,11 @@ pub record Archived (refusal : ℕ) (written out : List ℕ) (told count : ℕ) 
   pub refused : told ≡ refusal
   pub counted : count ≡ written_count refusal written
   pub output : left ≡ after refusal written out
+
+-- How many words or states an answer says are written; 0 where it is a refusal.
+abbrev pub count_in : Result ℕ Refusal → ℕ
+count_in (Ok count) = count
+count_in (Err refusal) = 0
 
 -- What `store` tells and leaves in `words`.
 abbrev pub StatesStored : ℕ → List State → (words : List ℕ) → (told count : ℕ) → (left : List ℕ) → Type 0

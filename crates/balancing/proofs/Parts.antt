@@ -14,7 +14,7 @@ use Rattle.tabling.proofs.Evidence.{Among}
 use Rattle.tabling.proofs.Adding.{Outgrown}
 use Rattle.tabling.proofs.Closed.{Whole}
 use Rattle.tabling.proofs.Rewritten.{whole_same}
-use Rattle.radix.proofs.Copies.{word_at}
+use Rattle.radix.proofs.Names.{word_at}
 use Rattle.desk.specs.Desk.{packed_width, AnswersOpen, CallsOpen}
 use Rattle.index.specs.Index.{CallIndex, AnswersKeyed, answer_notes}
 use Rattle.arranging.proofs.OrderLaws.{covers_kept}

@@ -1,6 +1,6 @@
 // Goals evaluated while the tables are put aside: a run's answers and the index of its calls stand in the words that the tables leave free, its
 // call records in words of their own.
-ghost use Rattle.std.specs.Prelude.{◌≡◌, ◌*◌, length};
+ghost use Rattle.std.specs.Prelude.{◌≡◌, true, false, ◌*◌, length, MatchResult};
 ghost use Rattle.records.specs.Records.{call_width};
 ghost use Rattle.records.specs.Bodies.{bodies_with};
 ghost use Rattle.invariants.proofs.Filling.{Accepted};
@@ -8,17 +8,17 @@ ghost use Rattle.joint.specs.Joint.{roots_of};
 ghost use Rattle.matching.specs.Matching.{stowed_tables};
 ghost use Rattle.balancing.specs.Balancing.{call_room, answer_room, plain_tables, Handed, Lent, Aside, Spared, FilledAside, Compared};
 
-use joint::Rows;
+use joint::{Full, Rows};
 use records::bodies::Goals;
 use records::tables;
 
 // The words that each answer record put aside leaves free.
 const FREED_WORDS: usize = 11;
 
-// Whether a table is full; how many calls and answers there are; and whether the tables that were put aside hold just these.
-#[derive(Clone, Copy)]
+// How many calls and answers there are, and whether the tables that were put aside hold just these.
+// Stays: the counts hold whatever `same` says, so it is no flag of a value.
+#[derive(Clone, Copy, Debug, PartialEq, Eq)]
 pub struct Found {
-    pub full: bool,
     pub calls: usize,
     pub answers: usize,
     pub same: bool,
@@ -35,12 +35,14 @@ fn fill_aside<'a>(
     rows: &mut [u64],
     calls: &mut [u64],
     answers: &mut [u64],
-) -> Rows
+) -> Result<Rows, Full>
     requires accepted { Accepted rules.now goal.now second.now }
     requires rows_len { length rows.old ≡ call_width * call_room calls.old }
-    ensures { FilledAside (bodies_with rules.now goals.first goals.second goal.now second.now)
-        (roots_of goals.first goals.second start second_start) rows.old calls.old answers.old
-        rows.new calls.new answers.new result.full result.calls result.answers }
+    ensures { MatchResult result
+        (λ r. FilledAside (bodies_with rules.now goals.first goals.second goal.now second.now) (roots_of goals.first goals.second start second_start)
+        rows.old calls.old answers.old rows.new calls.new answers.new false r.calls r.answers)
+        (λ r. FilledAside (bodies_with rules.now goals.first goals.second goal.now second.now) (roots_of goals.first goals.second start second_start)
+        rows.old calls.old answers.old rows.new calls.new answers.new true r.calls r.answers) }
 {
     let places = tables::room_of(calls.len(), stowing::CALL_WORDS);
     let most = tables::room_of(answers.len(), stowing::ANSWER_WORDS);
@@ -73,15 +75,18 @@ fn compare_aside<'a>(
     n: usize,
     answers: &mut [u64],
     m: usize,
-) -> Found
+) -> Result<Found, Full>
     requires accepted { Accepted rules.now goal.now second.now }
     requires rows_len { (length rows.old ≡ call_width * call_room calls.old) × Aside bytes.now calls.old n answers.old m }
     ensures spared { Spared rows.old calls.old answers.old rows.new calls.new
         answers.new }
-    ensures compared { Compared (bodies_with rules.now goals.first goals.second goal.now second.now)
-        (roots_of goals.first goals.second start second_start) (call_room calls.old) (answer_room answers.old)
-        (stowed_tables (call_room calls.old) calls.old bytes.now n (answer_room answers.old)
-        answers.old m) result.full result.calls result.answers result.same }
+    ensures compared { MatchResult result
+        (λ r. Compared (bodies_with rules.now goals.first goals.second goal.now second.now) (roots_of goals.first goals.second start second_start)
+        (call_room calls.old) (answer_room answers.old)
+        (stowed_tables (call_room calls.old) calls.old bytes.now n (answer_room answers.old) answers.old m) false r.calls r.answers r.same)
+        (λ r. Compared (bodies_with rules.now goals.first goals.second goal.now second.now) (roots_of goals.first goals.second start second_start)
+        (call_room calls.old) (answer_room answers.old)
+        (stowed_tables (call_room calls.old) calls.old bytes.now n (answer_room answers.old) answers.old m) true r.calls r.answers false) }
 {
     let filled = fill_aside(
         rules,
@@ -93,28 +98,19 @@ fn compare_aside<'a>(
         rows,
         calls,
         answers,
-    );
+    )?;
     let found = filled.calls;
     let given = filled.answers;
-    if filled.full {
-        return Found {
-            full: true,
-            calls: found,
-            answers: given,
-            same: false,
-        };
-    }
     let places = tables::room_of(calls.len(), stowing::CALL_WORDS);
     let most = tables::room_of(answers.len(), stowing::ANSWER_WORDS);
     let same = matching::same_rows(
         rows, found, calls, bytes, places, n, answers, given, most, m,
     );
-    Found {
-        full: false,
+    Ok(Found {
         calls: found,
         answers: given,
         same: same,
-    }
+    })
 }
 
 // The calls and answers of the goals that stand, each from its start, counted, and whether the n call records and m answer records of the tables
@@ -132,14 +128,16 @@ pub fn evaluated<'a>(
     n: usize,
     answers: &mut [u64],
     m: usize,
-) -> Found
+) -> Result<Found, Full>
     requires accepted { Accepted rules.now goal.now second.now }
     requires lent { Lent rows.old bytes.old calls.old × Handed calls.old n answers.old m }
     ensures calls_unchanged { (calls.new ≡ calls.old) × (answers.new ≡ answers.old) }
     ensures rows_len_unchanged { (length rows.new ≡ length rows.old) × (length bytes.new ≡ length bytes.old) }
-    ensures compared { Compared (bodies_with rules.now goals.first goals.second goal.now second.now)
-        (roots_of goals.first goals.second start second_start) (call_room calls.old) (answer_room answers.old)
-        (plain_tables calls.old n answers.old m) result.full result.calls result.answers result.same }
+    ensures compared { MatchResult result
+        (λ r. Compared (bodies_with rules.now goals.first goals.second goal.now second.now) (roots_of goals.first goals.second start second_start)
+        (call_room calls.old) (answer_room answers.old) (plain_tables calls.old n answers.old m) false r.calls r.answers r.same)
+        (λ r. Compared (bodies_with rules.now goals.first goals.second goal.now second.now) (roots_of goals.first goals.second start second_start)
+        (call_room calls.old) (answer_room answers.old) (plain_tables calls.old n answers.old m) true r.calls r.answers false) }
 {
     let places = tables::room_of(calls.len(), stowing::CALL_WORDS);
     let most = tables::room_of(answers.len(), stowing::ANSWER_WORDS);

@@ -59,7 +59,7 @@ fn as_held<'a>(
     ) {
         return false;
     }
-    let found = aside::evaluated(
+    let evaluated = aside::evaluated(
         rules,
         goal,
         second,
@@ -73,6 +73,9 @@ fn as_held<'a>(
         answers,
         m,
     );
+    let Ok(found) = evaluated else {
+        return false;
+    };
     if !found.same {
         return false;
     }

@@ -14,13 +14,7 @@ use records::bodies::Goals;
 fn fits(calls: usize, answers: usize, limits: Limits) -> bool
     ensures { Whether ((calls ≤ limits.calls) × (answers ≤ limits.answers)) result }
 {
-    if limits.calls < calls as u64 {
-        return false;
-    }
-    if limits.answers < answers as u64 {
-        return false;
-    }
-    true
+    calls as u64 <= limits.calls && answers as u64 <= limits.answers
 }
 
 // Whether the party whose account begins at word `at`, and whose goal this is, holds no rows or has calls and answers within its limits, where the
@@ -52,7 +46,7 @@ fn within<'a>(
         return true;
     }
     let start = reading::start(kept, at);
-    let found = aside::evaluated(
+    let evaluated = aside::evaluated(
         rules,
         goal,
         goal,
@@ -66,10 +60,10 @@ fn within<'a>(
         answers,
         m,
     );
-    if found.full {
-        return false;
+    match evaluated {
+        Ok(found) => fits(found.calls, found.answers, own),
+        Err(_) => false,
     }
-    fits(found.calls, found.answers, own)
 }
 
 // Whether both parties are within their limits. The goals are those of their accounts.

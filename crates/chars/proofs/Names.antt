@@ -1,50 +1,51 @@
 -- What a name is, a byte at a time. Assumes nothing.
-use mathlib.Core.Path.{◌≡◌, refl, ap, sym, ◌∙◌}
-use mathlib.Core.Bool.{Bool, true, false, ◌&&◌, and-false, true≢false}
-use mathlib.Core.List.{List, [], ◌∷◌}
-use Prim.Native.Nat.{ℕ, suc, ◌+◌, ◌-◌, ◌≤◌, ◌<◌}
-use native.Mathlib.Numerals.{add-one}
-use native.Mathlib.Omega.{arith}
-use lib.Dec.{leb, eqb}
-use lib.ListN.{length, get_or, drop, drop_of_length-le}
-use lib.Seq.{slice, slice-cons, slice_empty, length-slice, drop-cons}
+use Rattle.std.proofs.Common.{◌≡◌, refl, ap, sym, true, false, Bool, ◌&&◌, List, [], ◌∷◌, ℕ, suc, ◌-◌, ◌≤◌, ◌<◌, eqb, length, get_or, take, drop, arith}
+use mathlib.Core.Bool.{and-false, true≢false}
+use Rattle.std.specs.List.{list_all}
+use Rattle.std.proofs.Math.Seq.{take-length}
 use borrow.Author.Tests.{lt-leb, le-leb}
-use Rattle.chars.specs.Bytes.{all, lower, name_byte, is_name}
+use lib.Pointwise.{pointwise}
+use Rattle.chars.specs.Bytes.{lower, name_byte, is_name}
 use Rattle.chars.specs.Places.{same}
 
--- a test of all elements of a part, by its first
-pub all_first : (p : ℕ → Bool) (s : List ℕ) (i to : ℕ) → i < to → to ≤ length s → all p (slice i to s) ≡ (p (get_or s i 0) && all p (slice (i + 1) to s))
-all_first p s i to h k = rw (add-one, slice-cons i to s 0)
+-- what follows a list's first element, as code takes it
+rest_is : (x : ℕ) (xs : List ℕ) → take (length (x ∷ xs) - 1) xs ≡ xs
+rest_is x xs = let e : length (x ∷ xs) - 1 ≡ length xs = omega arith in rw (e, take-length)
 
-pub all_none : (p : ℕ → Bool) (s : List ℕ) (to : ℕ) → all p (slice to to s) ≡ true
-all_none p s to = ap (all p) (slice_empty to s)
+-- a list by its first element and what follows it, as code takes them
+pub parted : (l : List ℕ) → 0 < length l → l ≡ get_or l 0 0 ∷ take (length l - 1) (drop 1 l)
+parted [] h = absurd (omega arith)
+parted (x ∷ xs) h = rw (rest_is x xs)
 
-pub name_empty : (s : List ℕ) (to : ℕ) → is_name (slice to to s) ≡ false
+-- a name, by its first byte and those behind it
+pub name_empty : (l : List ℕ) → length l < 1 → is_name l ≡ false
 unfolding is_name
-name_empty s to = ap is_name (slice_empty to s)
+name_empty [] h = refl
+name_empty (x ∷ xs) h = absurd (omega arith)
 
-module _ (s : List ℕ) (from to : ℕ) (h : from < to) (k : to ≤ length s) where
-  pub name_first : is_name (slice from to s) ≡ (lower (get_or s from 0) && (leb (to - (from + 1)) 15 && all name_byte (slice (from + 1) to s)))
-  unfolding is_name
-  name_first = rw (add-one, slice-cons from to s 0, length-slice (suc from) to s k)
+pub name_start : (l : List ℕ) → lower (get_or l 0 0) ≡ false → is_name l ≡ false
+unfolding is_name
+name_start [] e = refl
+name_start (x ∷ xs) e = rw e
 
-  pub name_long : 16 < to - from → is_name (slice from to s) ≡ false
-  name_long l = name_first ∙ rw (lt-leb (to - (from + 1)) 15 (omega arith), and-false)
+pub name_long : (l : List ℕ) → 16 ≤ length (take (length l - 1) (drop 1 l)) → is_name l ≡ false
+unfolding is_name
+name_long [] h = refl
+name_long (x ∷ xs) h = let k = rw (rest_is x xs) at h in rw (lt-leb (length xs) 15 (omega arith), and-false)
 
-  pub name_start : lower (get_or s from 0) ≡ false → is_name (slice from to s) ≡ false
-  name_start e = name_first ∙ rw e
+pub name_rest : (l : List ℕ) → 0 < length l → lower (get_or l 0 0) ≡ true → length (take (length l - 1) (drop 1 l)) < 16
+    → is_name l ≡ list_all name_byte (take (length l - 1) (drop 1 l))
+unfolding is_name
+name_rest [] h e k = absurd (omega arith)
+name_rest (x ∷ xs) h e k = let m = rw (rest_is x xs) at k in rw (e, le-leb (length xs) 15 (omega arith), rest_is x xs)
 
-  pub name_rest : lower (get_or s from 0) ≡ true → to - from ≤ 16 → is_name (slice from to s) ≡ all name_byte (slice (from + 1) to s)
-  name_rest e l = name_first ∙ rw (e, le-leb (to - (from + 1)) 15 (omega arith))
-
--- two lists from i on, by their elements at i
-pub same_drop : (x y : List ℕ) (i : ℕ) → i < length x → i < length y → same (drop i x) (drop i y) ≡ (eqb (get_or x i 0) (get_or y i 0) && same (drop (i + 1) x) (drop (i + 1) y))
+-- the same bytes, as `==` of slices says it
+pub same_pointwise : (x y : List ℕ) → pointwise eqb x y ≡ same x y
 unfolding same
-same_drop x y i h k = rw (add-one, drop-cons x i 0 h, drop-cons y i 0 k)
-
-pub same_done : (x y : List ℕ) (i : ℕ) → length x ≤ i → length y ≤ i → same (drop i x) (drop i y) ≡ true
-unfolding same
-same_done x y i h k = rw (drop_of_length-le x h, drop_of_length-le y k)
+same_pointwise [] [] = refl
+same_pointwise [] (y ∷ ys) = refl
+same_pointwise (x ∷ xs) [] = refl
+same_pointwise (x ∷ xs) (y ∷ ys) = rw (same_pointwise xs ys)
 
 -- lists of different lengths
 pub same_lengths : (x y : List ℕ) → (length x ≡ length y → ⊥) → same x y ≡ false

@@ -1,5 +1,6 @@
 -- Quoted text, the bytes that a sheet may hold, and names. Assumes nothing.
 use Rattle.std.specs.Prelude.{ℕ, Bool, true, false, cond, ◌&&◌, ◌||◌, List, [], ◌∷◌, length, leb, eqb}
+use Rattle.std.specs.List.{list_all}
 use Prim.Native.String.{String, [] as end, ◌∷◌ as ◌then◌}
 use Prim.Native.Char.{code}
 
@@ -25,8 +26,7 @@ HASH = 35
 
 -- Each element passes the test.
 abbrev pub all : (ℕ → Bool) → List ℕ → Bool
-all p [] = true
-all p (x ∷ xs) = p x && all p xs
+all p xs = list_all p xs
 
 -- A byte of a sheet: TAB, LF or 33 to 126.
 unfoldable pub sheet_byte : ℕ → Bool

@@ -7,14 +7,7 @@ pub fn clear_between(words: &[u64], from: usize, to: usize) -> bool
     requires { (from ≤ to) × (to ≤ length words.now) }
     ensures { result ≡ clear_between words.now from to }
 {
-    let mut i = 0;
-    while i < to - from {
-        if words[from + i] != 0 {
-            return false;
-        }
-        i += 1;
-    }
-    true
+    words[from..to].iter().all(|word| *word == 0)
 }
 
 // Whether every word from this place on is 0.

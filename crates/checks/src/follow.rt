@@ -8,7 +8,7 @@ ghost use Rattle.checks.specs.Readable.{Readable, taken, Leads};
 
 use records::tables;
 use steps::state::State;
-use steps::word::{Next, elementary, index, is_call};
+use steps::word::{elementary, index, is_call};
 
 // The round of answer record n.
 fn round(plain: bool, n: usize, answers: &[u64]) -> u64
@@ -31,18 +31,18 @@ fn take(
     named: usize,
     calls: &[u64],
     answers: &[u64],
-) -> Next
+) -> Option<State>
     requires { Readable plain calls.now answers.now (named + 1) }
     ensures { onward result ≡ taken plain calls.now answers.now action state.0 named }
 {
     let width = tables::call_width(plain);
     let call = tables::call_of(answers, tables::answer_width(plain), named) as usize;
-    if tables::action_of(calls, width, call) == action {
-        if tables::state_of(calls, width, call).0 == state.0 {
-            return Next::On(tables::final_of(answers, tables::answer_width(plain), named));
-        }
+    if tables::action_of(calls, width, call) == action
+        && tables::state_of(calls, width, call).0 == state.0
+    {
+        return Some(tables::final_of(answers, tables::answer_width(plain), named));
     }
-    Next::Stuck
+    None
 }
 
 // Whether the answer that the evidence names comes before record n: its number is smaller, and so is its round.
@@ -65,7 +65,7 @@ pub fn follow(
     n: usize,
     calls: &[u64],
     answers: &[u64],
-) -> Next
+) -> Option<State>
     requires { Readable plain calls.now answers.now (n + 1) }
     ensures { Leads plain calls.now answers.now n step state.0 evidence (onward result) }
 {
@@ -73,10 +73,10 @@ pub fn follow(
         if earlier(plain, evidence, n, answers) {
             return take(plain, index(step), state, evidence as usize, calls, answers);
         }
-        return Next::Stuck;
+        return None;
     }
     if evidence == 0 {
         return elementary(step, state);
     }
-    Next::Stuck
+    None
 }

@@ -13,7 +13,6 @@ use crate::follow::follow;
 use records::bodies::Goals;
 use records::{bodies, tables};
 use steps::state::State;
-use steps::word::Next;
 
 // Whether the evidence of record n from place q on is 0.
 fn unused(plain: bool, answers: &[u64], n: usize, q: usize) -> bool
@@ -39,31 +38,14 @@ fn follows(
 {
     let width = tables::answer_width(plain);
     let mut state = start;
-    let mut q = 0;
-    while q < body.len() {
-        let next = follow(
-            plain,
-            body[q],
-            state,
-            tables::evidence_of(answers, width, n, q),
-            n,
-            calls,
-            answers,
-        );
-        match next {
-            Next::On(after) => {
-                state = after;
-            }
-            Next::Stuck => {
-                return false;
-            }
+    for (q, step) in body.iter().enumerate() {
+        let evidence = tables::evidence_of(answers, width, n, q);
+        match follow(plain, *step, state, evidence, n, calls, answers) {
+            Some(after) => state = after,
+            None => return false,
         }
-        q += 1;
     }
-    if state.0 == tables::final_of(answers, width, n).0 {
-        return unused(plain, answers, n, q);
-    }
-    false
+    state.0 == tables::final_of(answers, width, n).0 && unused(plain, answers, n, body.len())
 }
 
 // Whether record n is justified by the records below it.
@@ -117,14 +99,12 @@ pub fn all_justified<'a>(
         (answers_in (answer_width_of plain) answers.now answer_count)
         (bodies_with rules.now goals.first goals.second goal.now second.now) }
 {
-    let mut n = 0;
-    while n < answer_count {
+    for n in 0..answer_count {
         if !justified(
             plain, rules, goal, second, goals, calls, call_count, answers, n,
         ) {
             return false;
         }
-        n += 1;
     }
     true
 }

@@ -18,10 +18,8 @@ const LAST_ROUND: u64 = 131071;
 pub fn over_room(calls: &[u64], call_count: u64, answers: &[u64], answer_count: u64) -> bool
     ensures { result ≡ over_room calls.now call_count answers.now answer_count }
 {
-    if (tables::room_of(calls.len(), tables::CALL_WORDS) as u64) < call_count {
-        return true;
-    }
-    (tables::room_of(answers.len(), tables::ANSWER_WORDS) as u64) < answer_count
+    (tables::room_of(calls.len(), tables::CALL_WORDS) as u64) < call_count
+        || (tables::room_of(answers.len(), tables::ANSWER_WORDS) as u64) < answer_count
 }
 
 // Whether call record i has a good action and a good state.
@@ -32,10 +30,8 @@ fn good_row(plain: bool, goals: Goals, fluents: u64, actions: u64, calls: &[u64]
 {
     let width = tables::call_width(plain);
     let action = tables::action_of(calls, width, i);
-    if !bodies::is_goal(goals, action) {
-        if actions <= action {
-            return false;
-        }
+    if !bodies::is_goal(goals, action) && actions <= action {
+        return false;
     }
     !accept::bad_state(fluents, tables::state_of(calls, width, i).0)
 }
@@ -68,12 +64,10 @@ fn good_calls(
     ensures { result ≡ each_below call_count (good_record plain goals.first goals.second fluents actions
         (calls_in (call_width_of plain) calls.now call_count)) }
 {
-    let mut i = 0;
-    while i < call_count {
+    for i in 0..call_count {
         if !good_call(plain, goals, fluents, actions, calls, i) {
             return false;
         }
-        i += 1;
     }
     true
 }

@@ -10,7 +10,7 @@ use borrow.Author.Tests.{lt-ltb, le-ltb}
 use borrow.Rule.Slice.PartMut.{mid_of, put_mid}
 use Rattle.refusals.specs.Class.{class_refusals}
 use Rattle.steps.specs.State.{State}
-use Rattle.evaluator.specs.Evaluated.{Asked, Lent, Told, Evaluated}
+use Rattle.evaluator.specs.Evaluated.{Asked, Lent, Told, Evaluated, lent}
 use Rattle.class.specs.Class.{four, places, written, result_words, handed_on, together, Turns, over, Ran, refused, ran}
 use Rattle.class.specs.Shown.{SameRoom}
 use Rattle.class.proofs.Turns.{turns_more, room_kept, written_fits}
@@ -42,6 +42,11 @@ module _ (used : ℕ) (xs : List ℕ) where
   part_back ys =
       ap (λ (zs : List ℕ). take used xs ++ (ys ++ zs)) (drop_of_length-le (drop used xs) {i = length xs - used} (omega (arith, length-drop used xs)))
       ∙ ap (λ (zs : List ℕ). take used xs ++ zs) (append-nil ys)
+
+  -- an evaluation that is lent the places left is one of what the starts so far handed on
+  pub rest_evaluated : {q : Asked} {calls answers list : List ℕ} {left : Lent} {r : Told}
+      → Evaluated q (lent calls answers (mid_of used (length xs - used) xs) list) left r → Evaluated q (handed_on used (lent calls answers xs list)) left r
+  rest_evaluated {q} {calls} {answers} {list} {left} {r} e = subst (λ (ends : List ℕ). Evaluated q (lent calls answers ends list) left r) part_left e
 
 module _ (ask : State → Asked) (starts : List State) (results₀ : List ℕ) (before : Lent) where
   -- The first i starts are run, and have taken `used` places.

@@ -6,6 +6,7 @@ ghost use Rattle.evaluator.specs.Evaluated.{asked, lent, told};
 ghost use Rattle.class.specs.Class.{four, places, Ran};
 
 use evaluator::Run;
+use refusals::Refusal;
 
 // The most starts of a class.
 const MOST_STARTS: usize = 1024;
@@ -13,6 +14,7 @@ const MOST_STARTS: usize = 1024;
 // Runs the goal from each start in turn. The four words of a start stand in `results` in the starts' order; the ends of unrefused starts follow
 // one another in `ends`; the tables and the list of calls are those of the last start that was refused with none of 20 to 24 and 34. The result is
 // 0, or 25 and nothing done.
+// Stays: the number is what C sees, as `lawhemuri_class` hands it on.
 pub fn class<'a>(
     fluents: u64,
     actions: u64,
@@ -30,20 +32,19 @@ pub fn class<'a>(
         results.new (lent calls.new answers.new ends.new list.new) result }
 {
     if MOST_STARTS < starts.len() {
-        return refusals::BAD_CLASS;
+        return Refusal::BadClass.number();
     }
     if results.len() < 4 * starts.len() {
-        return refusals::BAD_CLASS;
+        return Refusal::BadClass.number();
     }
     let mut used = 0;
-    let mut i = 0;
-    while i < starts.len() {
+    for (i, start) in starts.iter().enumerate() {
         let run = evaluator::evaluate(
             fluents,
             actions,
             rules,
             goal,
-            starts[i],
+            *start,
             calls,
             answers,
             &mut ends[used..],
@@ -51,7 +52,6 @@ pub fn class<'a>(
         );
         put(results, 4 * i, run);
         used += taken(run) as usize;
-        i += 1;
     }
     0
 }
@@ -60,10 +60,7 @@ pub fn class<'a>(
 fn taken(run: Run) -> u64
     ensures { result ≡ places (told run.refusal run.ends run.calls run.answers run.rounds) }
 {
-    if run.refusal == 0 {
-        return run.ends;
-    }
-    0
+    if run.refusal == 0 { run.ends } else { 0 }
 }
 
 // Puts the four words of a start at a place; its rounds have none.

@@ -3,18 +3,18 @@ use Prim.Native.Nat.{ℕ, ◌+◌, ◌-◌, ◌*◌, ◌/◌, ◌%◌, ◌<◌, 
 use native.Mathlib.Omega.{arith}
 use native.Mathlib.Decide.{dec_lt, ℕ_discrete}
 use native.Mathlib.Nat.{add-zero}
-use mathlib.Core.Path.{◌≡◌, refl, sym, ap, ◌∙◌, subst}
-use mathlib.Core.Logic.{◌⊎◌, inl, inr, ⊎_elim, ◌≢◌}
+use mathlib.Core.Path.{◌≡◌, refl, sym, ap, ◌∙◌}
+use mathlib.Core.Logic.{inl, inr, ⊎_elim}
 use mathlib.Core.List.{List, [], ◌∷◌, ◌++◌}
-use lib.ListN.{length, get_or, set, length-set, length-append, get_or-eq_default, get_or-append}
+use lib.ListN.{length, get_or, set, length-set, length-append, get_or-append}
 use lib.Seq.{get_or-set_same, get_or-set_other, get_or-append-add}
 use borrow.Author.Count.{below_none, below_more}
 use Rattle.steps.specs.State.{State}
 use Rattle.quarters.specs.Quarters.{quarter}
 use Rattle.quarters.proofs.QuarterLaws.{four, quarter_0, quarter_1, quarter_2, quarter_3}
 use Rattle.records.specs.Records.{answer_width}
-use Rattle.records.specs.Storage.{Stored, AnswerAdded}
-use Rattle.desk.specs.Desk.{packed_width, packed_answers, packed, packed_record, quarters, given_record, Written}
+use Rattle.records.specs.Storage.{AnswerAdded}
+use Rattle.desk.specs.Desk.{packed_width, packed_answers, packed, packed_record, given_record, Written}
 use Rattle.desk.specs.Desk.{AnswerClosed, AnswersSpread, AnswersClosed, ClearedFrom}
 
 -- ---- words written one after another
@@ -52,39 +52,6 @@ written_store {words} {words'} {new} {at} v w fits = written_append w (written_o
 pub written_three : (words : List ℕ) (at a b c : ℕ) → at + 3 ≤ length words
     → Written words at (a ∷ b ∷ c ∷ []) (set (set (set words at a) (at + 1) b) (at + 2) c)
 written_three words at a b c fits = written_store c (written_store b (written_one words at a (omega arith)) (omega arith)) (omega arith)
-
--- ---- words cleared
-
--- The words from `from` up to i are 0; all others stay.
-pub record Clearing (words : List ℕ) (from i : ℕ) (words' : List ℕ) : Type 0 where
-  pub long : length words' ≡ length words
-  pub cleared : (p : ℕ) → from ≤ p → p < i → get_or words' p 0 ≡ 0
-  pub below : (p : ℕ) → p < from → get_or words' p 0 ≡ get_or words p 0
-
-pub cleared_none : (words : List ℕ) (from : ℕ) → Clearing words from from words
-cleared_none words from = record { long = refl; cleared = λ p h l. absurd (omega arith); below = λ p l. refl }
-
-pub cleared_more : {words words' : List ℕ} {from i : ℕ} → Clearing words from i words' → from ≤ i → i < length words → Clearing words from (i + 1) (set words' i 0)
-cleared_more {words} {words'} {from} {i} c h l =
-    let z : get_or (set words' i 0) i 0 ≡ 0 = get_or-set_same words' i 0 0 (omega (arith, c.long)) in
-    record {
-      long = simp length-set c.long;
-      cleared = λ p a b. elim (ℕ_discrete p i) [
-        | yes e ↦ rw e z
-        | no ne ↦ get_or-set_other words' i p 0 0 ne ∙ c.cleared p a (omega arith)
-      ];
-      below = λ p a. get_or-set_other words' i p 0 0 (omega arith) ∙ c.below p a;
-    }
-
-pub cleared_all : {words words' : List ℕ} {from i : ℕ} → Clearing words from i words' → length words ≤ i → ClearedFrom words from words'
-cleared_all {words} {words'} {from} {i} c l = record {
-  long = c.long;
-  cleared = λ p a. elim (dec_lt p i) [
-    | yes h ↦ c.cleared p a h
-    | no h ↦ get_or-eq_default words' 0 (omega (arith, c.long))
-  ];
-  below = c.below;
-}
 
 -- ---- one answer record more
 
@@ -172,9 +139,6 @@ closed_same {words} {words₀} {words'} {m} {x} c same = record {
   evidence = λ q l. c.evidence q l ∙ ap (λ (v : ℕ). quarter v (q % 4)) (same (packed_width * x + 4 + q / 4) (omega arith) (omega arith));
   round = c.round ∙ same (packed_width * x + 3) (omega arith) (omega arith);
 }
-
-pub spread_none : (words : List ℕ) (m : ℕ) → AnswersSpread words m m words
-spread_none words m = record { long = refl; closed = λ y a b. absurd (omega arith); below = λ p l. refl }
 
 pub spread_more : {words words' words'' : List ℕ} {m x : ℕ} → AnswersSpread words m (x + 1) words'
     → Written words' (answer_width * x) (given_record words' x) words'' → AnswersSpread words m x words''

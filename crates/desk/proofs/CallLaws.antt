@@ -7,12 +7,11 @@ use mathlib.Core.Logic.{◌≢◌}
 use mathlib.Core.List.{List}
 use lib.ListN.{length, get_or, set, length-set}
 use lib.Seq.{get_or-set_same, get_or-set_other}
-use borrow.Author.Count.{below_none, below_more}
 use Rattle.steps.specs.State.{State}
 use Rattle.records.specs.Records.{call_width}
 use Rattle.records.specs.Storage.{Stored, CallAdded}
 use Rattle.records.proofs.StorageLaws.{stored_more}
-use Rattle.desk.specs.Desk.{action_unit, round_unit, round_top, open_calls, mark_words, call_put, CallsClosed}
+use Rattle.desk.specs.Desk.{action_unit, round_unit, round_top, open_calls, mark_words, call_put}
 
 -- ---- one call record more
 
@@ -55,45 +54,4 @@ module _ (words : List ℕ) (n a : ℕ) (D : State) (r : ℕ) where
       round_kept = λ i l. ap (λ (w : ℕ). w / round_unit % round_top) (put_other (call_width * i) (omega arith) (omega arith));
       new = record { has_action = omega (arith, put_first); has_state = put_state };
       new_round = omega (arith, put_first);
-    }
-
--- ---- the call records given
-
-pub closed_none : (words : List ℕ) → CallsClosed words 0 words
-closed_none words = record { long = refl; actions = below_none _; states = below_none _; rounds = below_none _; past = λ p l. refl }
-
--- What giving record i leaves.
-module _ (words' : List ℕ) (i : ℕ) where
-  abbrev pub one_closed : List ℕ
-  one_closed = let word = get_or words' (call_width * i) 0 in
-      set (set words' (call_width * i) (word / action_unit)) (call_width * i + 2) (word / round_unit % round_top)
-
-  closed_apart : (p : ℕ) → p ≢ call_width * i → p ≢ call_width * i + 2 → get_or one_closed p 0 ≡ get_or words' p 0
-  closed_apart p h k =
-      get_or-set_other (set words' (call_width * i) (get_or words' (call_width * i) 0 / action_unit)) (call_width * i + 2) p _ 0 k
-      ∙ get_or-set_other words' (call_width * i) p _ 0 h
-
-  module _ (fits : call_width * i + 3 ≤ length words') where
-    closed_action : get_or one_closed (call_width * i) 0 ≡ get_or words' (call_width * i) 0 / action_unit
-    closed_action =
-        get_or-set_other (set words' (call_width * i) (get_or words' (call_width * i) 0 / action_unit)) (call_width * i + 2) (call_width * i) _ 0 (omega arith)
-        ∙ get_or-set_same words' (call_width * i) _ 0 (omega arith)
-
-    closed_round : get_or one_closed (call_width * i + 2) 0 ≡ get_or words' (call_width * i) 0 / round_unit % round_top
-    closed_round =
-        get_or-set_same (set words' (call_width * i) (get_or words' (call_width * i) 0 / action_unit)) (call_width * i + 2) _ 0 (simp length-set (omega arith))
-
-pub closed_more : {words words' : List ℕ} {i : ℕ} → CallsClosed words i words' → call_width * i + 3 ≤ length words → CallsClosed words (i + 1) (one_closed words' i)
-closed_more {words} {words'} {i} c fits =
-    let fits' : call_width * i + 3 ≤ length words' = omega (arith, c.long) in
-    let same : get_or words' (call_width * i) 0 ≡ get_or words (call_width * i) 0 = c.past (call_width * i) (omega arith) in
-    let apart = closed_apart words' i in
-    record {
-      long = simp length-set c.long;
-      actions = below_more _ i (λ j l. apart (call_width * j) (omega arith) (omega arith) ∙ c.actions j l) (closed_action words' i fits' ∙ ap (λ (w : ℕ). w / action_unit) same);
-      states = below_more _ i (λ j l. apart (call_width * j + 1) (omega arith) (omega arith) ∙ c.states j l)
-          (apart (call_width * i + 1) (omega arith) (omega arith) ∙ c.past (call_width * i + 1) (omega arith));
-      rounds = below_more _ i (λ j l. apart (call_width * j + 2) (omega arith) (omega arith) ∙ c.rounds j l)
-          (closed_round words' i fits' ∙ ap (λ (w : ℕ). w / round_unit % round_top) same);
-      past = λ p l. apart p (omega arith) (omega arith) ∙ c.past p (omega arith);
     }

@@ -9,11 +9,14 @@ ghost use Rattle.desk.specs.Desk.{quarters, given_record, CallsClosed, AnswersSp
 use steps::state::{Call, State};
 
 // In the first word of a call record the action stands above the round, and the round above 32 bits of marks.
-const ACTION_UNIT: u64 = 72057594037927936;
+pub const ACTION_UNIT: u64 = 72057594037927936;
 
 const ROUND_UNIT: u64 = 4294967296;
 
 const ROUND_TOP: u64 = 16777216;
+
+// An answer record has so many words while a run lasts.
+pub const PACKED_WORDS: usize = 8;
 
 // How many words of the answer table a record takes while a run lasts: its own, and one for what is noted of it.
 pub const OPEN_WORDS: usize = 9;
@@ -60,13 +63,13 @@ pub fn final_of(answers: &[u64], x: usize) -> State
     State::of(answers[8 * x + 1])
 }
 
-// The evidence at the four places from q on as the quarters of one word.
-fn packed(evidence: &[u64; 16], q: usize) -> u64
-    requires { q ≤ 12 }
-    ensures { result ≡ packed evidence.now q }
+// The four words of evidence from `at` on as the quarters of one word.
+pub fn packed(words: &[u64], at: usize) -> u64
+    requires { at + 4 ≤ length words.now }
+    ensures { result ≡ packed words.now at }
 {
-    let low = evidence[q] % 65536 + evidence[q + 1] % 65536 * 65536;
-    low + evidence[q + 2] % 65536 * 4294967296 + evidence[q + 3] % 65536 * 281474976710656
+    let low = words[at] % 65536 + words[at + 1] % 65536 * 65536;
+    low + words[at + 2] % 65536 * 4294967296 + words[at + 3] % 65536 * 281474976710656
 }
 
 // Writes answer record m.
@@ -99,12 +102,10 @@ pub fn close_calls(calls: &mut [u64], n: usize)
     requires { call_width * n ≤ length calls.old }
     ensures { CallsClosed calls.old n calls.new }
 {
-    let mut i = 0;
-    while i < n {
+    for i in 0..n {
         let word = calls[3 * i];
         calls[3 * i] = word / ACTION_UNIT;
         calls[3 * i + 2] = word / ROUND_UNIT % ROUND_TOP;
-        i += 1;
     }
 }
 
@@ -149,23 +150,17 @@ fn spread_all(answers: &mut [u64], m: usize)
     requires { answer_width * m ≤ length answers.old }
     ensures { AnswersSpread answers.old m 0 answers.new }
 {
-    let mut x = m;
-    while 0 < x {
-        x -= 1;
+    for x in (0..m).rev() {
         spread(answers, x);
     }
 }
 
 // Sets every word from `from` on to 0.
-fn clear_from(words: &mut [u64], from: usize)
+pub fn clear_from(words: &mut [u64], from: usize)
     requires { from ≤ length words.old }
     ensures { ClearedFrom words.old from words.new }
 {
-    let mut i = from;
-    while i < words.len() {
-        words[i] = 0;
-        i += 1;
-    }
+    words[from..].fill(0);
 }
 
 // Gives the first m answer records, and 0 in all words past them.

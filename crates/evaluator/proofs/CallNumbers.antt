@@ -1,18 +1,16 @@
 -- A list of the call records by their keys is the one that is promised. Assumes nothing.
 use Prim.Native.Nat.{ℕ, suc, ◌-◌, ◌<◌, ◌≤◌}
 use native.Mathlib.Omega.{arith}
-use mathlib.Core.Path.{◌≡◌, refl, sym, ap, ap₂, subst, ◌∙◌}
+use mathlib.Core.Path.{◌≡◌, sym, ap, ap₂, subst, ◌∙◌}
 use mathlib.Core.List.{List, [], ◌∷◌, ◌++◌, Memᴰ}
-use mathlib.Core.Logic.{◌↔◌, inr}
+use mathlib.Core.Logic.{◌↔◌}
 use lib.ListN.{length, get_or, take, drop, replicate, length-drop, length-replicate, take-append-drop}
 use lib.Seq.{ext_get_or, length-take-le, get_or-take, get_or-drop}
-use Rattle.sorting.specs.Shuffled.{Shuffled, NumbersSorted, Before}
-use Rattle.sorting.proofs.Orders.{no_later_apart}
-use Rattle.sorting.proofs.SortedLaws.{number_moved}
+use Rattle.sorting.specs.Shuffled.{Before}
 use Rattle.steps.proofs.Lists.{at_member, member_at}
-use Rattle.records.specs.Records.{Calls, Bodies, call_table, call_width}
-use Rattle.records.proofs.Growth.{Tables, CallsOnce, row_once}
-use Rattle.canonical.specs.Rows.{CallRow, Rows, call_key, filled}
+use Rattle.records.specs.Records.{Bodies}
+use Rattle.records.proofs.Growth.{Tables}
+use Rattle.canonical.specs.Rows.{Rows, call_key, filled}
 use Rattle.canonical.specs.CallList.{call_list}
 use Rattle.canonical.proofs.Ordered.{Ordered, none, more}
 use Rattle.canonical.proofs.Keys.{Rising}

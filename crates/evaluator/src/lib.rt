@@ -3,7 +3,7 @@
 // both tables are given as they are promised.
 #![tactic(auto)]
 
-ghost use Rattle.std.specs.Prelude.{◌≡◌, true, false, [], ◌∷◌, ℕ, ◌*◌, ◌≤◌, length, replicate};
+ghost use Rattle.std.specs.Prelude.{◌≡◌, true, false, [], ◌∷◌, ℕ, ◌*◌, ◌≤◌, length, replicate, MatchOption};
 ghost use Rattle.records.specs.Records.{room, call_table, call_width, answer_table, answer_width};
 ghost use Rattle.steps.specs.Run.{Goal};
 ghost use Rattle.steps.proofs.AcceptanceLaws.{AcceptedWords};
@@ -14,15 +14,18 @@ ghost use Rattle.desk.specs.Desk.{open_calls, packed_answers, CallsClosed, Answe
 ghost use Rattle.finals.specs.Finals.{CallFinals};
 ghost use Rattle.listing.specs.Listing.{CallsListed};
 ghost use Rattle.evaluator.specs.Evaluated.{Evaluated, asked, lent, told};
+ghost use Rattle.refusals.specs.Number.{number_of};
 
 use records::bodies::Goals;
 use records::tables;
+use refusals::Refusal;
 use steps::accept;
 use steps::state::Call;
 
 // The refusal, 0 for none, the counts of ends, calls and answers, and the number of rounds that added something.
+// Stays: numbers beside one another, since C sees them, and a list of ends that is too short is told with all counts.
 #[repr(C)]
-#[derive(Clone, Copy)]
+#[derive(Clone, Copy, Debug, PartialEq, Eq)]
 pub struct Run {
     pub refusal: u64,
     pub ends: u64,
@@ -31,10 +34,24 @@ pub struct Run {
     pub rounds: u64,
 }
 
-// Whether a table is full, the counts of ends, calls and answers, and the number of rounds that added something.
-#[derive(Clone, Copy)]
-struct Outcome {
-    full: bool,
+impl Run {
+    // A refusal with no counts.
+    fn refused(refusal: Refusal) -> Run
+        ensures { told result.refusal result.ends result.calls result.answers result.rounds ≡ told (number_of refusal) 0 0 0 0 }
+    {
+        Run {
+            refusal: refusal.number(),
+            ends: 0,
+            calls: 0,
+            answers: 0,
+            rounds: 0,
+        }
+    }
+}
+
+// The counts of ends, calls and answers of tables that are given, and the number of rounds that added something.
+#[derive(Clone, Copy, Debug, PartialEq, Eq)]
+struct Tabled {
     ends: u64,
     calls: usize,
     answers: usize,
@@ -68,7 +85,7 @@ fn give(
 }
 
 // Fills the tables with the calls and answers of the goal from the start, lists the calls, counts the ends, and lists them if their list has
-// places for them. The call table and the list are wholly 0 before; where a table is full all three may hold anything.
+// places for them. The call table and the list are wholly 0 before; where a table is full there is nothing to give, and all three may hold anything.
 fn tabulate<'a>(
     rules: &'a [u16],
     goal: &'a [u16],
@@ -77,63 +94,56 @@ fn tabulate<'a>(
     answers: &mut [u64],
     ends: &mut [u64],
     list: &mut [u64],
-) -> Outcome
+) -> Option<Tabled>
     requires by_index { (fluents : ℕ) × (actions : ℕ) × AcceptedWords fluents actions rules.now goal.now }
     requires calls_value { (calls.old ≡ replicate (length calls.old) 0) × (list.old ≡ replicate (length list.old) 0)
         × (room call_width (length calls.old) ≤ length list.old) }
-    ensures begins { (b : Tables) × (result.full ≡ false → Begins start b)
-        × Tabulated rules.now goal.now ((Goal, start) ∷ []) 0 b calls.old answers.old
-        calls.new answers.new result.full result.calls result.answers result.rounds }
-    ensures list_len_unchanged { (length list.new ≡ length list.old)
-        × (result.full ≡ false → CallsListed (call_table calls.new result.calls) (length list.old) list.new) }
-    ensures ends_unchanged { (result.full ≡ true → ends.new ≡ ends.old)
-        × (result.full ≡ false → CallFinals (call_table calls.new result.calls) (answer_table answers.new result.answers) Goal start
-        result.ends ends.old ends.new) }
+    ensures list_long { length list.new ≡ length list.old }
+    ensures tabled { MatchOption result
+        ((ends.new ≡ ends.old) × ((b : Tables) × (n : ℕ) × (m : ℕ) × (rounds : ℕ)
+        × Tabulated rules.now goal.now ((Goal, start) ∷ []) 0 b calls.old answers.old calls.new answers.new true n m rounds))
+        (λ t. (b : Tables) × Begins start b
+        × Tabulated rules.now goal.now ((Goal, start) ∷ []) 0 b calls.old answers.old calls.new answers.new false t.calls t.answers t.rounds
+        × CallsListed (call_table calls.new t.calls) (length list.old) list.new
+        × CallFinals (call_table calls.new t.calls) (answer_table answers.new t.answers) Goal start t.ends ends.old ends.new) }
 {
     let put = index::add_new(calls, 0, list, Call::goal(start), 0);
-    let count = put.count;
     if put.full {
-        return Outcome {
-            full: true,
-            ends: 0,
-            calls: count,
-            answers: 0,
-            rounds: 0,
-        };
+        return None;
     }
     let most = tables::room_of(answers.len(), tables::ANSWER_WORDS);
-    let run = filling::fill(
+    let filled = filling::fill(
         rules,
         goal,
         goal,
         Goals::ALONE,
         calls,
-        count,
+        put.count,
         list,
         answers,
         0,
         most,
         0,
     );
-    let n = run.calls;
-    let m = run.answers;
-    let rounds = run.rounds;
-    if run.full {
-        return Outcome {
-            full: run.full,
-            ends: 0,
-            calls: n,
-            answers: m,
-            rounds: rounds,
-        };
-    }
-    let found = give(start, calls, n, answers, m, ends, list);
-    Outcome {
-        full: run.full,
-        ends: found,
-        calls: n,
-        answers: m,
-        rounds: rounds,
+    match filled {
+        Ok(counted) => {
+            let found = give(
+                start,
+                calls,
+                counted.calls,
+                answers,
+                counted.answers,
+                ends,
+                list,
+            );
+            Some(Tabled {
+                ends: found,
+                calls: counted.calls,
+                answers: counted.answers,
+                rounds: counted.rounds,
+            })
+        }
+        Err(_) => None,
     }
 }
 
@@ -155,57 +165,32 @@ pub fn evaluate<'a>(
         (lent calls.new answers.new ends.new list.new)
         (told result.refusal result.ends result.calls result.answers result.rounds) }
 {
-    let refusal = accept::refusal(fluents, actions, rules, goal, start);
-    if refusal != 0 {
-        return Run {
-            refusal: refusal,
-            ends: 0,
-            calls: 0,
-            answers: 0,
-            rounds: 0,
-        };
+    if let Err(refusal) = accept::refusal(fluents, actions, rules, goal, start) {
+        return Run::refused(refusal);
     }
     if list.len() < tables::room_of(calls.len(), tables::CALL_WORDS) {
-        return Run {
-            refusal: refusals::CALL_LIST_SHORT,
-            ends: 0,
-            calls: 0,
-            answers: 0,
-            rounds: 0,
-        };
+        return Run::refused(Refusal::CallListShort);
     }
     tables::clear(calls);
     tables::clear(list);
-    let run = tabulate(rules, goal, start, calls, answers, ends, list);
-    let n = run.calls;
-    let m = run.answers;
-    if run.full {
+    let Some(run) = tabulate(rules, goal, start, calls, answers, ends, list) else {
         tables::clear(calls);
         tables::clear(answers);
         tables::clear(list);
-        return Run {
-            refusal: refusals::TABLES_FULL,
-            ends: 0,
-            calls: 0,
-            answers: 0,
-            rounds: 0,
-        };
-    }
-    let found = run.ends;
-    if (ends.len() as u64) < found {
-        return Run {
-            refusal: refusals::LIST_SHORT,
-            ends: found,
-            calls: n as u64,
-            answers: m as u64,
-            rounds: run.rounds,
-        };
-    }
-    Run {
+        return Run::refused(Refusal::TablesFull);
+    };
+    let ran = Run {
         refusal: 0,
-        ends: found,
-        calls: n as u64,
-        answers: m as u64,
+        ends: run.ends,
+        calls: run.calls as u64,
+        answers: run.answers as u64,
         rounds: run.rounds,
+    };
+    if (ends.len() as u64) < run.ends {
+        return Run {
+            refusal: Refusal::ListShort.number(),
+            ..ran
+        };
     }
+    ran
 }

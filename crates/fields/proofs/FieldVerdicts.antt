@@ -2,12 +2,10 @@
 use mathlib.Core.Path.{◌≡◌, refl, ap, sym, ◌∙◌}
 use mathlib.Core.Bool.{Bool, true, false, not, ◌&&◌}
 use mathlib.Core.List.{List, [], ◌∷◌, ◌++◌}
-use Prim.Native.Nat.{ℕ, suc, ◌+◌, ◌≤◌, ◌<◌}
+use Prim.Native.Nat.{ℕ, suc, ◌≤◌, ◌<◌}
 use native.Mathlib.Omega.{arith}
-use native.Mathlib.Numerals.{add-one}
 use lib.Dec.{eqb}
-use lib.ListN.{length, get_or}
-use lib.Seq.{slice, slice-cons, slice_empty}
+use lib.ListN.{length}
 use borrow.Author.Tests.{lt-ltb, le-ltb}
 use Rattle.refusals.specs.Sheet.{line_refusals}
 use Rattle.steps.specs.State.{holds, added}
@@ -107,19 +105,16 @@ mark_le b (x ∷ xs) = go (eqb x b) (mark_le b xs)
     go true h = omega arith
     go false h = omega arith
 
-module _ (s : List ℕ) (a e : ℕ) (y : Symbols) where
-  pub step_empty : a ≡ e → step_word y (slice a e s) ≡ refuse line_refusals.bad_field
+module _ (y : Symbols) (b : ℕ) (name : List ℕ) where
+  pub step_unmarked : byte_at b marks ≡ 5 → step_word y (b ∷ name) ≡ refuse line_refusals.bad_field
   unfolding step_word
-  step_empty h = ap (λ (k : ℕ). step_word y (slice k e s)) h ∙ ap (step_word y) (slice_empty e s)
+  step_unmarked q = rw q
 
-  module _ (h : a < e) (k : e ≤ length s) where
-    pub step_unmarked : byte_at (get_or s a 0) marks ≡ 5 → step_word y (slice a e s) ≡ refuse line_refusals.bad_field
-    unfolding step_word
-    step_unmarked q = ap (step_word y) (slice-cons a e s 0 h k) ∙ rw q
+  pub step_marked : (j : ℕ) → byte_at b marks ≡ j → j < 5 → step_word y (b ∷ name) ≡ step_from j (used_name (names_of y j) name)
+  unfolding step_word
+  step_marked j q m = rw (q, lt-ltb j 5 m)
 
-    pub step_marked : (j : ℕ) → byte_at (get_or s a 0) marks ≡ j → (j ≡ 5 → ⊥) → step_word y (slice a e s) ≡ step_from j (used_name (names_of y j) (slice (a + 1) e s))
-    unfolding step_word
-    step_marked j q p =
-        let l = mark_le (get_or s a 0) marks in
-        let m : j < 5 = omega arith in
-        ap (step_word y) (slice-cons a e s 0 h k) ∙ rw (q, lt-ltb j 5 m, add-one)
+pub step_empty : (y : Symbols) (l : List ℕ) → length l < 1 → step_word y l ≡ refuse line_refusals.bad_field
+unfolding step_word
+step_empty y [] h = refl
+step_empty y (x ∷ xs) h = absurd (omega arith)

@@ -2,5 +2,4 @@
 pub mod Verdicts
 pub mod FieldVerdicts
 pub mod NamePlaces
-pub mod NamesHeld
 pub mod Bodies

@@ -1,17 +1,15 @@
--- Verdicts as the code holds them, and what is known of a verdict that is one of acceptance. Assumes nothing.
+-- What is known of a verdict that is one of acceptance. Assumes nothing.
 use mathlib.Core.Path.{◌≡◌, refl}
 use mathlib.Core.Bool.{Bool, true, false, ◌||◌}
 use Prim.Native.Nat.{ℕ}
 use native.Mathlib.Omega.{arith}
-use borrow.Author.Tests.{eq-eqb, ne_eqb}
-use Rattle.fields.specs.Verdict.{Verdict, refuse, accept, ◌>>=◌, require}
+use Rattle.std.specs.Result.{IsErrAnd}
+use Rattle.std.proofs.Common.{Result}
+use Rattle.std.proofs.lemmas.Result.{err_from_is_err_and}
+use Rattle.refusals.specs.declared.Refusal.{Refusal}
+use Rattle.refusals.specs.Number.{number_of}
 use Rattle.fields.specs.Held.{answer}
-
-pub answer_ok : {A : Type 0} (k : ℕ) (a : A) → k ≡ 0 → answer k a ≡ accept a
-answer_ok k a e = rw (eq-eqb k 0 e)
-
-pub answer_no : {A : Type 0} (k : ℕ) (a : A) → (k ≡ 0 → ⊥) → answer k a ≡ refuse k
-answer_no k a e = rw (ne_eqb k 0 e)
+use Rattle.fields.specs.Verdict.{Verdict, refuse, accept, ◌>>=◌, require}
 
 -- no verdict is both
 pub not_both : {A : Type 0} (k : ℕ) (a : A) → refuse k ≡ accept a → ⊥
@@ -37,3 +35,7 @@ followed (accept a) f b e = (a, refl, e)
 pub neither : (t u : Bool) → (t || u) ≡ false → (t ≡ false) × (u ≡ false)
 neither true u e = let z : ◌≡◌ {A = ℕ} 0 1 = cc in absurd (omega arith)
 neither false u e = (refl, e)
+
+-- what the exit of a `?` gives: the refusal of the call
+pub refused_with : {A B : Type 0} (says : A → B) (r : Result A Refusal) (e : Refusal) → IsErrAnd r (λ y. y ≡ e) → answer says r ≡ refuse (number_of e)
+refused_with says r e h = let p = err_from_is_err_and r h in rw (p.1, p.2)

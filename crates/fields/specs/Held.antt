@@ -1,53 +1,45 @@
--- Inner contracts: how the code holds what a sheet says, names as parts of the sheet, a verdict as a number beside a value. Assumes nothing.
-use Rattle.std.specs.Prelude.{◌≡◌, ℕ, zero, suc, ◌+◌, ◌*◌, ◌-◌, ◌≤◌, ◌<◌, cond, List, [], ◌∷◌, eqb, length, get_or, take, drop, set, replicate}
-use Rattle.std.proofs.Math.Seq.{slice}
-use Rattle.fields.specs.declared.names.Names.{Names}
-use Rattle.fields.specs.declared.Body.{Body}
+-- Inner contracts: how the code holds what a sheet says, names as parts of the sheet, a verdict as a result. Assumes nothing.
+use Rattle.std.specs.Prelude.{ℕ, ◌+◌, ◌*◌, List, take, map, Option, None, Some, Result, Ok, Err}
+use Rattle.refusals.specs.declared.Refusal.{Refusal}
+use Rattle.refusals.specs.Number.{number_of}
+use Rattle.fields.specs.declared.book.Row.{Row}
+use Rattle.fields.specs.declared.book.Names.{Names}
+use Rattle.fields.specs.declared.book.Body.{Body}
+use Rattle.fields.specs.declared.names.Kind.{Kind}
+use Rattle.fields.specs.declared.names.Kind.TheVariants.{Query, Insert, Delete, Call, Deny}
 use Rattle.fields.specs.Verdict.{Verdict, refuse, accept, ◌>>=◌}
 use Rattle.fields.specs.Book.{Symbols}
 
--- The verdict that a refusal number, 0 for none, beside a value stands for.
-abbrev pub answer : {A : Type 0} → ℕ → A → Verdict A
-answer k a = cond (eqb k 0) (accept a) (refuse k)
+-- The verdict that a result stands for, by what its value says.
+abbrev pub answer : {A B : Type 0} → (A → B) → Result A Refusal → Verdict B
+answer says (Ok a) = accept (says a)
+answer says (Err refusal) = refuse (number_of refusal)
 
 -- A step of this kind with a name that was judged: its word.
 abbrev pub step_from : ℕ → Verdict ℕ → Verdict ℕ
 step_from kind name = name >>= (λ index. accept (256 * kind + index))
 
--- The n names from place lo on.
-unfoldable pub names_in : List ℕ → List ℕ → List ℕ → ℕ → ℕ → List (List ℕ)
-names_in s from to lo zero = []
-names_in s from to lo (suc n) = slice (get_or from lo 0) (get_or to lo 0) s ∷ names_in s from to (suc lo) n
+-- The names of a row.
+abbrev pub row_of : Row → List (List ℕ)
+row_of r = map (λ x. x.now) (take r.len r.names)
 
--- The names that the code holds, the fluents first.
-unfoldable pub symbols_of : List ℕ → Names → Symbols
-unfolding names_in
-symbols_of s n = record { fluents = names_in s n.from n.to 0 n.fluents; actions = names_in s n.from n.to n.fluents n.actions }
-
--- What the code keeps true of the names.
-pub record Held (s : List ℕ) (n : Names) : Type 0 where
-  pub few_fluents : n.fluents ≤ 64
-  pub few_actions : n.actions ≤ 64
-  pub size_from : length n.from ≡ 128
-  pub size_to : length n.to ≡ 128
-  pub ordered : (k : ℕ) → k < n.fluents + n.actions → get_or n.from k 0 ≤ get_or n.to k 0
-  pub inside : (k : ℕ) → k < n.fluents + n.actions → get_or n.to k 0 ≤ length s
-
--- The names with the part from p up to e behind them, not counted yet.
-abbrev pub behind : Names → ℕ → ℕ → Names
-behind n p e = record {
-  fluents = n.fluents;
-  actions = n.actions;
-  from = set n.from (n.fluents + n.actions) p;
-  to = set n.to (n.fluents + n.actions) e;
-}
+-- All names.
+abbrev pub symbols_of : Names → Symbols
+symbols_of n = record { fluents = row_of n.fluents; actions = row_of n.actions }
 
 -- The step words of a body.
 abbrev pub steps_of : Body → List ℕ
 steps_of b = take b.len b.words
 
--- What the code keeps true of a body: at most 16 words, and zeros after them.
-pub record Filled (len : ℕ) (words : List ℕ) : Type 0 where
-  pub few : len ≤ 16
-  pub size : length words ≡ 16
-  pub zeros : drop len words ≡ replicate (16 - len) 0
+-- The number of a kind: the place of its mark.
+abbrev pub kind_place : Kind → ℕ
+kind_place Query = 0
+kind_place Insert = 1
+kind_place Delete = 2
+kind_place Call = 3
+kind_place Deny = 4
+
+-- The place of a mark that may be none: 5 where it is none.
+abbrev pub mark_place : Option Kind → ℕ
+mark_place None = 5
+mark_place (Some kind) = kind_place kind

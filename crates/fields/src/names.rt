@@ -1,158 +1,156 @@
 // The names of a sheet, and the fields that define or use one.
-ghost use Rattle.std.specs.Prelude.{◌≡◌, ◌+◌, ◌-◌, ◌≤◌, ◌<◌, length};
-ghost use Rattle.std.proofs.Math.Seq.{slice};
-ghost use Rattle.chars.specs.Places.{place, byte_at};
-ghost use Rattle.fields.specs.Field.{new_name, used_name, step_word, marks};
-ghost use Rattle.fields.specs.Held.{Held, names_in, symbols_of, behind, answer, step_from};
+ghost use Rattle.std.specs.Prelude.{◌≡◌, ◌+◌, ◌<◌, [], ◌∷◌, ◌++◌, position, take, IfOk};
+ghost use Rattle.chars.specs.Places.{same, byte_at};
+ghost use Rattle.fields.specs.Field.{new_name, used_name, step_word, marks, names_of};
+ghost use Rattle.fields.specs.Held.{row_of, symbols_of, steps_of, answer, kind_place, mark_place};
 
-// The names defined so far, the fluents first: name k is the sheet's part from from[k] up to to[k].
-#[derive(Clone, Copy)]
-pub struct Names {
-    pub fluents: usize,
-    pub actions: usize,
-    pub from: [usize; 128],
-    pub to: [usize; 128],
-}
+use crate::book::{Body, Names, Row};
+use refusals::Refusal;
 
-// The names with the part from a up to e behind them, not counted yet.
-pub fn stored(n: Names, a: usize, e: usize) -> Names
-    requires actions_bound { n.fluents + n.actions < 128 }
-    requires from_len { (length n.from ≡ 128) × (length n.to ≡ 128) }
-    ensures { result ≡ behind n a e }
-{
-    let mut m = n;
-    let k = n.fluents + n.actions;
-    m.from[k] = a;
-    m.to[k] = e;
-    m
-}
-
-// The place of the part from a up to e among the names from lo up to hi, or hi.
-fn find_name(s: &[u8], a: usize, e: usize, n: Names, lo: usize, hi: usize) -> usize
-    requires held { Held s.now n }
-    requires a_le_e { (a ≤ e) × (e ≤ length s.now) }
-    requires lo_le_hi { (lo ≤ hi) × (hi ≤ n.fluents + n.actions) }
-    ensures value { result ≡ lo + place (slice a e s.now) (names_in s.now n.from n.to lo (hi - lo)) }
-    ensures upper_bound { result ≤ hi }
-{
-    let mut k = lo;
-    while k < hi {
-        let f = n.from[k];
-        let t = n.to[k];
-        if chars::same_part(s, a, e, f, t) {
-            return k;
+impl<'a> Row<'a> {
+    // No names.
+    pub fn new() -> Row<'a>
+        ensures { row_of result ≡ [] }
+    {
+        Row {
+            len: 0,
+            names: [b""; 64],
         }
-        k += 1;
     }
-    hi
+
+    // The place of a name among these, if it is one of them.
+    fn find(&self, name: &[u8]) -> Option<usize>
+        ensures { result ≡ position (λ x. same name.now x.now) (take self.now.len self.now.names) }
+    {
+        self.names[..self.len]
+            .iter()
+            .position(|x| chars::same_bytes(name, x))
+    }
+
+    // Puts a name behind these.
+    pub fn push(&mut self, name: &'a [u8])
+        requires { self.old.len < 64 }
+        ensures { row_of self.new ≡ row_of self.old ++ name.now ∷ [] }
+    {
+        self.names[self.len] = name;
+        self.len += 1;
+    }
+
+    // The number of a used name among these.
+    pub fn used(&self, name: &[u8]) -> Result<usize, Refusal>
+        ensures number { answer (λ k. k) result ≡ used_name (row_of self.now) name.now }
+        ensures small { IfOk result (λ k. k < 64) }
+    {
+        if !chars::is_name(name) {
+            return Err(Refusal::BadField);
+        }
+        self.find(name).ok_or(Refusal::Undefined)
+    }
 }
 
-// The refusal of a name that a line defines, or 0.
-pub fn new_name(s: &[u8], a: usize, e: usize, n: Names) -> u64
-    requires held { Held s.now n }
-    requires a_le_e { (a ≤ e) × (e ≤ length s.now) }
-    ensures { answer result (slice a e s.now) ≡ new_name (symbols_of s.now n) (slice a e s.now) }
-{
-    if !chars::is_name(s, a, e) {
-        return refusals::BAD_FIELD;
+impl<'a> Names<'a> {
+    // No names.
+    pub fn new() -> Names<'a>
+        ensures { symbols_of result ≡ record { fluents = []; actions = [] } }
+    {
+        Names {
+            fluents: Row::new(),
+            actions: Row::new(),
+        }
     }
-    let all = n.fluents + n.actions;
-    if find_name(s, a, e, n, 0, all) != all {
-        return refusals::REPEATED;
+
+    // Whether a line may define the name.
+    pub fn may_define(&self, name: &[u8]) -> Result<(), Refusal>
+        ensures { answer (λ _. name.now) result ≡ new_name (symbols_of self.now) name.now }
+    {
+        if !chars::is_name(name) {
+            return Err(Refusal::BadField);
+        }
+        if self.fluents.find(name).is_some() || self.actions.find(name).is_some() {
+            return Err(Refusal::Repeated);
+        }
+        Ok(())
     }
-    0
-}
 
-// A number, or a refusal.
-#[derive(Clone, Copy)]
-pub struct Checked {
-    pub refusal: u64,
-    pub value: usize,
-}
+    // The names that a step of this kind uses.
+    fn used_by(&self, kind: Kind) -> &Row<'a>
+        ensures { row_of result.now ≡ names_of (symbols_of self.now) (kind_place kind) }
+    {
+        match kind {
+            Kind::Call => &self.actions,
+            _ => &self.fluents,
+        }
+    }
 
-// The number of a used name among the names from lo up to hi.
-pub fn used_name(s: &[u8], a: usize, e: usize, n: Names, lo: usize, hi: usize) -> Checked
-    requires held { Held s.now n }
-    requires a_le_e { (a ≤ e) × (e ≤ length s.now) }
-    requires lo_le_hi { (lo ≤ hi) × (hi ≤ n.fluents + n.actions) × (hi ≤ lo + 64) }
-    ensures value_value { answer result.refusal result.value
-        ≡ used_name (names_in s.now n.from n.to lo (hi - lo)) (slice a e s.now) }
-    ensures value_bound { result.value < 64 }
-{
-    if !chars::is_name(s, a, e) {
-        return Checked {
-            refusal: refusals::BAD_FIELD,
-            value: 0,
+    // The word of a step.
+    pub fn step(&self, field: &[u8]) -> Result<u16, Refusal>
+        ensures word { answer (λ w. w) result ≡ step_word (symbols_of self.now) field.now }
+        ensures small { IfOk result (λ w. w < 1280) }
+    {
+        let [mark, name @ ..] = field else {
+            return Err(Refusal::BadField);
         };
-    }
-    let k = find_name(s, a, e, n, lo, hi);
-    if k == hi {
-        return Checked {
-            refusal: refusals::UNDEFINED,
-            value: 0,
+        let Some(kind) = Kind::of(*mark) else {
+            return Err(Refusal::BadField);
         };
-    }
-    Checked {
-        refusal: 0,
-        value: k - lo,
+        let index = self.used_by(kind).used(name)?;
+        Ok(256 * kind.number() + index as u16)
     }
 }
 
-// The kind of the step with this mark, or 5.
-fn mark_kind(mark: u8) -> usize
-    ensures { result ≡ byte_at mark marks }
-{
-    match mark {
-        b'?' => 0,
-        b'+' => 1,
-        b'-' => 2,
-        b'!' => 3,
-        b'~' => 4,
-        _ => 5,
+// What a step does, by its mark.
+#[derive(Clone, Copy, Debug, PartialEq, Eq)]
+enum Kind {
+    Query = 0,
+    Insert = 1,
+    Delete = 2,
+    Call = 3,
+    Deny = 4,
+}
+
+impl Kind {
+    // The kind of the step with this mark.
+    fn of(mark: u8) -> Option<Kind>
+        ensures { mark_place result ≡ byte_at mark marks }
+    {
+        match mark {
+            b'?' => Some(Kind::Query),
+            b'+' => Some(Kind::Insert),
+            b'-' => Some(Kind::Delete),
+            b'!' => Some(Kind::Call),
+            b'~' => Some(Kind::Deny),
+            _ => None,
+        }
+    }
+
+    // Its number in a step's word.
+    fn number(self) -> u16
+        ensures place { result ≡ kind_place self }
+        ensures few { result < 5 }
+    {
+        self as u16
     }
 }
 
-// The word of a step of this kind, from the number of its name.
-fn step_of(kind: usize, name: Checked) -> Checked
-    requires { (kind < 5) × (name.value < 64) }
-    ensures value_value { answer result.refusal result.value ≡ step_from kind (answer name.refusal name.value) }
-    ensures value_bound { result.value < 1280 }
-{
-    let r = name.refusal;
-    let v = name.value;
-    if r != 0 {
-        return name;
+impl Body {
+    // No words.
+    pub fn new() -> Body
+        ensures words { steps_of result ≡ [] }
+        ensures count { result.len ≡ 0 }
+    {
+        Body {
+            len: 0,
+            words: [0; 16],
+        }
     }
-    Checked {
-        refusal: 0,
-        value: 256 * kind + v,
-    }
-}
 
-// The word of the step from a up to e.
-pub fn step(s: &[u8], a: usize, e: usize, n: Names) -> Checked
-    requires held { Held s.now n }
-    requires a_le_e { (a ≤ e) × (e ≤ length s.now) }
-    ensures value_value { answer result.refusal result.value ≡ step_word (symbols_of s.now n) (slice a e s.now) }
-    ensures value_bound { result.value < 1280 }
-{
-    if a == e {
-        return Checked {
-            refusal: refusals::BAD_FIELD,
-            value: 0,
-        };
+    // Puts a word behind these.
+    pub fn push(&mut self, word: u16)
+        requires { self.old.len < 16 }
+        ensures more { steps_of self.new ≡ steps_of self.old ++ word ∷ [] }
+        ensures count { self.new.len ≡ self.old.len + 1 }
+    {
+        self.words[self.len] = word;
+        self.len += 1;
     }
-    let kind = mark_kind(s[a]);
-    if kind == 5 {
-        return Checked {
-            refusal: refusals::BAD_FIELD,
-            value: 0,
-        };
-    }
-    let fluents = n.fluents;
-    if kind == 3 {
-        let all = fluents + n.actions;
-        return step_of(3, used_name(s, a + 1, e, n, fluents, all));
-    }
-    step_of(kind, used_name(s, a + 1, e, n, 0, fluents))
 }

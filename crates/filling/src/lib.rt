@@ -8,7 +8,7 @@
 // or justified: so they hold exactly the run's calls and answers.
 #![tactic(auto)]
 
-ghost use Rattle.std.specs.Prelude.{◌≡◌, false, List, ℕ, ◌+◌, ◌/◌, ◌<◌, ◌≤◌, length};
+ghost use Rattle.std.specs.Prelude.{◌≡◌, true, false, List, ℕ, ◌+◌, ◌/◌, ◌<◌, ◌≤◌, length, MatchResult};
 ghost use Rattle.steps.specs.Widths.{rule_width};
 ghost use Rattle.records.specs.Bodies.{bodies_with};
 ghost use Rattle.tabling.proofs.Evidence.{Among, Valid};
@@ -26,10 +26,16 @@ use search::{Job, Leave, Spot};
 use steps::state::State;
 use steps::word;
 
-// How many records the tables hold and how many rounds added some, or that a table is full.
-#[derive(Clone, Copy)]
+// How many records the tables hold where one of them is full.
+#[derive(Clone, Copy, Debug, PartialEq, Eq)]
+pub struct Full {
+    pub calls: usize,
+    pub answers: usize,
+}
+
+// How many records the tables hold, and how many rounds added some.
+#[derive(Clone, Copy, Debug, PartialEq, Eq)]
 pub struct Counted {
-    pub full: bool,
     pub calls: usize,
     pub answers: usize,
     pub rounds: u64,
@@ -38,22 +44,21 @@ pub struct Counted {
 // How far the rounds have come: how many records the tables hold, up to which call record and with which answers records were walked, the
 // number of the last walk, and that of the round which is now.
 #[derive(Clone, Copy)]
-pub struct Stage {
-    pub calls: usize,
-    pub answers: usize,
-    pub walked: usize,
-    pub seen: usize,
-    pub walk: u64,
-    pub round: u64,
+struct Stage {
+    calls: usize,
+    answers: usize,
+    walked: usize,
+    seen: usize,
+    walk: u64,
+    round: u64,
 }
 
-// What a round leaves: how many records there are then, or that a table is full, and the number of its last walk.
+// What a round leaves: how many records there are then, and the number of its last walk.
 #[derive(Clone, Copy)]
-pub struct Ended {
-    pub full: bool,
-    pub calls: usize,
-    pub answers: usize,
-    pub walk: u64,
+struct Ended {
+    calls: usize,
+    answers: usize,
+    walk: u64,
 }
 
 // Whether a walk of the body goes past its first step, or comes to a call there or to the end.
@@ -67,10 +72,9 @@ fn goes_on(body: &[u16], state: State) -> bool
     if word::is_call(step) {
         return true;
     }
-    let next = word::elementary(step, state);
-    match next {
-        word::Next::On(_) => true,
-        word::Next::Stuck => false,
+    match word::elementary(step, state) {
+        Some(_) => true,
+        None => false,
     }
 }
 
@@ -81,14 +85,12 @@ fn first_body(rules: &[u16], goals: Goals, action: u64) -> usize
         → Other rules.now goals.first goals.second k action) }
 {
     let end = rules.len() / word::RULE_WORDS + 1;
-    let mut k = 0;
-    while k < end {
+    for k in 0..end {
         if bodies::is_at(rules, goals, k, action) {
             return k;
         }
-        k += 1;
     }
-    k
+    end
 }
 
 // One more than the last of them that is, or 0.
@@ -97,14 +99,13 @@ fn past_body(rules: &[u16], goals: Goals, action: u64) -> usize
     ensures { (result ≤ length rules.now / rule_width + 1) × ((k : ℕ) → result ≤ k
         → k < length rules.now / rule_width + 1 → Other rules.now goals.first goals.second k action) }
 {
-    let mut k = rules.len() / word::RULE_WORDS + 1;
-    while 0 < k {
-        if bodies::is_at(rules, goals, k - 1, action) {
-            return k;
+    let end = rules.len() / word::RULE_WORDS + 1;
+    for k in (0..end).rev() {
+        if bodies::is_at(rules, goals, k, action) {
+            return k + 1;
         }
-        k -= 1;
     }
-    k
+    0
 }
 
 // One round: walks every body of the call records from `first` on, but for those that have nothing to add, with the answers that stood at its
@@ -120,13 +121,15 @@ fn round<'a>(
     calls: &mut [u64],
     list: &mut [u64],
     answers: &mut [u64],
-) -> Ended
+) -> Result<Ended, Full>
     requires accepted { Accepted rules.now goal.now second.now }
     requires standing { Standing (bodies_with rules.now goals.first goals.second goal.now second.now) most stage.round first stage.walked
         stage.seen calls.old list.old stage.calls answers.old stage.answers stage.walk }
-    ensures { Went (bodies_with rules.now goals.first goals.second goal.now second.now) most
-        stage.round first stage.walked stage.seen calls.old list.old stage.calls answers.old
-        stage.answers result.full calls.new list.new result.calls answers.new result.answers result.walk }
+    ensures { MatchResult result
+        (λ r. Went (bodies_with rules.now goals.first goals.second goal.now second.now) most stage.round first stage.walked stage.seen
+        calls.old list.old stage.calls answers.old stage.answers false calls.new list.new r.calls answers.new r.answers r.walk)
+        (λ r. Went (bodies_with rules.now goals.first goals.second goal.now second.now) most stage.round first stage.walked stage.seen
+        calls.old list.old stage.calls answers.old stage.answers true calls.new list.new r.calls answers.new r.answers 0) }
 {
     let count = rules.len() / word::RULE_WORDS;
     let rows = stage.calls;
@@ -141,94 +144,82 @@ fn round<'a>(
     let mut n = rows;
     let mut m = known;
     let mut walk = stage.walk;
-    // Left in its first turn: it stands for a block with a label.
-    'round: loop {
-        for row in low..top {
-            if high <= row {
-                if row < walked {
-                    continue;
-                }
+    for row in low..top {
+        if high <= row && row < walked {
+            continue;
+        }
+        let own = desk::action_of(calls, row);
+        let from = first_body(rules, goals, own);
+        let past = past_body(rules, goals, own);
+        for rule in from..past {
+            let action = desk::action_of(calls, row);
+            if !bodies::is_at(rules, goals, rule, action) {
+                continue;
             }
-            let own = desk::action_of(calls, row);
-            let from = first_body(rules, goals, own);
-            let past = past_body(rules, goals, own);
-            for rule in from..past {
-                let action = desk::action_of(calls, row);
-                if !bodies::is_at(rules, goals, rule, action) {
-                    continue;
-                }
-                let number = bodies::number_of(rule, count);
-                let body = bodies::steps_for(rules, goal, second, goals, number, action);
-                if !goes_on(body, desk::state_of(calls, row)) {
-                    continue;
-                }
-                walk = marks::next_walk(calls, n, walk);
-                let job = Job {
-                    rule: number,
-                    row: row,
-                    known: known,
-                    most: most,
-                    walk: walk,
-                    first: first,
-                    old: span.old,
-                    seen: seen,
-                    warm: span.warm,
-                    round: round,
-                };
-                let mut chosen = [0u64; 16];
-                let mut rest = body;
-                let mut spot = Spot {
-                    state: desk::state_of(calls, row),
-                    last: 0,
-                };
-                loop {
-                    let turn = search::turn(
-                        body,
-                        rest,
-                        job,
-                        calls,
-                        n,
-                        list,
-                        answers,
-                        m,
-                        &mut chosen,
-                        spot,
-                    );
-                    n = turn.calls;
-                    m = turn.answers;
-                    let next = turn.leave;
-                    match next {
-                        Leave::On(after) => {
-                            rest = &rest[1..];
-                            spot = after;
-                        }
-                        Leave::Back(place, after) => {
-                            rest = &body[place..];
-                            spot = after;
-                        }
-                        Leave::Done => {
-                            break;
-                        }
-                        Leave::Full => {
-                            break 'round;
-                        }
+            let number = bodies::number_of(rule, count);
+            let body = bodies::steps_for(rules, goal, second, goals, number, action);
+            if !goes_on(body, desk::state_of(calls, row)) {
+                continue;
+            }
+            walk = marks::next_walk(calls, n, walk);
+            let job = Job {
+                rule: number,
+                row: row,
+                known: known,
+                most: most,
+                walk: walk,
+                first: first,
+                old: span.old,
+                seen: seen,
+                warm: span.warm,
+                round: round,
+            };
+            let mut chosen = [0u64; 16];
+            let mut rest = body;
+            let mut spot = Spot {
+                state: desk::state_of(calls, row),
+                last: 0,
+            };
+            loop {
+                let turn = search::turn(
+                    body,
+                    rest,
+                    job,
+                    calls,
+                    n,
+                    list,
+                    answers,
+                    m,
+                    &mut chosen,
+                    spot,
+                );
+                n = turn.calls;
+                m = turn.answers;
+                match turn.leave {
+                    Leave::On(after) => {
+                        rest = &rest[1..];
+                        spot = after;
+                    }
+                    Leave::Back(place, after) => {
+                        rest = &body[place..];
+                        spot = after;
+                    }
+                    Leave::Done => break,
+                    Leave::Full => {
+                        return Err(Full {
+                            calls: n,
+                            answers: m,
+                        });
                     }
                 }
             }
         }
-        return Ended {
-            full: false,
-            calls: n,
-            answers: m,
-            walk: walk,
-        };
     }
-    Ended {
-        full: true,
+    Ok(Ended {
         calls: n,
         answers: m,
         walk: walk,
-    }
+    })
 }
 
 // Rounds over the call records from `first` on until one adds nothing, under the rules and the goals that stand, or until a table is full. The
@@ -247,7 +238,7 @@ pub fn fill<'a>(
     m0: usize,
     most: usize,
     first: usize,
-) -> Counted
+) -> Result<Counted, Full>
     requires kept { Kept most calls.old list.old n0 answers.old m0 × Indexed most calls.old list.old n0 answers.old m0
         × Stamped (mark_words calls.old) 0 × (first ≤ n0) × ((k : ℕ) → heat (uses_in calls.old list.old) k ≡ 0)
         × ((x : ℕ) → x < m0 → (packed_answers answers.old m0).round x ≡ 0) }
@@ -256,9 +247,11 @@ pub fn fill<'a>(
         (in_words calls.old n0 answers.old m0) }
     ensures { (roots : List (ℕ × ℕ)) → Valid (bodies_with rules.now goals.first goals.second goal.now
         second.now) (Among roots) (in_words calls.old n0 answers.old m0)
-        → Filled (bodies_with rules.now goals.first goals.second goal.now second.now) most roots first
-        (in_words calls.old n0 answers.old m0) calls.old list.old answers.old
-        calls.new list.new answers.new result.full result.calls result.answers result.rounds }
+        → MatchResult result
+        (λ r. Filled (bodies_with rules.now goals.first goals.second goal.now second.now) most roots first (in_words calls.old n0 answers.old m0)
+        calls.old list.old answers.old calls.new list.new answers.new false r.calls r.answers r.rounds)
+        (λ r. Filled (bodies_with rules.now goals.first goals.second goal.now second.now) most roots first (in_words calls.old n0 answers.old m0)
+        calls.old list.old answers.old calls.new list.new answers.new true r.calls r.answers 0) }
 {
     let mut n = n0;
     let mut m = m0;
@@ -277,24 +270,15 @@ pub fn fill<'a>(
         };
         let done = round(
             rules, goal, second, goals, most, first, stage, calls, list, answers,
-        );
+        )?;
         let rows = done.calls;
         let known = done.answers;
-        if done.full {
-            return Counted {
-                full: true,
-                calls: rows,
-                answers: known,
-                rounds: rounds,
-            };
-        }
         if rows + known == n + m {
-            return Counted {
-                full: false,
+            return Ok(Counted {
                 calls: rows,
                 answers: known,
                 rounds: rounds,
-            };
+            });
         }
         arranging::order(calls, n, rows, list, answers, m, known, most);
         walked = n;

@@ -20,13 +20,11 @@ pub fn count(answers: &[u64], m: usize, row: u64) -> u64
     requires { (packed_width * m ≤ length answers.now) × (m ≤ 65536) }
     ensures { result ≡ length (finals_below (packed_answers answers.now m) row m) }
 {
-    let mut found: u64 = 0;
-    let mut x = 0;
-    while x < m {
+    let mut found = 0;
+    for x in 0..m {
         if desk::call_of(answers, x) == row {
             found += 1;
         }
-        x += 1;
     }
     found
 }
@@ -39,13 +37,11 @@ fn gather(answers: &[u64], m: usize, row: u64, list: &mut [u64]) -> usize
         × (list.new ≡ finals_below (packed_answers answers.now m) row m ++ drop result list.old) }
 {
     let mut found = 0;
-    let mut x = 0;
-    while x < m {
+    for x in 0..m {
         if desk::call_of(answers, x) == row {
             list[found] = desk::final_of(answers, x).0;
             found += 1;
         }
-        x += 1;
     }
     found
 }
@@ -55,11 +51,9 @@ fn put_lines(list: &[u64], n: usize, words: &mut [u64], at: usize)
     requires { (n ≤ length list.now) × (at + line_width * n ≤ length words.old) }
     ensures { Lined list.now n at words.old words.new }
 {
-    let mut i = 0;
-    while i < n {
+    for (i, word) in list[..n].iter().enumerate() {
         words[at + radix::LINE_WORDS * i] = 0;
-        words[at + radix::LINE_WORDS * i + 1] = list[i];
-        i += 1;
+        words[at + radix::LINE_WORDS * i + 1] = *word;
     }
 }
 
@@ -68,10 +62,8 @@ fn take_words(words: &[u64], at: usize, n: usize, list: &mut [u64])
     requires { (at + line_width * n ≤ length words.now) × (n ≤ length list.old) }
     ensures { Taken words.now at n list.old list.new }
 {
-    let mut i = 0;
-    while i < n {
-        list[i] = words[at + radix::LINE_WORDS * i + 1];
-        i += 1;
+    for (i, word) in list[..n].iter_mut().enumerate() {
+        *word = words[at + radix::LINE_WORDS * i + 1];
     }
 }
 
@@ -89,9 +81,9 @@ fn by_lines(list: &mut [u64], n: usize, words: &mut [u64], at: usize)
 // Writes the final states of this call record's answers to the head of the list in rising order; the list past them stays. The words of the
 // answers from `at` on are free, and may hold anything then.
 pub fn list(answers: &mut [u64], m: usize, row: u64, ends: &mut [u64], at: usize)
-    requires m_in_bounds { (packed_width * m ≤ length answers.old) × (m ≤ 65536)
+    requires found_fits { (packed_width * m ≤ length answers.old) × (m ≤ 65536)
         × (length (finals_below (packed_answers answers.old m) row m) ≤ length ends.old) }
-    requires m_in_bounds_2 { (at + line_width * m + line_width * m ≤ length answers.old) × AnswersOnce (packed_answers answers.old m) }
+    requires room { (at + line_width * m + line_width * m ≤ length answers.old) × AnswersOnce (packed_answers answers.old m) }
     ensures finals_listed { FinalsListed (packed_answers answers.old m) row ends.old ends.new }
     ensures below { Below at answers.old answers.new }
 {
@@ -119,7 +111,7 @@ pub fn of_call(
         ends.old ends.new }
     ensures below { Below at answers.old answers.new }
 {
-    let row = tables::find_call(calls, n, call) as u64;
+    let row = tables::find_call(calls, n, call).unwrap_or(n) as u64;
     let found = count(answers, m, row);
     if (ends.len() as u64) < found {
         return found;

@@ -5,7 +5,7 @@ use native.Mathlib.Decide.{ℕ_discrete}
 use mathlib.Core.Path.{◌≡◌, refl, sym, ap, subst, ◌∙◌}
 use mathlib.Core.Bool.{Bool, true}
 use mathlib.Core.List.{List, [], ◌∷◌}
-use mathlib.Core.Logic.{◌≢◌, ⊎_elim}
+use mathlib.Core.Logic.{⊎_elim}
 use lib.Bits.{bit_or, bit_and, and_step, and_shr}
 use lib.ListN.{get_or, length, take, set, replicate, length-set}
 use lib.Seq.{get_or-set_same, get_or-set_other, take_all}
@@ -18,7 +18,7 @@ use Rattle.steps.proofs.Deductions.{RuleOf}
 use Rattle.steps.proofs.Execution.{Runs, ended, runs_join}
 use Rattle.steps.proofs.StateLaws.{no_bit}
 use Rattle.steps.proofs.Tables.{walk_runs}
-use Rattle.masks.specs.Masks.{Carried, WalkTo, Guide, Grown, SoundMarks, Added, Settled, Came, Noted, Ready}
+use Rattle.masks.specs.Masks.{Carried, WalkTo, Grown, SoundMarks, Added, Settled, Came, Noted, Ready}
 use Rattle.masks.proofs.Walking.{From, or_split, bit_one, one_more}
 use Rattle.gains.proofs.Widening.{guide_kept, grown_then, added_grown, added_sound}
 

@@ -1,14 +1,14 @@
 -- Passes over the rules at a place: what the walk of one rule adds, why a rule that calls no action that has gained needs no walk, and why a
 -- place stays settled while earlier places are. Assumes nothing.
-use Prim.Native.Nat.{ℕ, zero, suc, ◌+◌, ◌-◌, ◌*◌, ◌/◌, ◌%◌, ◌^◌, ◌<◌, ◌≤◌}
+use Prim.Native.Nat.{ℕ, zero, suc, ◌+◌, ◌*◌, ◌/◌, ◌%◌, ◌^◌, ◌<◌, ◌≤◌}
 use native.Mathlib.Omega.{arith}
-use native.Mathlib.Decide.{dec_lt, ℕ_discrete}
+use native.Mathlib.Decide.{ℕ_discrete}
 use mathlib.Core.Path.{◌≡◌, refl, sym, ap, subst, ◌∙◌}
-use mathlib.Core.Bool.{Bool, true, false, not}
+use mathlib.Core.Bool.{Bool, true, false}
 use mathlib.Core.List.Memᴰ
 use mathlib.Core.List.{List, [], ◌∷◌, Memᴰ}
 use mathlib.Core.Logic.{◌≢◌, ◌⊎◌, inl, inr, ⊎_elim}
-use lib.Bits.{bit_or, bit_and, or_add_and, and_le_r, or_lt, or_zero_r}
+use lib.Bits.{bit_or, or_add_and, and_le_r, or_lt}
 use lib.Dec.{eqb}
 use lib.ListN.{get_or, length, set, length-set}
 use lib.Seq.{get_or-set_same, get_or-set_other, set-get_or}
@@ -23,8 +23,8 @@ use Rattle.steps.proofs.Execution.{Runs, ended, does, uses, Ends}
 use Rattle.steps.proofs.Tables.{Walk, stands, walks, takes, walk_runs}
 use Rattle.steps.proofs.Lists.{member_at}
 use Rattle.steps.proofs.WordLaws.{word_call, rule_member}
-use Rattle.masks.specs.Masks.{Carried, carries, Held, Mask, WalkTo, Guide, Wide, total, Grown, Walkable, NoCall, word_at, SoundMarks, ClosedRule, Fresh, Added, Widened, Turned, Passed, Settled, AllSettled}
-use Rattle.masks.proofs.Walking.{bit_of_or, or_split, or_left, or_right, one_bit, walk_below}
+use Rattle.masks.specs.Masks.{Carried, carries, Held, WalkTo, Guide, Wide, total, Grown, Walkable, NoCall, word_at, SoundMarks, ClosedRule, Added, Widened}
+use Rattle.masks.proofs.Walking.{bit_of_or, or_split, or_left, or_right, walk_below}
 
 -- an execution over places goes up, and no further than the steps can run
 pub runs_up : {steps : List Step} {runs : ℕ} {Has : ℕ → Body → Type 0} {i j : ℕ} {body : Body} → Runs (Carried steps runs) Has i body j → i ≤ runs → (i ≤ j) × (j ≤ runs)

@@ -20,13 +20,7 @@ fn list_step(step: u16, number: usize, action: usize, listed: usize, calls: &mut
     requires { (number < 4352) × (listed ≤ 4096) × (length calls.old ≡ 4161) }
     ensures { result ≤ 4096 }
 {
-    if listed == 4096 {
-        return listed;
-    }
-    if !word::is_call(step) {
-        return listed;
-    }
-    if word::index(step) as usize != action {
+    if listed == 4096 || !word::is_call(step) || word::index(step) as usize != action {
         return listed;
     }
     calls[65 + listed] = number as u16;
@@ -37,12 +31,9 @@ fn list_rule(rules: &[u16], r: usize, action: usize, from: usize, calls: &mut [u
     requires { (r < length rules.now / rule_width) × Walkable rules.now × (from ≤ 4096) × (length calls.old ≡ 4161) }
     ensures { result ≤ 4096 }
 {
-    let body = bodies::rule_steps(rules, r);
     let mut listed = from;
-    let mut p = 0;
-    while p < body.len() {
-        listed = list_step(body[p], 17 * r + p, action, listed, calls);
-        p += 1;
+    for (p, step) in bodies::rule_steps(rules, r).iter().enumerate() {
+        listed = list_step(*step, 17 * r + p, action, listed, calls);
     }
     listed
 }
@@ -51,12 +42,9 @@ fn list_action(rules: &[u16], action: usize, from: usize, calls: &mut [u16]) -> 
     requires { Walkable rules.now × (from ≤ 4096) × (length calls.old ≡ 4161) }
     ensures { result ≤ 4096 }
 {
-    let count = rules.len() / steps::word::RULE_WORDS;
     let mut listed = from;
-    let mut r = 0;
-    while r < count {
+    for r in 0..rules.len() / word::RULE_WORDS {
         listed = list_rule(rules, r, action, listed, calls);
-        r += 1;
     }
     listed
 }
@@ -66,11 +54,9 @@ pub fn list_calls(rules: &[u16], calls: &mut [u16])
     requires { Walkable rules.now × (length calls.old ≡ 4161) }
 {
     let mut listed = 0;
-    let mut action = 0;
-    while action < 64 {
+    for action in 0..64 {
         calls[action] = listed as u16;
         listed = list_action(rules, action, listed, calls);
-        action += 1;
     }
     calls[64] = listed as u16;
 }
@@ -85,7 +71,7 @@ fn note(notes: &mut [u64], at: usize, found: u64) -> u64
 {
     let old = notes[at];
     notes[at] = old | found;
-    found & (old ^ 18446744073709551615)
+    found & !old
 }
 
 // Notes the places found before step p of rule r, and walks on from those that are new. Gives the rule's head, as a mask, if its word has gained.
@@ -107,14 +93,12 @@ fn walk_on(
 {
     let body = bodies::rule_steps(rules, r);
     let mut new = note(notes, 17 * r + from, found);
-    let mut p = from;
-    while p < body.len() {
+    for p in from..body.len() {
         if new == 0 {
             return 0;
         }
         let next = masks::spread(new, body[p], runs, recorded, table);
-        p += 1;
-        new = note(notes, 17 * r + p, next);
+        new = note(notes, 17 * r + (p + 1), next);
     }
     if masks::add(rules, r, new, place, table) {
         return 1 << masks::head(rules, r);
@@ -139,14 +123,11 @@ fn walk_behind(
         × Ready rules.now recorded.now runs place table.new notes.new }
 {
     let noted = notes[number + 1];
-    if noted | word == noted {
-        return 0;
-    }
-    if !masks::has(notes[number], place) {
+    if noted | word == noted || !masks::has(notes[number], place) {
         return 0;
     }
     let r = number / 17;
-    if rules.len() / steps::word::RULE_WORDS <= r {
+    if rules.len() / word::RULE_WORDS <= r {
         return 0;
     }
     let body = bodies::rule_steps(rules, r);
@@ -174,19 +155,15 @@ fn follow(
         × Ready rules.now recorded.now runs place table.new notes.new }
 {
     let word = table[64 * action + place];
+    let first = calls[action] as usize;
     let end = calls[action + 1] as usize;
     let mut more: u64 = 0;
-    let mut n = calls[action] as usize;
-    while n < end {
-        if 4095 < n {
-            return more;
-        }
+    for n in first..end.min(4096) {
         let number = calls[65 + n] as usize;
         if 4350 < number {
             return more;
         }
-        more = more | walk_behind(rules, number, word, place, runs, recorded, table, notes);
-        n += 1;
+        more |= walk_behind(rules, number, word, place, runs, recorded, table, notes);
     }
     more
 }
@@ -204,12 +181,9 @@ fn walk_all(
     ensures { Grown place table.old table.new
         × Ready rules.now recorded.now runs place table.new notes.new }
 {
-    let count = rules.len() / steps::word::RULE_WORDS;
     let mut more: u64 = 0;
-    let mut r = 0;
-    while r < count {
-        more = more | walk_on(rules, r, 0, 1 << place, place, runs, recorded, table, notes);
-        r += 1;
+    for r in 0..rules.len() / word::RULE_WORDS {
+        more |= walk_on(rules, r, 0, 1 << place, place, runs, recorded, table, notes);
     }
     more
 }
@@ -230,15 +204,13 @@ fn follow_all(
         × Ready rules.now recorded.now runs place table.new notes.new }
 {
     let mut gained = actions;
-    let mut n: usize = 0;
-    while n < 4096 {
+    for _ in 0..4096 {
         if gained == 0 {
             return;
         }
         let action = masks::lowest(gained);
         let rest = gained - (1 << action);
         gained = rest | follow(rules, action, calls, place, runs, recorded, table, notes);
-        n += 1;
     }
 }
 

@@ -9,11 +9,11 @@ use lib.ListN.{length, get_or}
 use Rattle.steps.specs.State.{State}
 use Rattle.quarters.specs.Quarters.{quarter}
 use Rattle.records.specs.Records.{room, call_width}
-use Rattle.records.specs.Storage.{NoCall, CallPut, call_added, NoAnswer, AnswerAdded, AnswerPut, answer_added}
-use Rattle.desk.specs.Desk.{open_calls, packed_width, packed_answers, round_top, call_put, packed_record, Written, CallsOpen, AnswersOpen}
-use Rattle.desk.proofs.CallLaws.{put_long, put_notes, put_stored, put_marks, put_added}
+use Rattle.records.specs.Storage.{NoAnswer, AnswerAdded, AnswerPut, answer_added}
+use Rattle.desk.specs.Desk.{packed_width, packed_answers, round_top, call_put, packed_record, Written, CallsOpen, AnswersOpen}
+use Rattle.desk.proofs.CallLaws.{put_long, put_stored, put_added}
 use Rattle.desk.proofs.AnswerLaws as answer-laws
-use Rattle.index.specs.Index.{bucket, CallIndex, AnswerIndex, Noted, CallsKept, AnswersKept, AnswerNoted}
+use Rattle.index.specs.Index.{bucket, CallIndex, AnswerIndex, Noted, CallsKept, AnswerNoted}
 use Rattle.index.proofs.IndexLaws.{call_index_more}
 
 -- ---- calls
@@ -24,9 +24,6 @@ module _ {calls list calls' : List ℕ} {n a r most : ℕ} (D : State) (o : Call
     (few : n < most) (e : most ≡ room call_width (length calls)) (z : calls' ≡ call_put calls n a D r) where
   fits : call_width * n + 3 ≤ length calls
   fits = omega arith
-
-  pub call_more_put : NoCall (open_calls calls n) a D → CallPut (room call_width (length calls)) (open_calls calls n) a D r (open_calls calls' (n + 1)) n false
-  call_more_put none = rw z (call_added refl refl (omega arith) none (put_added calls n a D r fits la lr))
 
   module _ {k : ℕ} {list' : List ℕ} (noted : Noted list 0 k n list') where
     pub call_more_open : CallsOpen calls' list' (n + 1)
@@ -39,19 +36,7 @@ module _ {calls list calls' : List ℕ} {n a r most : ℕ} (D : State) (o : Call
     call_more_index c b = rw z (call_index_more c (put_long calls n a D r) (put_added calls n a D r fits la lr) (omega arith)
         (b ∙ ap (λ (q : ℕ). bucket q a D) e) noted)
 
-    pub call_more_kept : CallsKept calls list calls' list'
-    call_more_kept = rw z (record {
-      long = put_long calls n a D r;
-      list_long = noted.rechained.long;
-      marks = λ i. ap (λ (f : ℕ → ℕ). f i) (put_marks calls n a D r fits);
-      uses = put_notes calls n a D r;
-      notes = noted.rechained.rest;
-    })
-
 -- ---- answers
-pub answers_kept : (calls answers : List ℕ) (row : ℕ) → AnswersKept calls answers calls answers row
-answers_kept calls answers row = record { long = refl; answers_long = refl; others = λ p d. refl; beside = λ j l. refl }
-
 module _ {calls answers calls' answers₁ answers' : List ℕ} {most m row : ℕ} {D : State} (rule r : ℕ) (evidence : List ℕ)
     (n : AnswerNoted most calls answers m row D calls' answers₁) (few : AnswersOpen most answers (m + 1))
     (z : Written answers₁ (packed_width * m) (packed_record row D rule evidence r) answers') where
@@ -85,6 +70,3 @@ module _ {calls answers calls' answers₁ answers' : List ℕ} {most m row : ℕ
 
   pub answer_more_open : AnswersOpen most answers' (m + 1)
   answer_more_open = record { fits = few.fits; small = few.small; long = rw answer_more_long few.long }
-
-  pub answer_more_kept : AnswersKept calls answers calls' answers' row
-  answer_more_kept = record { long = n.kept.long; answers_long = answer_more_long; others = n.kept.others; beside = n.kept.beside }

@@ -6,8 +6,6 @@ use native.Mathlib.Omega.{arith}
 use native.Mathlib.Decide.{ℕ_discrete}
 use mathlib.Core.Path.{◌≡◌, sym, ap, ◌∙◌}
 use mathlib.Core.Logic.{◌≢◌}
-use Rattle.records.specs.Records.{Answers}
-use Rattle.records.specs.Storage.{NextAnswer}
 use Rattle.index.specs.Index.{Latest, Covers, Queued}
 
 -- A record more of key k is the latest of it.
@@ -184,37 +182,3 @@ module _ (call call' firsts firsts' lasts lasts' nexts nexts' : ℕ → ℕ) (m 
             let t = nexts_kept x u in
             let (g, h, v, w) = q.next x y b a (sym (kept y a) ∙ e ∙ kept x u) in
             (omega arith, omega arith, ap call' t ∙ kept (nexts x) h ∙ v ∙ sym (kept x u), omega arith)
-
--- Of the m answers that are queued the first `known` may serve.
-module _ (answers : Answers) (m known : ℕ) (firsts lasts nexts : ℕ → ℕ) (q : Queued answers.call m firsts lasts nexts) (enough : known ≤ m) where
-  pub first_found : (row : ℕ) → row < 65536 → firsts row < known → answers.call (firsts row) ≡ row → NextAnswer answers known row 0 (firsts row)
-  first_found row s l e = record {
-    low = omega arith;
-    high = omega arith;
-    skipped = λ y b k h. let (u, v, w) = q.first row y s (omega arith) h in omega arith;
-    found = λ _. e;
-  }
-
-  pub first_none : (row : ℕ) → row < 65536 → (firsts row < known → answers.call (firsts row) ≡ row → ⊥) → NextAnswer answers known row 0 known
-  first_none row s n = record {
-    low = omega arith;
-    high = omega arith;
-    skipped = λ y b k h. let (u, v, w) = q.first row y s (omega arith) h in n (omega arith) v;
-    found = λ l. absurd (omega arith);
-  }
-
-  pub later_found : (x : ℕ) → x < nexts x → nexts x < known → answers.call (nexts x) ≡ answers.call x → NextAnswer answers known (answers.call x) (x + 1) (nexts x)
-  later_found x b l e = record {
-    low = omega arith;
-    high = omega arith;
-    skipped = λ y k g h. let (u, v, w, z) = q.next x y (omega arith) (omega arith) h in omega arith;
-    found = λ _. e;
-  }
-
-  pub later_none : (x : ℕ) → x < known → (x < nexts x → nexts x < known → answers.call (nexts x) ≡ answers.call x → ⊥) → NextAnswer answers known (answers.call x) (x + 1) known
-  later_none x i n = record {
-    low = omega arith;
-    high = omega arith;
-    skipped = λ y k g h. let (u, v, w, z) = q.next x y (omega arith) (omega arith) h in n u (omega arith) w;
-    found = λ l. absurd (omega arith);
-  }

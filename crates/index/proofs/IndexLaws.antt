@@ -1,22 +1,23 @@
 -- Laws of the two indexes in the words lent: what the quarters put make of heads, links and queues. Assumes nothing.
-use Prim.Native.Nat.{ℕ, suc, ◌+◌, ◌-◌, ◌*◌, ◌/◌, ◌%◌, ◌^◌, ◌<◌, ◌≤◌}
+use Prim.Native.Nat.{ℕ, ◌+◌, ◌-◌, ◌*◌, ◌/◌, ◌%◌, ◌^◌, ◌<◌, ◌≤◌}
 use native.Mathlib.Omega.{arith}
 use native.Mathlib.Decide.{ℕ_discrete, dec_lt}
-use native.Mathlib.Nat.{mul-add, mul-le-mul_left, div-one, one-mul, mod-lt, mod-eq_of_lt, lt_of_lt_of_le}
+use native.Mathlib.Nat.{div-one, one-mul, mod-lt, mod-eq_of_lt, lt_of_lt_of_le}
 use mathlib.Core.Path.{◌≡◌, refl, sym, ap, ◌∙◌}
-use mathlib.Core.List.{List}
+use mathlib.Core.List.{List, ◌++◌}
 use mathlib.Core.Logic.{◌≢◌}
-use lib.ListN.{length, get_or}
+use lib.ListN.{length, get_or, get_or-append, length-append}
+use lib.Seq.{get_or-append-add}
 use lib.Count.{count_leading_zeros, leading_top}
 use lib.Pow.{pow_pos, pow_mono, pow-lt}
 use Rattle.steps.specs.State.{State}
 use Rattle.quarters.specs.Quarters.{quarter, QuarterPut}
 use Rattle.records.specs.Records.{Calls, room, call_width}
-use Rattle.records.specs.Storage.{CallAt, FindCall, CallAdded, FindAnswer, NextAnswer}
-use Rattle.desk.specs.Desk.{open_calls, action_unit, packed_width, packed_answers}
+use Rattle.records.specs.Storage.{CallAt, CallAdded, NextAnswer}
+use Rattle.desk.specs.Desk.{open_calls, packed_width, packed_answers}
 use Rattle.index.specs.Index.{buckets, bucket, Covers, Queued, Reaches, Sought, Keyed, CallIndex, AnswerIndex, AnswersKeyed, heads_in, links_in, lasts_in, nexts_in, firsts_in}
-use Rattle.index.specs.Index.{answer_notes, keys_in, answer_keys, Rechained, Noted, Forgotten, Chained, LastOf, Joined, AnswerNoted}
-use Rattle.index.proofs.Chains.{first_found, first_none, later_found, later_none, covers_none, covers_more, covers_less, covers_same, queued_none, queued_same, queued_behind, queued_alone}
+use Rattle.index.specs.Index.{answer_notes, keys_in, Rechained, Noted, Forgotten, Chained, LastOf, Joined, AnswerNoted}
+use Rattle.index.proofs.Chains.{covers_none, covers_more, covers_less, covers_same, queued_none, queued_same, queued_behind, queued_alone}
 
 -- There are no more buckets than records.
 buckets_few : (most : ℕ) → 0 < most → buckets most ≤ most
@@ -39,19 +40,9 @@ pub buckets_some : (most : ℕ) → 0 < buckets most
 unfolding buckets
 buckets_some most = pow_pos (63 - count_leading_zeros 64 most)
 
-pub some_bucket : {n most : ℕ} → n ≢ 0 → n ≤ most → 0 < most
-some_bucket d l = omega arith
-
 -- The bucket of record i.
 abbrev pub key_in : ℕ → ℕ → ℕ → List ℕ → ℕ → ℕ
 key_in most unit width words i = bucket most (get_or words (width * i) 0 / unit) (get_or words (width * i + 1) 0)
-
--- A record of `width` words among n lies in the table.
-pub record_inside : (width i n len : ℕ) → 2 ≤ width → i < n → width * n ≤ len → width * i + 2 ≤ len
-record_inside width i n len wide below fits =
-    let e : width * (i + 1) ≡ width * i + width * 1 = mul-add width i 1 in
-    let m : width * (i + 1) ≤ width * n = mul-le-mul_left width (omega arith) in
-    omega arith
 
 -- ---- a quarter put: the other quarters of all words, and all quarters of the other words
 module _ {words words' : List ℕ} {i j v : ℕ} (p : QuarterPut words i j v words') where
@@ -81,31 +72,6 @@ module _ {words words₁ words' : List ℕ} {base k n v : ℕ} where
     links = λ i d. put_beside q (base + i) 2 (omega arith) (omega arith) ∙ put_elsewhere p (base + i) 2 (omega arith);
   }
 
-pub forgotten_by : {words words' : List ℕ} {base k n v : ℕ} → v ≡ links_in words base n → QuarterPut words (base + k) 3 v words'
-    → Forgotten words base k n words'
-forgotten_by {words} {words'} {base} e p = record {
-  rechained = record {
-    long = p.long;
-    below = λ x l. p.other x (omega arith);
-    rest = λ x j l. put_beside p x j (omega arith) (omega arith);
-  };
-  head = p.changed.here ∙ e;
-  heads = λ i d. put_elsewhere p (base + i) 3 (omega arith);
-  links = λ i. put_beside p (base + i) 2 (omega arith) (omega arith);
-}
-
-pub joined_by : {words words₁ words' : List ℕ} {base f last m : ℕ} → QuarterPut words (base + last) 0 m words₁ → QuarterPut words₁ (base + f) 1 m words'
-    → Joined words base f last m words'
-joined_by {base = base} {f} {last} p q = record {
-  long = q.long ∙ p.long;
-  below = λ x l. q.other x (omega arith) ∙ p.other x (omega arith);
-  next = put_beside q (base + last) 0 (omega arith) (omega arith) ∙ p.changed.here;
-  nexts = λ x d. put_beside q (base + x) 0 (omega arith) (omega arith) ∙ put_elsewhere p (base + x) 0 (omega arith);
-  end = q.changed.here;
-  lasts = λ x d. put_elsewhere q (base + x) 1 (omega arith) ∙ put_beside p (base + x) 1 (omega arith) (omega arith);
-  rest = λ x j l two. put_beside q x j l (omega arith) ∙ put_beside p x j l (omega arith);
-}
-
 rechained_on : {base : ℕ} {words words₁ words' : List ℕ} → Rechained base words words₁ → Rechained base words₁ words' → Rechained base words words'
 rechained_on p q = record {
   long = q.long ∙ p.long;
@@ -115,9 +81,6 @@ rechained_on p q = record {
 
 -- The first records taken out from the latest down and noted from the first up.
 module _ {most base : ℕ} {key : ℕ → ℕ} {words₀ : List ℕ} where
-  pub chained_start : {n : ℕ} → Covers most key n (heads_in words₀ base) (links_in words₀ base) → Chained most key n base words₀ words₀
-  chained_start c = record { rechained = record { long = refl; below = λ p l. refl; rest = λ p j l. refl }; covers = c }
-
   module _ (i : ℕ) {k : ℕ} {words words' : List ℕ} (e : k ≡ key i) where
     pub chained_less : Chained most key (i + 1) base words₀ words → Forgotten words base k i words' → Chained most key i base words₀ words'
     chained_less c p = record {
@@ -148,29 +111,6 @@ module _ (most : ℕ) (calls : Calls) (a : ℕ) (D : State) (words : List ℕ) (
       let (x, y, g) = c.link i j m (omega arith) (key_of j h ∙ sym k) in
       rw e (x, (omega arith, y ∙ k, g))
 
--- A call is found by the keys of its record, and so is an answer.
-pub found_call : (calls : List ℕ) (n a : ℕ) (D : State) (r : ℕ) → FindCall (keys_in action_unit call_width calls n) a D r → FindCall (open_calls calls n) a D r
-found_call calls n a D r h = record {
-  found = λ l. let c = h.found l in record { has_action = c.has_action; has_state = c.has_state };
-  absent = λ l x b e. h.absent l x b (record { has_action = e.has_action; has_state = e.has_state });
-}
-
-pub found_answer : (words : List ℕ) (m row : ℕ) (f : State) (r : ℕ) → FindCall (keys_in 1 packed_width words m) row f r
-    → FindAnswer (packed_answers words m) row f r
-found_answer words m row f r h = record {
-  found = λ l. let c = h.found l in record { has_call = sym (div-one _) ∙ c.has_action; has_final = c.has_state };
-  absent = λ l x b e. h.absent l x b (record { has_action = div-one _ ∙ e.has_call; has_state = e.has_final });
-}
-
--- The indexes as those of any records by their keys.
-pub call_index_keyed : {calls list : List ℕ} {n : ℕ} (most : ℕ) → CallIndex calls list n → most ≡ room call_width (length calls)
-    → Keyed most (keys_in action_unit call_width calls n) list 0
-call_index_keyed most c e = rw e c.covers
-
-pub call_index_of : {calls list₀ list : List ℕ} {n most : ℕ} → Chained most (key_in most action_unit call_width calls) n 0 list₀ list
-    → most ≡ room call_width (length calls) → CallIndex calls list n
-call_index_of {most = most} c e = record { covers = rw e at c.covers }
-
 pub answers_keyed : (answers : List ℕ) (m most : ℕ) → AnswersKeyed most answers m → Keyed most (keys_in 1 packed_width answers m) answers (packed_width * most)
 answers_keyed answers m most c =
     covers_same c (λ i l. ap (λ (a : ℕ). bucket most a (get_or answers (packed_width * i + 1) 0)) (div-one _)) (λ k. refl) (λ i. refl)
@@ -180,11 +120,35 @@ pub key_same : {base : ℕ} {words words' : List ℕ} (most i : ℕ) → Rechain
     → key_in most 1 packed_width words' i ≡ key_in most 1 packed_width words i
 key_same most i r l = rw (r.below (packed_width * i) (omega arith), r.below (packed_width * i + 1) (omega arith)) refl
 
-pub answers_keyed_of : {answers answers' : List ℕ} {m most : ℕ} → Chained most (key_in most 1 packed_width answers) m (packed_width * most) answers answers'
-    → m ≤ most → AnswersKeyed most answers' m
-answers_keyed_of {answers} {answers'} {m} {most} c l = covers_same c.covers
-    (λ i h. ap (λ (a : ℕ). bucket most a (get_or answers' (packed_width * i + 1) 0)) (sym (div-one _)) ∙ key_same most i c.rechained (omega arith))
-    (λ k. refl) (λ i. refl)
+-- The words of the answer table as two parts: the records, and behind them the notes.
+module _ (front back : List ℕ) (most m : ℕ) (long : length front ≡ packed_width * most) (few : m ≤ most) where
+  at_notes : (k : ℕ) → get_or (front ++ back) (packed_width * most + k) 0 ≡ get_or back (0 + k) 0
+  at_notes k = let e : packed_width * most + k ≡ length front + (0 + k) = omega arith in rw e (get_or-append-add front back (0 + k) 0)
+
+  at_keys : (i : ℕ) → i < m
+      → bucket most (get_or (front ++ back) (packed_width * i) 0) (get_or (front ++ back) (packed_width * i + 1) 0) ≡ key_in most 1 packed_width front i
+  at_keys i l = rw (get_or-append front back 0 (packed_width * i) (omega arith), get_or-append front back 0 (packed_width * i + 1) (omega arith))
+      (ap (λ (a : ℕ). bucket most a (get_or front (packed_width * i + 1) 0)) (sym (div-one _)))
+
+  pub parts_keyed : AnswersKeyed most (front ++ back) m → Keyed most (keys_in 1 packed_width front m) back 0
+  parts_keyed c = covers_same c (λ i l. sym (at_keys i l)) (λ k. ap (λ (w : ℕ). quarter w 3) (sym (at_notes k))) (λ k. ap (λ (w : ℕ). quarter w 2) (sym (at_notes k)))
+
+  pub keyed_parts : Keyed most (keys_in 1 packed_width front m) back 0 → AnswersKeyed most (front ++ back) m
+  keyed_parts c = covers_same c at_keys (λ k. ap (λ (w : ℕ). quarter w 3) (at_notes k)) (λ k. ap (λ (w : ℕ). quarter w 2) (at_notes k))
+
+pub parts_rechained : {back back' : List ℕ} (front : List ℕ) {b : ℕ} → length front ≡ b → Rechained 0 back back' → Rechained b (front ++ back) (front ++ back')
+parts_rechained {back} {back'} front {b} long r = record {
+  long = simp length-append (ap (λ (n : ℕ). length front + n) r.long);
+  below = λ p l. get_or-append front back' 0 p (omega arith) ∙ sym (get_or-append front back 0 p (omega arith));
+  rest = λ p j l. rest p j l (dec_lt p (length front));
+}
+  where
+    rest : (p j : ℕ) → j < 2 → Dec (p < length front) → quarter (get_or (front ++ back') p 0) j ≡ quarter (get_or (front ++ back) p 0) j
+    rest p j l (yes h) = ap (λ (w : ℕ). quarter w j) (get_or-append front back' 0 p h ∙ sym (get_or-append front back 0 p h))
+    rest p j l (no h) =
+        let k : ℕ = p - length front in
+        let e : p ≡ length front + k = omega arith in
+        rw (e, get_or-append-add front back' k 0, get_or-append-add front back k 0) (r.rest k j l)
 
 -- ---- the index of the calls
 -- Any words are an index of a table without records.
@@ -235,18 +199,6 @@ answer_index_same {calls} {answers} {calls'} {answers'} {most} {m} c firsts same
 pub answer_index_calls : {calls calls' answers : List ℕ} {most m : ℕ} → AnswerIndex most calls answers m → ((r : ℕ) → firsts_in calls' r ≡ firsts_in calls r)
     → AnswerIndex most calls' answers m
 answer_index_calls c firsts = answer_index_same c firsts (λ x l. (refl, refl)) (λ p j l. refl)
-
--- Where heads and links were written anew for records of the same call records in other order, the queues are as they were.
-pub answer_index_again : {calls answers answers' : List ℕ} {most m : ℕ} → AnswerIndex most calls answers m → AnswersKeyed most answers' m
-    → ((x : ℕ) → x < m → (packed_answers answers' m).call x ≡ (packed_answers answers m).call x)
-    → ((p j : ℕ) → j < 2 → answer_notes most ≤ p → quarter (get_or answers' p 0) j ≡ quarter (get_or answers p 0) j) → AnswerIndex most calls answers' m
-answer_index_again {calls} {answers} {answers'} {most} {m} c keyed same notes =
-    let b = answer_notes most in
-    record {
-      covers = keyed;
-      queued = queued_same _ _ _ _ _ _ _ _ m c.queued same (λ r. refl) (λ r. notes (b + firsts_in calls r) 1 (omega arith) (omega arith))
-          (λ x. notes (b + x) 0 (omega arith) (omega arith));
-    }
 
 -- One answer more of call record `row`, whose first answer is f, or m where it has none.
 module _ {calls answers : List ℕ} {most m row f last : ℕ} (c : AnswerIndex most calls answers m) (small : row < 65536)
@@ -351,24 +303,3 @@ answer_noted_by most c small few g found l put noted joined = record {
   below = λ p h. joined.below p h ∙ noted.rechained.below p h;
   index = λ words long kept new_call new_final notes. answer_index_more c small found l words g few put noted joined kept new_call new_final notes;
 }
-
--- ---- what is read of the answers
-module _ {calls answers : List ℕ} {most m : ℕ} (known : ℕ) (c : AnswerIndex most calls answers m) (enough : known ≤ m) where
-  pub first_noted : (row x : ℕ) → row < 65536 → x ≡ firsts_in calls row → (x < known) × ((packed_answers answers known).call x ≡ row)
-      → NextAnswer (packed_answers answers known) known row 0 x
-  first_noted row x s z (l, e) = rw z (first_found (packed_answers answers known) m known _ _ _ c.queued enough row s (rw z at l) (rw z at e))
-
-  pub first_not : (row x : ℕ) → row < 65536 → x ≡ firsts_in calls row → (x < known → (packed_answers answers known).call x ≡ row → ⊥)
-      → NextAnswer (packed_answers answers known) known row 0 known
-  first_not row x s z n = first_none (packed_answers answers known) m known _ _ _ c.queued enough row s (rw z at n)
-
-  pub later_noted : (x y : ℕ) → y ≡ nexts_in answers (answer_notes most) x → x < y → y < known
-      → (packed_answers answers known).call y ≡ (packed_answers answers known).call x
-      → NextAnswer (packed_answers answers known) known ((packed_answers answers known).call x) (x + 1) y
-  later_noted x y z b l e =
-      rw z (later_found (packed_answers answers known) m known _ _ _ c.queued enough x (rw z at b) (rw z at l) (rw z at e))
-
-  pub later_not : (x y : ℕ) → x < known → y ≡ nexts_in answers (answer_notes most) x
-      → (x < y → y < known → (packed_answers answers known).call y ≡ (packed_answers answers known).call x → ⊥)
-      → NextAnswer (packed_answers answers known) known ((packed_answers answers known).call x) (x + 1) known
-  later_not x y i z n = later_none (packed_answers answers known) m known _ _ _ c.queued enough x i (rw z at n)

@@ -13,6 +13,7 @@ ghost use Rattle.desk.specs.Desk.{CallsOpen, AnswersOpen, open_calls, packed_ans
 ghost use Rattle.index.specs.Index.{buckets, bucket, Keyed, keys_in, OfRow, CallIndex, AnswerIndex, answer_notes};
 ghost use Rattle.index.specs.Index.{Noted, Forgotten, LastOf, Joined, CallsKept, AnswersKept, AnswerNoted, Rechained, AnswersKeyed};
 
+use desk::{ACTION_UNIT, PACKED_WORDS};
 use records::tables;
 use records::tables::Put;
 use steps::state::{Call, State};
@@ -31,12 +32,6 @@ const FIRST: usize = 3;
 
 const USES: usize = 2;
 
-// In the first word of a call record the action stands above the round and the marks.
-const ACTION_UNIT: u64 = 72057594037927936;
-
-// An answer record has so many words while a run lasts.
-const PACKED_WORDS: usize = 8;
-
 // How many buckets serve so many records: the greatest power of two among them. States next to each other come to buckets next to each other.
 fn buckets(most: usize) -> u64
     requires { (0 < most) × (most ≤ 65536) }
@@ -48,7 +43,8 @@ fn buckets(most: usize) -> u64
 // The bucket, of those for `most` records, of a record with these two keys.
 fn bucket(most: usize, a: u64, s: u64) -> usize
     requires { (0 < most) × (most ≤ 65536) }
-    ensures { result ≡ bucket most a s }
+    ensures value { result ≡ bucket most a s }
+    ensures below { result < most }
 {
     ((s % 65521 + a % 65536 * 1021) % buckets(most)) as usize
 }
@@ -75,10 +71,8 @@ fn find(
     let k = bucket(most, first, second);
     let mut i = quarters::get(notes, base + k, HEAD);
     while i < n {
-        if words[width * i + 1] == second {
-            if words[width * i] / unit == first {
-                return i;
-            }
+        if words[width * i + 1] == second && words[width * i] / unit == first {
+            return i;
         }
         let before = quarters::get(notes, base + i, LINK);
         // Links go back, or else there is no record left.
@@ -112,9 +106,50 @@ fn forget(notes: &mut [u64], base: usize, k: usize, n: usize)
 // The bucket among `most` of record i, of `width` words.
 fn bucket_of(words: &[u64], unit: u64, width: usize, i: usize, most: usize) -> usize
     requires { (0 < unit) × (width * i + 2 ≤ length words.now) × (0 < most) × (most ≤ 65536) }
-    ensures { result ≡ bucket most (get_or words.now (width * i) 0 / unit) (get_or words.now (width * i + 1) 0) }
+    ensures value { result ≡ bucket most (get_or words.now (width * i) 0 / unit) (get_or words.now (width * i + 1) 0) }
+    ensures below { result < most }
 {
     bucket(most, words[width * i] / unit, words[width * i + 1])
+}
+
+// Takes the records from n0 up to n, of `width` words, out of heads and links, the latest first.
+fn forget_records(
+    words: &[u64],
+    unit: u64,
+    width: usize,
+    n0: usize,
+    n: usize,
+    notes: &mut [u64],
+    most: usize,
+)
+    requires room { (0 < unit) × (2 ≤ width) × (width * n ≤ length words.now) × (n ≤ most) × (most ≤ 65536) × (most ≤ length notes.old) }
+    requires keyed { (n0 ≤ n) × Keyed most (keys_in unit width words.now n) notes.old 0 }
+    ensures { Keyed most (keys_in unit width words.now n0) notes.new 0 × Rechained 0 notes.old notes.new }
+{
+    for i in (n0..n).rev() {
+        let k = bucket_of(words, unit, width, i, most);
+        forget(notes, 0, k, i);
+    }
+}
+
+// Notes them in heads and links, the first of them first.
+fn note_records(
+    words: &[u64],
+    unit: u64,
+    width: usize,
+    n0: usize,
+    n: usize,
+    notes: &mut [u64],
+    most: usize,
+)
+    requires room { (0 < unit) × (2 ≤ width) × (width * n ≤ length words.now) × (n ≤ most) × (most ≤ 65536) × (most ≤ length notes.old) }
+    requires keyed { (n0 ≤ n) × Keyed most (keys_in unit width words.now n0) notes.old 0 }
+    ensures { Keyed most (keys_in unit width words.now n) notes.new 0 × Rechained 0 notes.old notes.new }
+{
+    for i in n0..n {
+        let k = bucket_of(words, unit, width, i, most);
+        note(notes, 0, k, i);
+    }
 }
 
 // The record of the call among the first n, or n.
@@ -187,12 +222,7 @@ pub fn forget_calls(calls: &[u64], n0: usize, n: usize, list: &mut [u64])
     ensures { CallIndex calls.now list.new n0 × Rechained 0 list.old list.new }
 {
     let most = tables::room_of(calls.len(), tables::CALL_WORDS);
-    let mut i = n;
-    while n0 < i {
-        i -= 1;
-        let k = bucket_of(calls, ACTION_UNIT, tables::CALL_WORDS, i, most);
-        forget(list, 0, k, i);
-    }
+    forget_records(calls, ACTION_UNIT, tables::CALL_WORDS, n0, n, list, most);
 }
 
 // Notes them in heads and links. The rest of the list stays.
@@ -201,12 +231,7 @@ pub fn note_calls(calls: &[u64], n0: usize, n: usize, list: &mut [u64])
     ensures { CallIndex calls.now list.new n × Rechained 0 list.old list.new }
 {
     let most = tables::room_of(calls.len(), tables::CALL_WORDS);
-    let mut i = n0;
-    while i < n {
-        let k = bucket_of(calls, ACTION_UNIT, tables::CALL_WORDS, i, most);
-        note(list, 0, k, i);
-        i += 1;
-    }
+    note_records(calls, ACTION_UNIT, tables::CALL_WORDS, n0, n, list, most);
 }
 
 // The record among the first m of this call record and final state, or m.
@@ -233,13 +258,8 @@ pub fn forget_answers(answers: &mut [u64], m0: usize, m: usize, most: usize)
     ensures { AnswersKeyed most answers.new m0
         × Rechained (answer_notes most) answers.old answers.new }
 {
-    let base = PACKED_WORDS * most;
-    let mut i = m;
-    while m0 < i {
-        i -= 1;
-        let k = bucket_of(answers, 1, PACKED_WORDS, i, most);
-        forget(answers, base, k, i);
-    }
+    let (records, notes) = answers.split_at_mut(PACKED_WORDS * most);
+    forget_records(records, 1, PACKED_WORDS, m0, m, notes, most);
 }
 
 // Notes them in heads and links. All other words and quarters stay.
@@ -248,13 +268,8 @@ pub fn note_answers(answers: &mut [u64], m0: usize, m: usize, most: usize)
     ensures { AnswersKeyed most answers.new m
         × Rechained (answer_notes most) answers.old answers.new }
 {
-    let base = PACKED_WORDS * most;
-    let mut i = m0;
-    while i < m {
-        let k = bucket_of(answers, 1, PACKED_WORDS, i, most);
-        note(answers, base, k, i);
-        i += 1;
-    }
+    let (records, notes) = answers.split_at_mut(PACKED_WORDS * most);
+    note_records(records, 1, PACKED_WORDS, m0, m, notes, most);
 }
 
 // Whether x is an answer record below `known` of this call record.
@@ -262,12 +277,7 @@ fn is_answer(answers: &[u64], known: usize, x: usize, row: u64) -> bool
     requires { packed_width * known ≤ length answers.now }
     ensures { OfRow (packed_answers answers.now known) x row result }
 {
-    if x < known {
-        if desk::call_of(answers, x) == row {
-            return true;
-        }
-    }
-    false
+    x < known && desk::call_of(answers, x) == row
 }
 
 // The first answer record of this call record below `known`, or `known`.
@@ -278,9 +288,10 @@ pub fn first_answer(calls: &[u64], answers: &[u64], known: usize, row: usize) ->
 {
     let x = quarters::get(calls, tables::CALL_WORDS * row + USES, FIRST);
     if is_answer(answers, known, x, row as u64) {
-        return x;
+        x
+    } else {
+        known
     }
-    known
 }
 
 // The next answer record after x of the same call record, below `known`, or `known`.
@@ -291,13 +302,11 @@ pub fn later_answer(answers: &[u64], known: usize, most: usize, x: usize) -> usi
 {
     let row = desk::call_of(answers, x);
     let later = quarters::get(answers, PACKED_WORDS * most + x, NEXT);
-    if later <= x {
-        return known;
+    if x < later && is_answer(answers, known, later, row) {
+        later
+    } else {
+        known
     }
-    if is_answer(answers, known, later, row) {
-        return later;
-    }
-    known
 }
 
 // The last of the answers whose first is f, or m where f is none of the first m.
@@ -306,9 +315,10 @@ fn last_of(answers: &[u64], base: usize, f: usize, m: usize) -> usize
     ensures { LastOf answers.now base f m result }
 {
     if f < m {
-        return quarters::get(answers, base + f, LAST);
+        quarters::get(answers, base + f, LAST)
+    } else {
+        m
     }
-    m
 }
 
 // Puts answer m behind `last`, and makes it the last of those whose first is f.

@@ -4,7 +4,7 @@
 // second's under 65, and rounds fill the tables from them (crate `filling`): so a call or an answer that serves both has one record.
 #![tactic(auto)]
 
-ghost use Rattle.std.specs.Prelude.{◌*◌, ◌<◌, ◌≤◌, length};
+ghost use Rattle.std.specs.Prelude.{true, false, ◌*◌, ◌<◌, ◌≤◌, length, MatchResult};
 ghost use Rattle.records.specs.Records.{room, call_width};
 ghost use Rattle.records.specs.Storage.{NoCall};
 ghost use Rattle.records.specs.Bodies.{bodies_with};
@@ -13,15 +13,15 @@ ghost use Rattle.index.specs.Index.{CallIndex, CallsKept};
 ghost use Rattle.invariants.proofs.Filling.{Accepted};
 ghost use Rattle.joint.specs.Joint.{roots_of, RootPut, RowsFilled};
 
+pub use filling::Full;
 use records::bodies::Goals;
 use records::tables::Put;
 use records::{bodies, tables};
 use steps::state::{Call, State};
 
-// Whether a table is full, and how many records the tables hold.
-#[derive(Clone, Copy)]
+// How many records the tables hold.
+#[derive(Clone, Copy, Debug, PartialEq, Eq)]
 pub struct Rows {
-    pub full: bool,
     pub calls: usize,
     pub answers: usize,
 }
@@ -58,22 +58,23 @@ pub fn fill_rows<'a>(
     list: &mut [u64],
     answers: &mut [u64],
     most: usize,
-) -> Rows
+) -> Result<Rows, Full>
     requires accepted { Accepted rules.now goal.now second.now }
     requires calls_in_bounds { (room call_width (length calls.old) ≤ length list.old) × (most ≤ 65536) × (open_width * most ≤ length answers.old) }
-    ensures { RowsFilled (bodies_with rules.now goals.first goals.second goal.now second.now)
-        (roots_of goals.first goals.second start second_start) most calls.old list.old answers.old
-        calls.new list.new answers.new result.full result.calls result.answers }
+    ensures { MatchResult result
+        (λ r. RowsFilled (bodies_with rules.now goals.first goals.second goal.now second.now) (roots_of goals.first goals.second start second_start)
+        most calls.old list.old answers.old calls.new list.new answers.new false r.calls r.answers)
+        (λ r. RowsFilled (bodies_with rules.now goals.first goals.second goal.now second.now) (roots_of goals.first goals.second start second_start)
+        most calls.old list.old answers.old calls.new list.new answers.new true r.calls r.answers) }
 {
     tables::clear(calls);
     tables::clear(list);
     let one = add_root(goals.first, Call::goal(start), calls, 0, list);
     if one.full {
-        return Rows {
-            full: true,
+        return Err(Full {
             calls: one.count,
             answers: 0,
-        };
+        });
     }
     let other = Call {
         action: bodies::SECOND_GOAL,
@@ -81,18 +82,16 @@ pub fn fill_rows<'a>(
     };
     let two = add_root(goals.second, other, calls, one.count, list);
     if two.full {
-        return Rows {
-            full: true,
+        return Err(Full {
             calls: two.count,
             answers: 0,
-        };
+        });
     }
     let run = filling::fill(
         rules, goal, second, goals, calls, two.count, list, answers, 0, most, 0,
-    );
-    Rows {
-        full: run.full,
+    )?;
+    Ok(Rows {
         calls: run.calls,
         answers: run.answers,
-    }
+    })
 }

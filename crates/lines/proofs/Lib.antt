@@ -3,4 +3,3 @@ pub mod Readings
 pub mod LineHeads
 pub mod LineVerdicts
 pub mod Rules
-pub mod Kept

@@ -1,7 +1,9 @@
 // The lines of a sheet, each read by its record word.
 #![tactic(auto)]
 
-ghost use Rattle.std.specs.Prelude.{◌≡◌, List, ◌++◌, ◌∷◌, ℕ, ◌+◌, ◌*◌, ◌≤◌, ◌<◌, length, take, drop};
+pub mod parse;
+
+ghost use Rattle.std.specs.Prelude.{◌≡◌, List, [], ◌++◌, ◌∷◌, ℕ, ◌+◌, ◌≤◌, ◌<◌, length, take, drop};
 ghost use Rattle.std.proofs.Math.Seq.{slice};
 ghost use Rattle.chars.specs.Pieces.{lines};
 ghost use Rattle.chars.specs.Inner.{fields_from};
@@ -9,14 +11,16 @@ ghost use Rattle.steps.specs.Widths.{rule_width};
 ghost use Rattle.fields.specs.Held.{answer};
 ghost use Rattle.lines.specs.Line.{empty, word_of, row, overfull, miscounted, plain_line, line};
 ghost use Rattle.lines.specs.Reader.{read_lines};
-ghost use Rattle.lines.specs.Kept.{line_head, Kept, Answers, Reads, recorded, book_in, reading_in, begun};
+ghost use Rattle.lines.specs.Kept.{in_order, stage_row, line_head, recorded, book_in, reading_in, ending};
 
-use fields::names;
-use fields::names::Names;
+use fields::book::{Body, Names};
+use parse::Parse;
+use refusals::Refusal;
 use steps::state::State;
+use steps::word::RULE_WORDS;
 
 // A line's first field: a record word, or another.
-#[derive(Clone, Copy)]
+#[derive(Clone, Copy, Debug, PartialEq, Eq)]
 pub enum Word {
     Fluent,
     Action,
@@ -26,350 +30,262 @@ pub enum Word {
     Other,
 }
 
-// What the lines so far have said, or a refusal.
-#[derive(Clone, Copy)]
-pub struct Parse {
-    pub refusal: u64,
-    pub stage: u64,
-    pub started: bool,
-    pub rules: usize,
-    pub start: State,
-    pub goal_len: usize,
-    pub goal: [u16; 16],
-    pub names: Names,
+// From where in the row of record words the next line may have its word.
+#[derive(Clone, Copy, Debug, PartialEq, Eq)]
+pub enum Stage {
+    Fluents = 0,
+    Actions = 1,
+    Rules = 2,
+    Start = 3,
+    Goal = 4,
+    End = 5,
 }
 
-// Nothing said yet.
-fn fresh() -> Parse
-    ensures { result ≡ begun }
-{
-    let names = Names {
-        fluents: 0,
-        actions: 0,
-        from: [0usize; 128],
-        to: [0usize; 128],
-    };
-    Parse {
-        refusal: 0,
-        stage: 0,
-        started: false,
-        rules: 0,
-        start: State::NOTHING,
-        goal_len: 0,
-        goal: [0u16; 16],
-        names,
+// Why a sheet is refused, and the line that is; 0 for the sheet as a whole.
+#[derive(Clone, Copy, Debug, PartialEq, Eq)]
+pub struct Fault {
+    pub refusal: Refusal,
+    pub line: u64,
+}
+
+impl From<Refusal> for Fault {
+    ghost from_gives = { λ refusal fault. fault ≡ record { refusal = refusal; line = 0 } };
+
+    fn from(refusal: Refusal) -> Fault {
+        Fault { refusal, line: 0 }
     }
 }
 
-// A refusal.
-pub fn blank(refusal: u64) -> Parse
-    ensures { result.refusal ≡ refusal }
-{
-    let mut b = fresh();
-    b.refusal = refusal;
-    b
-}
-
-// The record word from a up to e.
-fn word_at(s: &[u8], a: usize, e: usize) -> Word
-    requires { (a ≤ e) × (e ≤ length s.now) }
-    ensures { result ≡ word_of (slice a e s.now) }
-{
-    if chars::is_word(s, a, e, b"fluent") {
-        return Word::Fluent;
-    }
-    if chars::is_word(s, a, e, b"action") {
-        return Word::Action;
-    }
-    if chars::is_word(s, a, e, b"rule") {
-        return Word::Rule;
-    }
-    if chars::is_word(s, a, e, b"start") {
-        return Word::Start;
-    }
-    if chars::is_word(s, a, e, b"goal") {
-        return Word::Goal;
-    }
-    Word::Other
-}
-
-// The place of a word in the row of record words, or 5.
-fn row(w: Word) -> u64
-    ensures { result ≡ row w }
-{
-    match w {
-        Word::Fluent => 0,
-        Word::Action => 1,
-        Word::Rule => 2,
-        Word::Start => 3,
-        Word::Goal => 4,
-        Word::Other => 5,
-    }
-}
-
-// Whether a word with n fields after it would be the 65th fluent or action, the 257th rule, or have more than 16 steps.
-fn overfull(b: Parse, w: Word, n: usize) -> bool
-    ensures { (s words : List ℕ) → result ≡ overfull (book_in s words b) w n }
-{
-    let names = b.names;
-    match w {
-        Word::Fluent => 64 <= names.fluents,
-        Word::Action => 64 <= names.actions,
-        Word::Rule => {
-            if 256 <= b.rules {
-                return true;
-            }
-            17 < n
+impl Word {
+    // The record word that a field is.
+    fn of(field: &[u8]) -> Word
+        ensures { result ≡ word_of field.now }
+    {
+        if chars::same_bytes(field, b"fluent") {
+            Word::Fluent
+        } else if chars::same_bytes(field, b"action") {
+            Word::Action
+        } else if chars::same_bytes(field, b"rule") {
+            Word::Rule
+        } else if chars::same_bytes(field, b"start") {
+            Word::Start
+        } else if chars::same_bytes(field, b"goal") {
+            Word::Goal
+        } else {
+            Word::Other
         }
-        Word::Start => false,
-        Word::Goal => 16 < n,
-        Word::Other => false,
+    }
+
+    // Its place in the row of record words, or 5.
+    fn row(self) -> u64
+        ensures { result ≡ row self }
+    {
+        self as u64
+    }
+
+    // Whether it has other than exactly one name, as a fluent or action, or no head, as a rule, with n fields after it.
+    fn miscounted(self, n: usize) -> bool
+        ensures { result ≡ miscounted self n }
+    {
+        match self {
+            Word::Fluent | Word::Action => n != 1,
+            Word::Rule => n == 0,
+            Word::Start | Word::Goal | Word::Other => false,
+        }
     }
 }
 
-// Whether a word with n fields after it is a fluent or action without exactly one name, or a rule without head.
-fn miscounted(w: Word, n: usize) -> bool
-    ensures { result ≡ miscounted w n }
-{
-    match w {
-        Word::Fluent => n != 1,
-        Word::Action => n != 1,
-        Word::Rule => n == 0,
-        Word::Start => false,
-        Word::Goal => false,
-        Word::Other => false,
+impl Stage {
+    fn row(self) -> u64
+        ensures { result ≡ stage_row self }
+    {
+        self as u64
     }
-}
 
-// The refusal of a line by its word and the n fields after it, before these are read, or 0.
-fn head_refusal(b: Parse, w: Word, n: usize) -> u64
-    ensures { (s words : List ℕ) → answer result tt ≡ line_head (reading_in s words b) w n }
-{
-    let place = row(w);
-    if place == 5 {
-        return refusals::BAD_WORD;
+    // Whether a line with this word may come.
+    fn allows(self, w: Word) -> bool
+        ensures { result ≡ in_order (stage_row self) w }
+    {
+        !matches!(w, Word::Other) && self.row() <= w.row()
     }
-    if place < b.stage {
-        return refusals::BAD_WORD;
-    }
-    let full = overfull(b, w, n);
-    let wrong = miscounted(w, n);
-    if full {
-        return refusals::TOO_MANY;
-    }
-    if wrong {
-        return refusals::BAD_FIELD;
-    }
-    0
-}
-
-// A `fluent` line's name.
-fn fluent_line(s: &[u8], p: usize, e: usize, b: Parse) -> Parse
-    requires kept { Kept s.now b }
-    requires refusal_value { (b.refusal ≡ 0) × (b.stage ≡ 0) × (b.names.fluents < 64) }
-    requires e_in_bounds { (e ≤ length s.now) × (length (fields_from p e s.now) ≡ 1) }
-    ensures { (w : List ℕ) → Answers s.now w result
-        (recorded (reading_in s.now w b) Word.Fluent (fields_from p e s.now)) }
-{
-    let n = b.names;
-    let r = names::new_name(s, p, e, n);
-    if r != 0 {
-        return blank(r);
-    }
-    let mut more = names::stored(n, p, e);
-    more.fluents += 1;
-    let mut next = b;
-    next.names = more;
-    next
-}
-
-// An `action` line's name.
-fn action_line(s: &[u8], p: usize, e: usize, b: Parse) -> Parse
-    requires kept { Kept s.now b }
-    requires refusal_value { (b.refusal ≡ 0) × (b.names.actions < 64) }
-    requires e_in_bounds { (e ≤ length s.now) × (length (fields_from p e s.now) ≡ 1) }
-    ensures { (w : List ℕ) → Answers s.now w result
-        (recorded (reading_in s.now w b) Word.Action (fields_from p e s.now)) }
-{
-    let n = b.names;
-    let r = names::new_name(s, p, e, n);
-    if r != 0 {
-        return blank(r);
-    }
-    let mut more = names::stored(n, p, e);
-    more.actions += 1;
-    let mut next = b;
-    next.names = more;
-    next.stage = 1;
-    next
 }
 
 // Writes a rule's 18 words from `at` on.
-fn put_rule(words: &mut [u16], at: usize, head: u16, count: u16, body: [u16; 16])
-    requires rule_width_in_bounds { at + rule_width ≤ length words.old }
-    requires body_len { length body ≡ 16 }
-    ensures { words.new ≡ take at words.old ++ ((head ∷ count ∷ body) ++ drop (at + rule_width) words.old) }
+fn put_rule(words: &mut [u16], at: usize, head: u16, body: &Body)
+    requires { at + rule_width ≤ length words.old }
+    ensures { words.new ≡ take at words.old ++ ((head ∷ body.now.len ∷ body.now.words) ++ drop (at + rule_width) words.old) }
 {
     words[at] = head;
-    words[at + 1] = count;
-    let mut i = 0;
-    while i < 16 {
-        words[at + 2 + i] = body[i];
-        i += 1;
+    words[at + 1] = body.len as u16;
+    words[at + 2..at + RULE_WORDS].copy_from_slice(&body.words);
+}
+
+impl<'a> Parse<'a> {
+    // Nothing said yet.
+    fn new() -> Parse<'a>
+        ensures { (words : List ℕ) → reading_in words result ≡ empty }
+    {
+        Parse {
+            stage: Stage::Fluents,
+            started: false,
+            rules: 0,
+            start: State::NOTHING,
+            goal: Body::new(),
+            names: Names::new(),
+        }
+    }
+
+    // Whether a word with n fields after it would be the 65th fluent or action, the 257th rule, or have more than 16 steps.
+    fn overfull(&self, w: Word, n: usize) -> bool
+        ensures { (words : List ℕ) → result ≡ overfull (book_in words self.now) w n }
+    {
+        match w {
+            Word::Fluent => self.names.fluents.len >= 64,
+            Word::Action => self.names.actions.len >= 64,
+            Word::Rule => self.rules >= 256 || n > 17,
+            Word::Goal => n > 16,
+            Word::Start | Word::Other => false,
+        }
+    }
+
+    // Whether a line may have this word, with n fields after it: what is asked before the fields are read.
+    #[tactic(auto, unfolding(crate::specs::Kept::line_head))]
+    fn check_head(&self, w: Word, n: usize) -> Result<(), Refusal>
+        ensures { (words : List ℕ) → answer (λ _. tt) result ≡ line_head (reading_in words self.now) w n }
+    {
+        if !self.stage.allows(w) {
+            return Err(Refusal::BadWord);
+        }
+        if self.overfull(w, n) {
+            return Err(Refusal::TooMany);
+        }
+        if w.miscounted(n) {
+            return Err(Refusal::BadField);
+        }
+        Ok(())
+    }
+
+    // A `fluent` line's name.
+    fn fluent_line(&mut self, name: &'a [u8]) -> Result<(), Refusal>
+        requires room { self.old.names.fluents.len < 64 }
+        requires first { self.old.stage ≡ Stage.Fluents }
+        ensures { (words : List ℕ) → answer (λ _. reading_in words self.new) result
+            ≡ recorded (reading_in words self.old) Word.Fluent (name.now ∷ []) }
+    {
+        self.names.may_define(name)?;
+        self.names.fluents.push(name);
+        Ok(())
+    }
+
+    // An `action` line's name.
+    // Stays: one function for this and `fluent_line` would choose the row and the stage by the word, which is no plainer.
+    fn action_line(&mut self, name: &'a [u8]) -> Result<(), Refusal>
+        requires { self.old.names.actions.len < 64 }
+        ensures { (words : List ℕ) → answer (λ _. reading_in words self.new) result
+            ≡ recorded (reading_in words self.old) Word.Action (name.now ∷ []) }
+    {
+        self.names.may_define(name)?;
+        self.stage = Stage::Actions;
+        self.names.actions.push(name);
+        Ok(())
+    }
+
+    // A `rule` line's head and steps, from p on.
+    fn rule_line(&mut self, line: &[u8], p: usize, words: &mut [u16]) -> Result<(), Refusal>
+        requires room { self.old.rules < 256 }
+        requires head { 0 < length (fields_from p (length line.now) line.now) }
+        requires few { length (fields_from p (length line.now) line.now) ≤ 17 }
+        requires words_len { length words.old ≡ 4608 }
+        ensures { answer (λ _. reading_in words.new self.new) result
+            ≡ recorded (reading_in words.old self.old) Word.Rule (fields_from p (length line.now) line.now) }
+    {
+        let q = chars::field_end(line, p, line.len());
+        let head = self.names.actions.used(&line[p..q])?;
+        let body = fields::steps(line, q + 1, line.len(), &self.names)?;
+        put_rule(words, RULE_WORDS * self.rules, head as u16, &body);
+        self.rules += 1;
+        self.stage = Stage::Rules;
+        Ok(())
+    }
+
+    // A `start` line's names, from p on.
+    fn start_line(&mut self, line: &[u8], p: usize) -> Result<(), Refusal>
+        requires { p ≤ length line.now + 1 }
+        ensures { (words : List ℕ) → answer (λ _. reading_in words self.new) result
+            ≡ recorded (reading_in words self.old) Word.Start (fields_from p (length line.now) line.now) }
+    {
+        self.start = fields::start_names(line, p, line.len(), &self.names)?;
+        self.started = true;
+        self.stage = Stage::Goal;
+        Ok(())
+    }
+
+    // A `goal` line's steps, from p on.
+    fn goal_line(&mut self, line: &[u8], p: usize) -> Result<(), Refusal>
+        requires within { p ≤ length line.now + 1 }
+        requires few { length (fields_from p (length line.now) line.now) ≤ 16 }
+        ensures { (words : List ℕ) → answer (λ _. reading_in words self.new) result
+            ≡ recorded (reading_in words self.old) Word.Goal (fields_from p (length line.now) line.now) }
+    {
+        self.goal = fields::steps(line, p, line.len(), &self.names)?;
+        self.stage = Stage::End;
+        Ok(())
+    }
+
+    // A line that is no comment and has no CR.
+    fn plain_line(&mut self, line: &'a [u8], words: &mut [u16]) -> Result<(), Refusal>
+        requires { length words.old ≡ 4608 }
+        ensures { answer (λ _. reading_in words.new self.new) result ≡ plain_line (reading_in words.old self.old) line.now }
+    {
+        let q = chars::field_end(line, 0, line.len());
+        let w = Word::of(&line[..q]);
+        self.check_head(w, fields::count_fields(line, q + 1, line.len()))?;
+        match w {
+            Word::Fluent => self.fluent_line(&line[q + 1..]),
+            Word::Action => self.action_line(&line[q + 1..]),
+            Word::Rule => self.rule_line(line, q + 1, words),
+            Word::Start => self.start_line(line, q + 1),
+            Word::Goal => self.goal_line(line, q + 1),
+            Word::Other => Err(Refusal::BadWord),
+        }
+    }
+
+    // The line from a up to e.
+    fn next_line(
+        &mut self,
+        s: &'a [u8],
+        a: usize,
+        e: usize,
+        words: &mut [u16],
+    ) -> Result<(), Refusal>
+        requires line { (a ≤ e) × (e ≤ length s.now) }
+        requires words_len { length words.old ≡ 4608 }
+        ensures { answer (λ _. reading_in words.new self.new) result ≡ line (reading_in words.old self.old) (slice a e s.now) }
+    {
+        if chars::is_comment(s, a, e) {
+            return Ok(());
+        }
+        let end = chars::bare_end(s, a, e);
+        self.plain_line(&s[a..end], words)
     }
 }
 
-// A `rule` line's head and steps.
-fn rule_line(s: &[u8], p: usize, e: usize, b: Parse, words: &mut [u16]) -> Parse
-    requires kept { Kept s.now b }
-    requires refusal_value { (b.refusal ≡ 0) × (b.rules < 256) }
-    requires e_in_bounds { (e ≤ length s.now) × (0 < length (fields_from p e s.now)) × (length (fields_from p e s.now) ≤ 17) }
-    requires words_len { length words.old ≡ 4608 }
-    ensures { Answers s.now words.new result
-        (recorded (reading_in s.now words.old b) Word.Rule (fields_from p e s.now)) }
-{
-    let n = b.names;
-    let q = chars::field_end(s, p, e);
-    let lo = n.fluents;
-    let hi = lo + n.actions;
-    let head = names::used_name(s, p, q, n, lo, hi);
-    let r = head.refusal;
-    let h = head.value;
-    if r != 0 {
-        return blank(r);
-    }
-    let body = fields::steps(s, q + 1, e, n);
-    let t = body.refusal;
-    let len = body.len;
-    let list = body.words;
-    if t != 0 {
-        return blank(t);
-    }
-    let rules = b.rules;
-    put_rule(
-        words,
-        steps::word::RULE_WORDS * rules,
-        h as u16,
-        len as u16,
-        list,
-    );
-    let mut next = b;
-    next.rules = rules + 1;
-    next.stage = 2;
-    next
-}
-
-// A `start` line's names.
-fn start_line(s: &[u8], p: usize, e: usize, b: Parse) -> Parse
-    requires kept { Kept s.now b }
-    requires refusal_value { b.refusal ≡ 0 }
-    requires p_bound { (p ≤ e + 1) × (e ≤ length s.now) }
-    ensures { (w : List ℕ) → Answers s.now w result
-        (recorded (reading_in s.now w b) Word.Start (fields_from p e s.now)) }
-{
-    let n = b.names;
-    let got = fields::start_names(s, p, e, n);
-    let r = got.refusal;
-    let state = got.state;
-    if r != 0 {
-        return blank(r);
-    }
-    let mut next = b;
-    next.started = true;
-    next.start = state;
-    next.stage = 4;
-    next
-}
-
-// A `goal` line's steps.
-fn goal_line(s: &[u8], p: usize, e: usize, b: Parse) -> Parse
-    requires kept { Kept s.now b }
-    requires refusal_value { b.refusal ≡ 0 }
-    requires p_bound { (p ≤ e + 1) × (e ≤ length s.now) × (length (fields_from p e s.now) ≤ 16) }
-    ensures { (w : List ℕ) → Answers s.now w result
-        (recorded (reading_in s.now w b) Word.Goal (fields_from p e s.now)) }
-{
-    let n = b.names;
-    let body = fields::steps(s, p, e, n);
-    let r = body.refusal;
-    let list = body.words;
-    let len = body.len;
-    if r != 0 {
-        return blank(r);
-    }
-    let mut next = b;
-    next.goal = list;
-    next.goal_len = len;
-    next.stage = 5;
-    next
-}
-
-// What the lines have said with the one from a up to e, which is no comment and has no CR.
-fn plain_line(s: &[u8], a: usize, e: usize, b: Parse, words: &mut [u16]) -> Parse
-    requires kept { Kept s.now b }
-    requires a_le_e { (a ≤ e) × (e ≤ length s.now) }
-    requires refusal_value { b.refusal ≡ 0 }
-    requires words_len { length words.old ≡ 4608 }
-    ensures { Answers s.now words.new result
-        (plain_line (reading_in s.now words.old b) (slice a e s.now)) }
-{
-    let q = chars::field_end(s, a, e);
-    let w = word_at(s, a, q);
-    let n = fields::count_fields(s, q + 1, e);
-    let r = head_refusal(b, w, n);
-    if r != 0 {
-        return blank(r);
-    }
-    match w {
-        Word::Fluent => fluent_line(s, q + 1, e, b),
-        Word::Action => action_line(s, q + 1, e, b),
-        Word::Rule => rule_line(s, q + 1, e, b, words),
-        Word::Start => start_line(s, q + 1, e, b),
-        Word::Goal => goal_line(s, q + 1, e, b),
-        Word::Other => blank(refusals::BAD_WORD),
-    }
-}
-
-// What the lines have said with the one from a up to e.
-fn next_line(s: &[u8], a: usize, e: usize, b: Parse, words: &mut [u16]) -> Parse
-    requires kept { Kept s.now b }
-    requires a_le_e { (a ≤ e) × (e ≤ length s.now) }
-    requires refusal_value { b.refusal ≡ 0 }
-    requires words_len { length words.old ≡ 4608 }
-    ensures { Answers s.now words.new result
-        (line (reading_in s.now words.old b) (slice a e s.now)) }
-{
-    if chars::is_comment(s, a, e) {
-        return b;
-    }
-    let end = chars::bare_end(s, a, e);
-    plain_line(s, a, end, b, words)
-}
-
-// What the lines said, and the line of a refusal.
-#[derive(Clone, Copy)]
-pub struct Scan {
-    pub line: u64,
-    pub said: Parse,
-}
-
-// All lines, from the top.
-pub fn read_lines(s: &[u8], words: &mut [u16]) -> Scan
+// All lines, from the top: what they said, or the first that is refused.
+pub fn read_lines<'a>(s: &'a [u8], words: &mut [u16]) -> Result<Parse<'a>, Fault>
     requires { length words.old ≡ 4608 }
-    ensures { Reads s.now words.new result.line result.said (read_lines 1 empty (lines s.now)) }
+    ensures outcome { ending words.new result ≡ read_lines 1 empty (lines s.now) }
+    ensures words_len { length words.new ≡ 4608 }
 {
-    let mut b = fresh();
-    let mut n = 1u64;
+    let mut said = Parse::new();
+    let mut line = 1;
     let mut at = 0;
     while at < s.len() {
-        let e = chars::line_end(s, at);
-        b = next_line(s, at, e, b, words);
-        let r = b.refusal;
-        if r != 0 {
-            return Scan { line: n, said: b };
+        let end = chars::line_end(s, at);
+        if let Err(refusal) = said.next_line(s, at, end, words) {
+            return Err(Fault { refusal, line });
         }
-        n += 1;
-        at = e + 1;
+        line += 1;
+        at = end + 1;
     }
-    Scan { line: 0, said: b }
+    Ok(said)
 }

@@ -1,20 +1,18 @@
 -- Call records whose numbers are sorted by their keys are listed. Assumes nothing.
-use Prim.Native.Nat.{ℕ, suc, ◌+◌, ◌*◌, ◌<◌, ◌≤◌}
+use Prim.Native.Nat.{ℕ, ◌+◌, ◌*◌, ◌<◌, ◌≤◌}
 use native.Mathlib.Omega.{arith}
-use native.Mathlib.Decide.{dec_lt, ℕ_discrete}
 use mathlib.Core.Path.{◌≡◌, refl, sym, ap, subst, ◌∙◌}
 use mathlib.Core.List.{List}
-use mathlib.Core.Logic.{◌⊎◌, inl, inr, ◌≢◌}
-use lib.ListN.{length, get_or, set, length-set}
-use lib.Seq.{get_or-set_same, get_or-set_other}
+use mathlib.Core.Logic.{inr}
+use lib.ListN.{length, get_or}
 use Rattle.sorting.specs.Permuted.{Permuted}
 use Rattle.sorting.specs.Shuffled.{Shuffled, NumbersSorted, Before}
 use Rattle.sorting.proofs.Orders.{no_later_apart}
 use Rattle.sorting.proofs.SortedLaws.{number_moved}
-use Rattle.radix.specs.Lines.{line_width, word_of, Below, LinesSorted}
+use Rattle.radix.specs.Lines.{line_width, LinesSorted}
 use Rattle.records.specs.Records.{Calls, call_table, call_width}
 use Rattle.records.proofs.Growth.{CallsOnce, row_once}
-use Rattle.listing.specs.Listing.{key_of, Numbered, CallsListed, LinePut, Lined, Taken}
+use Rattle.listing.specs.Listing.{key_of, Numbered, CallsListed, Lined, Taken}
 
 -- The numbers in another order stand at the head of a list that is 0 past them, and their keys do not fall: the calls are listed.
 module _ (calls : Calls) (len : ℕ) (list : List ℕ) (O : Permuted 0 calls.count) (long : length list ≡ len) (stands : (p : ℕ) → p < calls.count → get_or list p 0 ≡ O.from p)
@@ -75,49 +73,3 @@ lines_listed calls {n} {at} {spare} {len} {words} {first} {sorted} {list} L S T 
         let z : (q : ℕ) → at + line_width * q + 0 ≡ at + line_width * q = λ q. omega arith in
         let a = ap (λ (x : ℕ). get_or sorted x 0) (sym (z p)) ∙ S.moved p 0 l (omega arith) ∙ ap (λ (x : ℕ). get_or first x 0) (z (S.order.from p)) ∙ L.action (S.order.from p) f in
         λ k. (a k, (S.moved p 1 l (omega arith) ∙ L.state (S.order.from p) f) k)
-
--- ---- the lines written
-
-module _ (calls words : List ℕ) (i at : ℕ) (fits : at + line_width ≤ length words) (a b : ℕ) (action : a ≡ get_or calls (call_width * i) 0) (state : b ≡ get_or calls (call_width * i + 1) 0) where
-  abbrev one : List ℕ
-  one = set words at a
-
-  abbrev two : List ℕ
-  two = set one (at + 1) b
-
-  apart_from : (p : ℕ) → (p < at) ⊎ (at + line_width ≤ p) → (p ≢ at) × (p ≢ at + 1) × (p ≢ at + 2)
-  apart_from p (inl l) = (omega arith, omega arith, omega arith)
-  apart_from p (inr l) = (omega arith, omega arith, omega arith)
-
-  pub line_put : LinePut calls i at words (set two (at + 2) i)
-  line_put = record {
-    long = simp length-set;
-    action = get_or-set_other two (at + 2) at i 0 (omega arith) ∙ get_or-set_other one (at + 1) at b 0 (omega arith) ∙ get_or-set_same words at a 0 (omega arith) ∙ action;
-    state = get_or-set_other two (at + 2) (at + 1) i 0 (omega arith) ∙ get_or-set_same one (at + 1) b 0 (simp length-set (omega arith)) ∙ state;
-    number = get_or-set_same two (at + 2) i 0 (simp length-set (omega arith));
-    other = λ p h. let (x, y, z) = apart_from p h in get_or-set_other two (at + 2) p i 0 z ∙ get_or-set_other one (at + 1) p b 0 y ∙ get_or-set_other words at p a 0 x;
-  }
-
-pub lined_none : (calls : List ℕ) (at : ℕ) (words : List ℕ) → Lined calls 0 at words words
-lined_none calls at words = record { below = record { long = refl; stays = λ p l. refl }; action = λ i l. absurd (omega arith); state = λ i l. absurd (omega arith); number = λ i l. absurd (omega arith) }
-
-module _ {calls : List ℕ} {i at : ℕ} {words between words' : List ℕ} (c : Lined calls i at words between) (p : LinePut calls i (at + line_width * i) between words') where
-  pub lined_more : Lined calls (i + 1) at words words'
-  lined_more = record {
-    below = record { long = p.long ∙ c.below.long; stays = λ q l. p.other q (inl (omega arith)) ∙ c.below.stays q l };
-    action = λ j l. action_at j l (ℕ_discrete j i);
-    state = λ j l. state_at j l (ℕ_discrete j i);
-    number = λ j l. number_at j l (ℕ_discrete j i);
-  }
-    where
-      action_at : (j : ℕ) → j < i + 1 → Dec (j ≡ i) → get_or words' (at + line_width * j) 0 ≡ get_or calls (call_width * j) 0
-      action_at j l (yes z) = rw z p.action
-      action_at j l (no d) = p.other (at + line_width * j) (inl (omega arith)) ∙ c.action j (omega arith)
-
-      state_at : (j : ℕ) → j < i + 1 → Dec (j ≡ i) → get_or words' (at + line_width * j + 1) 0 ≡ get_or calls (call_width * j + 1) 0
-      state_at j l (yes z) = rw z p.state
-      state_at j l (no d) = p.other (at + line_width * j + 1) (inl (omega arith)) ∙ c.state j (omega arith)
-
-      number_at : (j : ℕ) → j < i + 1 → Dec (j ≡ i) → get_or words' (at + line_width * j + 2) 0 ≡ j
-      number_at j l (yes z) = rw z p.number
-      number_at j l (no d) = p.other (at + line_width * j + 2) (inl (omega arith)) ∙ c.number j (omega arith)

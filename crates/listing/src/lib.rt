@@ -4,7 +4,7 @@
 // numbers are the list. Where too few words are lent the numbers are sorted in the list itself, by a heap.
 #![tactic(auto)]
 
-ghost use Rattle.std.specs.Prelude.{◌≡◌, ◌+◌, ◌*◌, ◌<◌, ◌≤◌, length, get_or};
+ghost use Rattle.std.specs.Prelude.{◌≡◌, ◌+◌, ◌*◌, ◌<◌, ◌≤◌, length};
 ghost use Rattle.radix.specs.Lines.{line_width, Below};
 ghost use Rattle.records.specs.Records.{call_table, call_width};
 ghost use Rattle.records.proofs.Growth.{CallsOnce};
@@ -12,22 +12,13 @@ ghost use Rattle.listing.specs.Listing.{Numbered, LinePut, Lined, Taken, CallsLi
 
 use records::tables;
 
-// The number i where it is below n, else 0.
-fn below(i: usize, n: usize) -> u64
-    ensures { (i < n → result ≡ i) × (n ≤ i → result ≡ 0) }
-{
-    if i < n { i as u64 } else { 0 }
-}
-
 // Writes the numbers below n to the first places of the list, and 0 past them.
 fn number(list: &mut [u64], n: usize)
     requires { n ≤ length list.old }
     ensures { Numbered n (length list.old) list.new }
 {
-    let mut i = 0;
-    while i < list.len() {
-        list[i] = below(i, n);
-        i += 1;
+    for (i, place) in list.iter_mut().enumerate() {
+        *place = if i < n { i as u64 } else { 0 };
     }
 }
 
@@ -55,22 +46,9 @@ fn put_lines(calls: &[u64], n: usize, words: &mut [u64], at: usize)
     requires { (call_width * n ≤ length calls.now) × (at + line_width * n ≤ length words.old) }
     ensures { Lined calls.now n at words.old words.new }
 {
-    let mut i = 0;
-    while i < n {
+    for i in 0..n {
         put_line(calls, i, words, at + radix::LINE_WORDS * i);
-        i += 1;
     }
-}
-
-// The number in line i of n lines, else 0.
-fn number_of(words: &[u64], at: usize, n: usize, i: usize) -> u64
-    requires { at + line_width * n ≤ length words.now }
-    ensures { (i < n → result ≡ get_or words.now (at + line_width * i + 2) 0) × (n ≤ i → result ≡ 0) }
-{
-    if i < n {
-        return words[at + radix::LINE_WORDS * i + 2];
-    }
-    0
 }
 
 // Writes the numbers of n lines to the head of the list, and 0 past them.
@@ -78,17 +56,19 @@ fn take_numbers(words: &[u64], at: usize, n: usize, list: &mut [u64])
     requires { (at + line_width * n ≤ length words.now) × (n ≤ length list.old) }
     ensures { Taken words.now at n (length list.old) list.new }
 {
-    let mut i = 0;
-    while i < list.len() {
-        list[i] = number_of(words, at, n, i);
-        i += 1;
+    for (i, place) in list.iter_mut().enumerate() {
+        *place = if i < n {
+            words[at + radix::LINE_WORDS * i + 2]
+        } else {
+            0
+        };
     }
 }
 
 // Lists the first n call records by way of lines in the words from a place on.
 fn by_lines(calls: &[u64], n: usize, list: &mut [u64], words: &mut [u64], at: usize)
     requires n_in_bounds { (call_width * n ≤ length calls.now) × (n ≤ length list.old) × CallsOnce (call_table calls.now n) }
-    requires n_in_bounds_2 { at + line_width * n + line_width * n ≤ length words.old }
+    requires room { at + line_width * n + line_width * n ≤ length words.old }
     ensures calls_listed { CallsListed (call_table calls.now n) (length list.old) list.new }
     ensures below { Below at words.old words.new }
 {

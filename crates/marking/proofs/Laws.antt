@@ -1,23 +1,22 @@
 -- Laws of the operation: its contract fixes what is told and left; where the paper says 0 the word is 0; a yes whose goal is one call is a bit of the
 -- table; where yes, the state that the steps leave is an end of the goal. Assumes nothing.
-use Prim.Native.Nat.{ℕ, zero, suc, ◌+◌, ◌*◌, ◌/◌, ◌%◌, ◌<◌, ◌≤◌}
+use Prim.Native.Nat.{ℕ, zero, suc, ◌+◌, ◌*◌, ◌<◌, ◌≤◌}
 use native.Mathlib.Omega.{arith}
 use native.Mathlib.Decide.{dec_lt}
-use mathlib.Core.Path.{◌≡◌, refl, sym, ap, subst, ◌∙◌}
+use mathlib.Core.Path.{◌≡◌, refl, sym, subst, ◌∙◌}
 use mathlib.Core.List.{List, [], ◌∷◌, Memᴰ}
-use mathlib.Core.Logic.{◌↔◌, ◌≢◌}
 use lib.ListN.{get_or, length, take}
 use lib.Seq.{ext_get_or}
 use Rattle.steps.specs.State.{State, bit}
-use Rattle.steps.specs.Step.{Step, query, call}
-use Rattle.steps.specs.Words.{body_of, book_of, run_of}
+use Rattle.steps.specs.Step.{Step, call}
+use Rattle.steps.specs.Words.{body_of, run_of}
 use Rattle.steps.specs.Run.{End}
 use Rattle.steps.specs.Elementary.{Onward, on, stuck, elementary}
 use Rattle.steps.proofs.AcceptanceLaws.{goal_indexed}
 use Rattle.steps.proofs.StateLaws.{no_bit, bits_same}
 use Rattle.steps.proofs.WordLaws.{not_on}
 use Rattle.masks.specs.Masks.{Wide}
-use Rattle.marking.specs.Marking.{left_by, Question, refusal, Yes, Marked, TableMarked, RecordMarked, refused, marked}
+use Rattle.marking.specs.Marking.{left_by, Question, Marked, TableMarked, RecordMarked, refused, marked}
 use Rattle.marking.specs.Inner.{Ran}
 use Rattle.marking.proofs.Marks.{marked_unique, yes_goal, evaluated_yes}
 use Rattle.marking.proofs.Outcomes.{taken_of}

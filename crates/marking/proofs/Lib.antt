@@ -5,3 +5,4 @@ pub mod Marks
 pub mod Turning
 pub mod Outcomes
 pub mod Laws
+pub mod EachTested

@@ -6,19 +6,19 @@ use mathlib.Core.Path.{◌≡◌, refl, sym, ap, subst, ◌∙◌}
 use mathlib.Core.Bool.{true, false}
 use mathlib.Core.List.{List, [], ◌∷◌, ◌++◌, append-nil}
 use mathlib.Core.Logic.{◌↔◌, inl}
-use lib.ListN.{get_or, length, take, drop, length-append, length-drop, length-map, take-append-drop, get_or-map}
+use lib.ListN.{get_or, length, take, drop, length-append, length-drop, length-map, take-append-drop}
 use lib.Seq.{drop-drop, take_at, take-length, take_all}
 use Rattle.steps.specs.State.{State, bit}
-use Rattle.steps.specs.Step.{Step, query, insert, delete, call, deny, Body, Rule, Book}
-use Rattle.steps.specs.Words.{step_by, step_of, body_of, book_of, run_of}
+use Rattle.steps.specs.Step.{Step, query, insert, delete, call, deny, Body, Book}
+use Rattle.steps.specs.Words.{step_of, body_of, book_of, run_of}
 use Rattle.steps.specs.Inner.{is_call}
 use Rattle.steps.specs.Run.{End}
 use Rattle.steps.specs.Acceptance.{good_step}
-use Rattle.steps.specs.Elementary.{on, stuck, elementary}
+use Rattle.steps.specs.Elementary.{on, elementary}
 use Rattle.steps.proofs.AcceptanceLaws.{AcceptedWords, Indexed, good_indexed, rule_indexed}
 use Rattle.steps.proofs.Deductions.{RuleOf, rule}
 use Rattle.steps.proofs.Execution.{Runs, ended, does, uses, Ends}
-use Rattle.steps.proofs.Tables.{Walk, stands, walks, takes, Closed, Sound, Reached, exact, walk_runs}
+use Rattle.steps.proofs.Tables.{Walk, stands, walks, takes, exact, walk_runs}
 use Rattle.steps.proofs.StateLaws.{bits_same}
 use Rattle.steps.proofs.WordLaws.{Low, not_on}
 use Rattle.masks.specs.Masks.{Carried, carries, Held}
@@ -26,8 +26,8 @@ use Rattle.masks.proofs.Walking.{step_at_word}
 use Rattle.gains.proofs.Widening.{runs_up}
 use Rattle.marking.specs.Marking.{steps_of, CarriesOut, left_by, between, Question, Yes, Marked, TableMarked}
 use Rattle.marking.specs.Inner.{Ran}
-use Rattle.marking.proofs.Spending.{Spends, carried, spent}
-use Rattle.marking.proofs.Places.{At, state_at, same_at, step_at, place_at, place_spends, spends_place}
+use Rattle.marking.proofs.Spending.{carried, spent}
+use Rattle.marking.proofs.Places.{At, state_at, step_at, place_at, place_spends, spends_place}
 
 -- The recorded steps.
 abbrev pub recorded : Question → List Step

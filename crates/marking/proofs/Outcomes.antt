@@ -1,5 +1,5 @@
 -- What `mark` gives and leaves, from what its parts give: an unrefused record is walked over a cleared table, which is then saturated. Assumes nothing.
-use Prim.Native.Nat.{ℕ, zero, suc, ◌+◌, ◌*◌, ◌/◌, ◌%◌, ◌<◌, ◌≤◌}
+use Prim.Native.Nat.{ℕ, ◌+◌, ◌*◌, ◌/◌, ◌%◌, ◌<◌, ◌≤◌}
 use native.Mathlib.Omega.{arith}
 use mathlib.Core.Path.{◌≡◌, refl, sym, ap, subst, ◌∙◌}
 use mathlib.Core.Bool.{Bool, true, false, cond, not, ◌&&◌}
@@ -13,8 +13,8 @@ use Rattle.steps.specs.State.{bit}
 use Rattle.steps.specs.Step.{Body, Rule}
 use Rattle.steps.specs.Words.{body_of, head_of, words_of, book_of}
 use Rattle.steps.specs.Widths.{rule_width}
-use Rattle.steps.specs.Inner.{is_call, rule_of}
-use Rattle.steps.specs.Acceptance.{each_below, good_step, refusal_of}
+use Rattle.steps.specs.Inner.{is_call}
+use Rattle.steps.specs.Acceptance.{good_step, refusal_of}
 use Rattle.steps.proofs.AcceptanceLaws.{AcceptedWords, start_accepted, rule_step}
 use Rattle.steps.proofs.Deductions.{RuleOf, rule}
 use Rattle.steps.proofs.EachBelow.{both, each_at, true_not_false}
@@ -22,7 +22,7 @@ use Rattle.steps.proofs.StateLaws.{no_bit}
 use Rattle.steps.proofs.Tables.{Walk}
 use Rattle.steps.proofs.WordLaws.{book_member}
 use Rattle.masks.specs.Masks.{Carried, Held, Mask, WalkTo, GoodWord, GoodWords, Guide, Walkable, SoundMarks, AllSettled}
-use Rattle.marking.specs.Marking.{Question, bad_recorded_steps, refusal, Yes, TableMarked, RecordMarked, refused, marked}
+use Rattle.marking.specs.Marking.{Question, bad_recorded_steps, refusal, Yes, RecordMarked, refused, marked}
 use Rattle.marking.specs.Inner.{Ran, Cleared}
 use Rattle.marking.proofs.Marks.{Taken, size_recorded, Saturated, marks_table, yes_bit}
 

@@ -1,27 +1,25 @@
 -- Places of a record: place i, no later than the first step that cannot run, stands for the state after the steps before i and the steps from i
 -- on. Executions over places are executions that spend the record, so the theorem of `Tables` serves with places for states. Assumes nothing.
-use Prim.Native.Nat.{ℕ, zero, suc, ◌+◌, ◌-◌, ◌*◌, ◌<◌, ◌≤◌}
+use Prim.Native.Nat.{ℕ, suc, ◌+◌, ◌-◌, ◌<◌, ◌≤◌}
 use native.Mathlib.Omega.{arith}
 use native.Mathlib.Decide.{dec_lt}
 use mathlib.Core.Path.{◌≡◌, refl, sym, ap, subst, ◌∙◌}
 use mathlib.Core.List.{List, [], ◌∷◌, ◌++◌}
-use mathlib.Core.Logic.{◌↔◌}
-use lib.ListN.{get_or, length, take, drop, length-append, length-drop, length-map, take-append-drop, drop_of_length-le}
-use lib.Seq.{take-suc, drop-cons, take-append_seam, drop-drop, take-add, drop-length}
+use lib.ListN.{get_or, length, take, drop, length-map, drop_of_length-le}
+use lib.Seq.{take-suc, drop-cons, take-add}
 use Rattle.steps.specs.State.{State}
-use Rattle.steps.specs.Step.{Step, query, insert, delete, call, Body, Book}
-use Rattle.steps.specs.Deduction.{Final}
+use Rattle.steps.specs.Step.{Step, query, Body}
 use Rattle.steps.specs.Words.{step_of, body_of}
 use Rattle.steps.specs.Elementary.{Onward, on, stuck, elementary}
-use Rattle.steps.proofs.Deductions.{Does, RuleOf}
-use Rattle.steps.proofs.Execution.{Runs, ended, does, uses, Ends}
+use Rattle.steps.proofs.Deductions.{Does}
+use Rattle.steps.proofs.Execution.{Runs, ended, does, uses}
 use Rattle.steps.proofs.WordLaws.{Low, on_same, not_on, elementary_does, does_elementary}
 use Rattle.masks.specs.Masks.{Carried, carries}
 use Rattle.masks.proofs.Walking.{step_at_word}
 use Rattle.gains.proofs.Widening.{runs_up}
-use Rattle.marking.specs.Marking.{steps_of, CarriesOut, left_by, between}
+use Rattle.marking.specs.Marking.{left_by}
 use Rattle.marking.specs.Inner.{Ran}
-use Rattle.marking.proofs.Spending.{Left, Spends, spends, carried, spent}
+use Rattle.marking.proofs.Spending.{Left, Spends, spends}
 
 -- ---- what steps leave
 

@@ -5,9 +5,9 @@ use mathlib.Core.Path.{◌≡◌, refl, sym, ap, subst, ◌∙◌}
 use mathlib.Core.List.{List, [], ◌∷◌, ◌++◌, append_assoc, append-nil}
 use mathlib.Core.Logic.{◌↔◌}
 use Rattle.steps.specs.State.{State}
-use Rattle.steps.specs.Step.{Step, query, insert, delete, call, deny, Body, Rule, Book}
+use Rattle.steps.specs.Step.{Step, call, Body, Book}
 use Rattle.steps.specs.Deduction.{Sequent, ◌⊢◌, Move, queries, inserts, deletes, calls, denies, Deduction, done, move, Final}
-use Rattle.steps.proofs.Deductions.{Does, asks, adds, drops, lacks, RuleOf, rule, does_move}
+use Rattle.steps.proofs.Deductions.{Does, asks, adds, drops, lacks, RuleOf, rule}
 use Rattle.steps.proofs.Execution.{Runs, ended, does, uses, runs_split}
 use Rattle.marking.specs.Marking.{move_step, steps_of, CarriesOut}
 

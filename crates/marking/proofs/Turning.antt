@@ -1,14 +1,14 @@
 -- Turns of a pass, passes at a place and places in turn: what the loops over rules, passes and places go by. Assumes nothing.
 use Prim.Native.Nat.{ℕ, ◌+◌, ◌-◌, ◌*◌, ◌/◌, ◌^◌, ◌<◌, ◌≤◌}
 use native.Mathlib.Omega.{arith}
-use native.Mathlib.Decide.{dec_lt, ℕ_discrete}
-use mathlib.Core.Path.{◌≡◌, refl, sym, ap, subst, ◌∙◌}
+use native.Mathlib.Decide.{ℕ_discrete}
+use mathlib.Core.Path.{◌≡◌, refl, sym, subst, ◌∙◌}
 use mathlib.Core.Bool.{Bool, true, false, cond}
-use mathlib.Core.List.{List, [], ◌∷◌}
+use mathlib.Core.List.{List}
 use mathlib.Core.Logic.{◌≢◌}
 use lib.Bits.{bit_or, or_zero_r}
 use lib.Dec.{eqb}
-use lib.ListN.{get_or, length}
+use lib.ListN.{length}
 use borrow.Author.Count.{below_more}
 use borrow.Author.Tests.{eq-eqb, ne_eqb}
 use Rattle.steps.specs.State.{bit}
@@ -19,7 +19,7 @@ use Rattle.steps.proofs.StateLaws.{no_bit}
 use Rattle.steps.proofs.Tables.{Walk, stands, walks, takes}
 use Rattle.masks.specs.Masks.{Carried, carries, Held, WalkTo, Guide, Wide, total, Grown, Walkable, NoCall, SoundMarks, ClosedRule, Fresh, Widened, Turned, Passed, Settled, AllSettled}
 use Rattle.masks.proofs.Walking.{bit_of_or, or_right, one_bit}
-use Rattle.gains.proofs.Widening.{runs_up, total_most, grown_none, grown_then, guide_kept, no_call_left, added_back, added_kept, added_grown, added_same, added_more, widened_found, widened_sound}
+use Rattle.gains.proofs.Widening.{runs_up, total_most, grown_none, grown_then, no_call_left, added_back, added_kept, added_grown, added_same, added_more, widened_found, widened_sound}
 
 module _ (rules steps : List ℕ) (runs i : ℕ) (walkable : Walkable rules) (place : i ≤ runs) where
   -- ---- the turns of a pass

@@ -1,5 +1,5 @@
 -- Marking a trainee's record: whether a deduction carries out just the steps recorded (request R-9). Assumes nothing.
-use Rattle.std.specs.Prelude.{ℕ, ◌+◌, ◌-◌, ◌*◌, ◌<◌, ◌≤◌, ◌≡◌, Bool, true, cond, not, ◌&&◌, ◌↔◌, ◌≢◌, get_or, length, take, drop, eqb, ltb}
+use Rattle.std.specs.Prelude.{ℕ, ◌+◌, ◌-◌, ◌*◌, ◌<◌, ◌≤◌, ◌≡◌, Bool, cond, not, ◌&&◌, ◌↔◌, ◌≢◌, get_or, length, take, drop, eqb, ltb}
 use mathlib.Core.List.{List, [], ◌∷◌, ◌++◌}
 use Rattle.refusals.specs.Marking.{marking_refusals}
 use Rattle.steps.specs.State.{State, bit}

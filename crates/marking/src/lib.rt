@@ -3,17 +3,19 @@
 #![tactic(auto)]
 
 ghost use Rattle.std.specs.Prelude.{◌≤◌, ◌≡◌, length};
+ghost use Rattle.refusals.specs.Number.{number_in};
 ghost use Rattle.steps.specs.Words.{body_of};
 ghost use Rattle.marking.specs.Marking.{question, bad_recorded_steps, refusal, RecordMarked};
 ghost use Rattle.marking.specs.Inner.{Ran, Cleared};
 
+use refusals::Refusal;
 use steps::state::State;
-use steps::word::Next;
 use steps::{accept, word};
 
 mod passes;
 
 // What marking gives: its refusal or 0, and 1 for a yes, else 0.
+// Stays: two numbers, since C sees them; the tests inside give a Result.
 #[repr(C)]
 #[derive(Clone, Copy)]
 pub struct Marked {
@@ -35,10 +37,17 @@ pub fn mark(
     ensures { RecordMarked (question fluents actions rules.now goal.now start recorded.now)
         table.old result.refusal result.yes table.new }
 {
-    let refusal = record_refusal(fluents, actions, rules, goal, start, recorded, table.len());
-    if refusal != 0 {
+    if let Err(refusal) = record_refusal(
+        fluents,
+        actions,
+        rules,
+        goal,
+        start,
+        recorded,
+        table.len(),
+    ) {
         return Marked {
-            refusal: refusal,
+            refusal: refusal.number(),
             yes: 0,
         };
     }
@@ -52,7 +61,8 @@ pub fn mark(
     }
 }
 
-// The first of 20 to 24, 60, 61 and 62 that is met, or 0.
+// The first of 20 to 24, 60, 61 and 62 that is met.
+#[tactic(auto, unfolding(crate::specs::Marking::refusal))]
 fn record_refusal(
     fluents: u64,
     actions: u64,
@@ -61,40 +71,27 @@ fn record_refusal(
     start: u64,
     recorded: &[u16],
     room: usize,
-) -> u64
-    ensures { result ≡ refusal (question fluents actions rules.now goal.now start recorded.now) room }
+) -> Result<(), Refusal>
+    ensures { number_in result ≡ refusal (question fluents actions rules.now goal.now start recorded.now) room }
 {
-    let words = accept::refusal(fluents, actions, rules, goal, start);
-    if words != 0 {
-        return words;
-    }
+    accept::refusal(fluents, actions, rules, goal, start)?;
     if 63 < recorded.len() {
-        return refusals::LONG_RECORD;
+        return Err(Refusal::LongRecord);
     }
     if room < 4096 {
-        return refusals::MARKS_SHORT;
+        return Err(Refusal::MarksShort);
     }
     if bad_record(fluents, actions, recorded) {
-        return refusals::BAD_RECORDED_STEP;
+        return Err(Refusal::BadRecordedStep);
     }
-    0
+    Ok(())
 }
 
 // Whether a recorded step is a call or bad: 62.
 fn bad_record(fluents: u64, actions: u64, recorded: &[u16]) -> bool
     ensures { result ≡ bad_recorded_steps fluents actions recorded.now }
 {
-    let mut i = 0;
-    while i < recorded.len() {
-        if word::is_call(recorded[i]) {
-            return true;
-        }
-        if !accept::good_step(fluents, actions, recorded[i]) {
-            return true;
-        }
-        i += 1;
-    }
-    false
+    !recorded.iter().all(|step| !word::is_call(*step) && accept::good_step(fluents, actions, *step))
 }
 
 // How many of the recorded steps can run, one after another from the start.
@@ -102,20 +99,13 @@ fn runs_of(start: u64, recorded: &[u16]) -> usize
     ensures { Ran (body_of recorded.now) start result }
 {
     let mut state = State::of(start);
-    let mut i = 0;
-    while i < recorded.len() {
-        let next = word::elementary(recorded[i], state);
-        match next {
-            Next::On(after) => {
-                state = after;
-            }
-            Next::Stuck => {
-                return i;
-            }
+    for (i, step) in recorded.iter().enumerate() {
+        match word::elementary(*step, state) {
+            Some(after) => state = after,
+            None => return i,
         }
-        i += 1;
     }
-    i
+    recorded.len()
 }
 
 // Sets the first 4,096 words to 0.
@@ -123,9 +113,5 @@ fn clear(table: &mut [u64])
     requires { 4096 ≤ length table.old }
     ensures { Cleared table.old table.new }
 {
-    let mut n = 0;
-    while n < 4096 {
-        table[n] = 0;
-        n += 1;
-    }
+    table[..4096].fill(0);
 }

@@ -16,10 +16,7 @@ fn calls(step: u16, actions: u64) -> bool
     requires { GoodWord step }
     ensures { result ≡ false → is_call step ≡ true → bit actions (step % 256) ≡ 0 }
 {
-    if word::is_call(step) {
-        return masks::has(actions, word::index(step) as usize);
-    }
-    false
+    word::is_call(step) && masks::has(actions, word::index(step) as usize)
 }
 
 // Whether a body has to be walked: nothing is known to have gained (0), or it calls an action that has.
@@ -30,12 +27,10 @@ fn stale(body: &[u16], gained: u64, more: u64) -> bool
     if gained == 0 {
         return true;
     }
-    let mut k = 0;
-    while k < body.len() {
-        if calls(body[k], gained | more) {
+    for step in body {
+        if calls(*step, gained | more) {
             return true;
         }
-        k += 1;
     }
     false
 }
@@ -72,10 +67,10 @@ fn turn(
     ensures { (before : List ℕ) → Turned rules.now recorded.now runs place gained r before table.old more
         → Turned rules.now recorded.now runs place gained (r + 1) before table.new result }
 {
-    if stale(bodies::rule_steps(rules, r), gained, more) {
-        if widen(rules, r, place, runs, recorded, table) {
-            return more | 1 << masks::head(rules, r);
-        }
+    if stale(bodies::rule_steps(rules, r), gained, more)
+        && widen(rules, r, place, runs, recorded, table)
+    {
+        return more | 1 << masks::head(rules, r);
     }
     more
 }
@@ -93,12 +88,9 @@ fn pass(
         × (gained ≢ 0 → Fresh rules.now recorded.now runs place gained table.old) }
     ensures { Passed rules.now recorded.now runs place table.old table.new result }
 {
-    let count = rules.len() / steps::word::RULE_WORDS;
     let mut more: u64 = 0;
-    let mut r = 0;
-    while r < count {
+    for r in 0..rules.len() / word::RULE_WORDS {
         more = turn(rules, r, place, runs, recorded, table, gained, more);
-        r += 1;
     }
     more
 }
@@ -120,11 +112,9 @@ fn settle_places(rules: &[u16], calls: &[u16], runs: usize, recorded: &[u16], ta
         × (length calls.now ≡ 4161) }
     ensures { AllSettled rules.now recorded.now runs 0 table.old table.new }
 {
-    let mut left = runs + 1;
-    while 0 < left {
-        left -= 1;
-        gains::gain(rules, calls, left, runs, recorded, table);
-        settle(rules, left, runs, recorded, table);
+    for place in (0..runs + 1).rev() {
+        gains::gain(rules, calls, place, runs, recorded, table);
+        settle(rules, place, runs, recorded, table);
     }
 }
 

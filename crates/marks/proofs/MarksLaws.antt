@@ -2,13 +2,12 @@
 -- a word of an earlier walk holds no mark, so a walk begins without clearing any. Assumes nothing.
 use Prim.Native.Nat.{ℕ, ◌+◌, ◌*◌, ◌/◌, ◌%◌, ◌^◌, ◌<◌, ◌≤◌}
 use native.Mathlib.Omega.{arith}
-use native.Mathlib.Decide.{ℕ_discrete, dec_lt}
+use native.Mathlib.Decide.{ℕ_discrete}
 use mathlib.Core.Path.{◌≡◌, refl, sym, ap, ◌∙◌}
 use mathlib.Core.Bool.{Bool, true, false, cond}
 use mathlib.Core.List.{List}
 use mathlib.Core.Logic.{◌⊎◌, inl, inr, ◌≢◌}
-use lib.ListN.{length, get_or, set, length-set}
-use lib.Seq.{get_or-set_same, get_or-set_other}
+use lib.ListN.{get_or}
 use lib.Dec.{eqb}
 use borrow.Author.Tests.{eqb-true, eq-eqb, ne_eqb}
 use Rattle.steps.specs.State.{bit, holds}
@@ -16,13 +15,9 @@ use Rattle.steps.proofs.StateLaws.{set_other, room, low_bit, high, held, not_hel
 use Rattle.records.specs.Records.{call_width}
 use Rattle.records.specs.Storage.{Stored}
 use Rattle.desk.specs.Desk.{open_calls, mark_words, round_unit, round_top, action_unit}
-use Rattle.marks.specs.Marks.{Mark, Stamped, word_in, with_mark, Marked, Fresh, MarksAlone, MarksPut, Unmarked}
+use Rattle.marks.specs.Marks.{Mark, Stamped, word_in, with_mark, Marked, MarksAlone, MarksPut}
 
--- a later walk has none
-pub fresh_next : {marks : ℕ → ℕ} {walk : ℕ} → Stamped marks walk → walk + 1 < 65536 → Fresh marks (walk + 1)
-fresh_next s l = record { stamped = record { early = λ r. omega (arith, s.early r); few = l }; unmarked = λ q r m. omega (arith, s.early r, m.stamp) }
-
--- nor has a walk among words that are all 0
+-- A walk has no mark among words that are all 0.
 pub zeros_stamped : {marks : ℕ → ℕ} (walk : ℕ) → ((r : ℕ) → marks r ≡ 0) → walk < 65536 → Stamped marks walk
 zeros_stamped walk z l = record { early = λ r. rw (z r) (omega arith); few = l }
 
@@ -97,19 +92,7 @@ marked_by marks walk q r l true e = word_mark marks walk q r q l (held (word_in 
 marked_by marks walk q r l false e = λ m. omega (arith, not_held (word_in marks walk r) q (sym e), mark_word marks walk q r q m)
 
 -- ---- in the words of the call table
-pub alone_refl : (n : ℕ) (words : List ℕ) → MarksAlone n words words
-alone_refl n words = record { long = refl; above = λ i. refl; states = λ i. refl; thirds = λ i. refl; past = λ p l. refl }
-
-pub alone_trans : {n : ℕ} {words words' words'' : List ℕ} → MarksAlone n words words' → MarksAlone n words' words'' → MarksAlone n words words''
-alone_trans a b = record {
-  long = b.long ∙ a.long;
-  above = λ i. b.above i ∙ a.above i;
-  states = λ i. b.states i ∙ a.states i;
-  thirds = λ i. b.thirds i ∙ a.thirds i;
-  past = λ p l. b.past p l ∙ a.past p l;
-}
-
--- among more records
+-- Where marks alone differ, they do among more records too,
 pub alone_up : {m n : ℕ} {words words' : List ℕ} → m ≤ n → MarksAlone m words words' → MarksAlone n words words'
 alone_up l a = record { long = a.long; above = a.above; states = a.states; thirds = a.thirds; past = λ p h. a.past p (omega arith) }
 
@@ -127,31 +110,6 @@ alone_calls {n} {words} {words'} a m = λ d. record { count = m; action = λ i. 
 pub alone_stored : {n : ℕ} {words words' : List ℕ} → MarksAlone n words words' → Stored call_width words n → Stored call_width words' n
 alone_stored a s = record { fits = omega (arith, a.long, s.fits); most = s.most; past = λ i l. a.past i l ∙ s.past i l }
 
--- One word written.
-module _ (words : List ℕ) (r word v : ℕ) (inside : call_width * r < length words) (small : word < round_unit)
-    (written : v ≡ get_or words (call_width * r) 0 / round_unit * round_unit + word) where
-  same : (p : ℕ) → p ≢ call_width * r → get_or (set words (call_width * r) v) p 0 ≡ get_or words p 0
-  same p n = get_or-set_other words (call_width * r) p v 0 n
-
-  here : get_or (set words (call_width * r) v) (call_width * r) 0 ≡ v
-  here = get_or-set_same words (call_width * r) v 0 inside
-
-  pub put_alone : MarksAlone (r + 1) words (set words (call_width * r) v)
-  put_alone = record {
-    long = length-set words (call_width * r) v;
-    above = λ i. above i (ℕ_discrete i r);
-    states = λ i. same (call_width * i + 1) (λ e. omega arith);
-    thirds = λ i. same (call_width * i + 2) (λ e. omega arith);
-    past = λ p l. same p (λ e. omega arith);
-  }
-    where
-      above : (i : ℕ) → Dec (i ≡ r) → get_or (set words (call_width * r) v) (call_width * i) 0 / round_unit ≡ get_or words (call_width * i) 0 / round_unit
-      above i (yes e) = rw (e, here, written) (omega arith)
-      above i (no n) = rw (same (call_width * i) (λ e. n (omega arith))) refl
-
-  pub put_here : MarksPut words r word (set words (call_width * r) v)
-  put_here = record { here = rw (here, written) (omega arith); other = λ i n. rw (same (call_width * i) (λ e. n (omega arith))) refl }
-
 -- One mark more, in the words.
 pub put_marked : {words words' : List ℕ} {r word : ℕ} (walk q : ℕ) → MarksPut words r word words' → word ≡ word_in (mark_words words) walk r + 2 ^ q
     → mark_words words' ≡ with_mark (mark_words words) walk q r
@@ -160,31 +118,3 @@ put_marked {words} {words'} {r} {word} walk q p e = λ d i. at i (ℕ_discrete i
     at : (i : ℕ) → Dec (i ≡ r) → mark_words words' i ≡ with_mark (mark_words words) walk q r i
     at i (yes z) = rw z (p.here ∙ e ∙ sym (new_word (mark_words words) walk q r))
     at i (no n) = p.other i n ∙ sym (old_word (mark_words words) walk q r i n)
-
--- Records unmarked, one after the other.
-pub unmarked_start : (n₀ : ℕ) (words : List ℕ) → Unmarked n₀ n₀ words words
-unmarked_start n₀ words = record { alone = alone_refl n₀ words; none = λ i l h. absurd (omega arith); kept = λ i c. refl }
-
-pub unmarked_next : {n₀ i : ℕ} {words words' words'' : List ℕ} → n₀ ≤ i → Unmarked n₀ i words words' → MarksAlone (i + 1) words' words'' → MarksPut words' i 0 words''
-    → Unmarked n₀ (i + 1) words words''
-unmarked_next {n₀} {i} {words} {words'} {words''} low u a p = record {
-  alone = alone_trans (alone_up (omega arith) u.alone) a;
-  none = λ k l h. none k l h (ℕ_discrete k i);
-  kept = λ k c. p.other k (apart k c) ∙ u.kept k (wide k c);
-}
-  where
-    none : (k : ℕ) → n₀ ≤ k → k < i + 1 → Dec (k ≡ i) → mark_words words'' k ≡ 0
-    none k l h (yes e) = rw e p.here
-    none k l h (no n) = p.other k n ∙ u.none k l (omega arith)
-
-    apart : (k : ℕ) → (k < n₀) ⊎ (i + 1 ≤ k) → k ≢ i
-    apart k (inl l) e = omega arith
-    apart k (inr l) e = omega arith
-
-    wide : (k : ℕ) → (k < n₀) ⊎ (i + 1 ≤ k) → (k < n₀) ⊎ (i ≤ k)
-    wide k (inl l) = inl l
-    wide k (inr l) = inr (omega arith)
-
--- no record has a mark then
-pub unmarked_all : {n : ℕ} {words words' : List ℕ} → Unmarked 0 n words words' → Stored call_width words n → (i : ℕ) → mark_words words' i ≡ 0
-unmarked_all {n} {words} {words'} u s i = elim (dec_lt i n) [ yes l ↦ u.none i (omega arith) l | no m ↦ u.kept i (inr (omega arith)) ∙ rw (s.past (call_width * i) (omega arith)) refl ]

@@ -20,15 +20,17 @@ fn marks_of(calls: &[u64], row: usize) -> u64
 }
 
 // The marks of a call record, without those of earlier walks.
+#[tactic(auto, unfolding(crate::specs::Marks::word_in))]
 fn word_in(calls: &[u64], walk: u64, row: usize) -> u64
     requires { Stamped (mark_words calls.now) walk × (call_width * row < length calls.now) }
     ensures { result ≡ word_in (mark_words calls.now) walk row }
 {
     let word = marks_of(calls, row);
     if word / 65536 == walk {
-        return word;
+        word
+    } else {
+        walk * 65536
     }
-    walk * 65536
 }
 
 // Writes the marks of a call record.
@@ -64,10 +66,8 @@ pub fn unmark_from(calls: &mut [u64], n0: usize, n: usize)
     requires { (n0 ≤ n) × (call_width * n ≤ length calls.old) }
     ensures { Unmarked n0 n calls.old calls.new }
 {
-    let mut i = n0;
-    while i < n {
+    for i in n0..n {
         put_marks(calls, i, 0);
-        i += 1;
     }
 }
 

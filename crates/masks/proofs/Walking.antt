@@ -2,15 +2,15 @@
 use Prim.Native.Nat.{ℕ, zero, suc, ◌+◌, ◌-◌, ◌*◌, ◌/◌, ◌%◌, ◌^◌, ◌<◌, ◌≤◌, max}
 use native.Mathlib.Omega.{arith}
 use native.Mathlib.Nat.{zero-add, pow-suc}
-use native.Mathlib.Decide.{dec_lt, ℕ_discrete}
+use native.Mathlib.Decide.{ℕ_discrete}
 use mathlib.Core.Path.{◌≡◌, refl, sym, ap, subst, ◌∙◌}
-use mathlib.Core.Bool.{Bool, true, false}
-use mathlib.Core.List.{List, [], ◌∷◌, ◌++◌, map, map-append}
+use mathlib.Core.Bool.{true, false}
+use mathlib.Core.List.{List, [], ◌∷◌, ◌++◌, map-append}
 use mathlib.Core.Logic.{◌⊎◌, inl, inr, ⊎_elim}
 use lib.ListN.{get_or, length, take, get_or-map}
 use lib.Bits.{bit_or, or_step, or_shr}
 use lib.Count.{count_trailing_zeros, under}
-use lib.Seq.{take-suc, take_all}
+use lib.Seq.{take-suc}
 use Rattle.steps.specs.State.{bit}
 use Rattle.steps.specs.Step.{Step, query, insert, delete, call, deny, Body}
 use Rattle.steps.specs.Words.{step_by, step_of, body_of}
@@ -235,6 +235,3 @@ module _ (steps : List ℕ) (runs : ℕ) (table : List ℕ) (guide : Guide steps
 
       apart : (j : ℕ) → j < 64 → ((p : ℕ) × WalkTo steps runs table i (take k words) p × WalkTo steps runs table p (get_or words k 0 ∷ []) j) → bit more j ≡ 1
       apart j l (p, a, b) = let lp = walk_below a li in n.every j l (p, lp, m.every p lp a, b)
-
-  pub walk_all : {i k mask : ℕ} (words : List ℕ) → length words ≤ k → Mask mask (WalkTo steps runs table i (take k words)) → Mask mask (WalkTo steps runs table i words)
-  walk_all {i} {k} {mask} words l m = subst (λ (ws : List ℕ). Mask mask (WalkTo steps runs table i ws)) (take_all k words l) m

@@ -35,13 +35,10 @@ pub fn reach(step: u16, p: usize, runs: usize, recorded: &[u16], table: &[u64]) 
         let action = word::index(step) as usize;
         return table[64 * action + p];
     }
-    if runs <= p {
-        return 0;
+    if p < runs && recorded[p] == step {
+        return 1 << (p + 1);
     }
-    if recorded[p] != step {
-        return 0;
-    }
-    1 << (p + 1)
+    0
 }
 
 // The places to which one step comes from the places of a mask.
@@ -54,8 +51,8 @@ pub fn spread(mask: u64, step: u16, runs: usize, recorded: &[u16], table: &[u64]
     let mut rest = mask;
     while rest != 0 {
         let p = lowest(rest);
-        out = out | reach(step, p, runs, recorded, table);
-        rest = rest - (1 << p);
+        out |= reach(step, p, runs, recorded, table);
+        rest -= 1 << p;
     }
     out
 }
@@ -66,10 +63,8 @@ pub fn walk_mask(body: &[u16], place: usize, runs: usize, recorded: &[u16], tabl
     ensures { Mask result (WalkTo recorded.now runs table.now place body.now) }
 {
     let mut mask: u64 = 1 << place;
-    let mut k = 0;
-    while k < body.len() {
-        mask = spread(mask, body[k], runs, recorded, table);
-        k += 1;
+    for step in body {
+        mask = spread(mask, *step, runs, recorded, table);
     }
     mask
 }
@@ -79,7 +74,7 @@ pub fn head(rules: &[u16], r: usize) -> usize
     requires { (r < length rules.now / rule_width) × Walkable rules.now }
     ensures { (result ≡ head_of rules.now r) × (result < 64) }
 {
-    rules[steps::word::RULE_WORDS * r] as usize
+    rules[word::RULE_WORDS * r] as usize
 }
 
 // Adds the places of a mask to the word of rule r's head at a place. Says whether the word has gained one.

@@ -1,7 +1,7 @@
 -- Laws of flags: where they stand, and what stays where they are written. Assumes nothing.
 use Prim.Native.Nat.{ℕ, ◌+◌, ◌*◌, ◌<◌, ◌≤◌}
 use native.Mathlib.Omega.{arith}
-use native.Mathlib.Decide.{ℕ_discrete, dec_lt}
+use native.Mathlib.Decide.{dec_lt}
 use native.Mathlib.Nat.{mul-add, mul-le-mul_left}
 use mathlib.Core.Path.{◌≡◌, refl, sym, ◌∙◌}
 use mathlib.Core.Bool.{Bool, true, false}
@@ -9,7 +9,7 @@ use mathlib.Core.List.{List}
 use mathlib.Core.Logic.{◌≢◌}
 use lib.ListN.{length, set, length-set}
 use lib.Seq.{get_or-set_same, get_or-set_other}
-use Rattle.matching.specs.Flags.{flag, Kept, NoFlags, Flagged, Marked, Matched, RowFound, RowForRow}
+use Rattle.matching.specs.Flags.{flag, Kept, Flagged, Marked, Matched, RowFound, RowForRow}
 use Rattle.matching.proofs.Pairs.{matched_more, matched_refused}
 
 -- A record's words end where the next one's begin.
@@ -45,23 +45,12 @@ module _ {width at n : ℕ} where
     other = λ p a. get_or-set_other words' (width * r + at) p v 0 (a r l) ∙ k.other p a;
   }
 
-  pub flagged_kept : {words words' : List ℕ} → Flagged width at n words → Kept width at n words words' → Flagged width at n words'
-  flagged_kept f k = record { inside = f.inside; fits = omega (arith, f.fits, k.long) }
-
   module _ {words : List ℕ} (f : Flagged width at n words) (r v : ℕ) (l : r < n) where
     pub flag_set : flag width at (set words (width * r + at) v) r ≡ v
     flag_set = get_or-set_same words (width * r + at) v 0 (flag_inside r f l)
 
     pub flags_beside : (j : ℕ) → j ≢ r → flag width at (set words (width * r + at) v) j ≡ flag width at words j
     flags_beside j d = get_or-set_other words (width * r + at) (width * j + at) v 0 (flag_other width at j r f.inside d)
-
-  -- One flag more is 0.
-  pub clear_more : {words : List ℕ} (i : ℕ) → Flagged width at n words → i < n → NoFlags width at i words
-      → NoFlags width at (i + 1) (set words (width * i + at) 0)
-  clear_more i f l z j h = elim (ℕ_discrete j i) [
-    | yes e ↦ rw e (flag_set f i 0 l)
-    | no d ↦ flags_beside f i 0 l j d ∙ z j (omega arith)
-  ]
 
 -- ---- a record told off
 pub marked_kept : {width at n : ℕ} {words words₁ words' : List ℕ} (r v : ℕ) (b : Bool) → Kept width at n words words₁

@@ -3,21 +3,20 @@ use Prim.Native.Nat.{ℕ, ◌+◌, ◌*◌, ◌<◌, ◌≤◌}
 use native.Mathlib.Omega.{arith}
 use native.Mathlib.Decide.{dec_lt}
 use mathlib.Core.Path.{◌≡◌, refl, sym, ap, ap₂, ◌∙◌}
-use mathlib.Core.Bool.{Bool, true, false}
 use mathlib.Core.List.{List}
 use lib.ListN.{get_or}
 use Rattle.steps.specs.State.{State}
 use Rattle.quarters.specs.Quarters.{quarter}
 use Rattle.records.specs.Records.{Calls, Answers, call_width}
-use Rattle.records.specs.Storage.{CallAt, AnswerAt, FindCall, FindAnswer}
-use Rattle.records.proofs.Growth.{Tables, CallsOnce, row_once}
+use Rattle.records.specs.Storage.{CallAt, AnswerAt, FindCall}
+use Rattle.records.proofs.Growth.{CallsOnce, row_once}
 use Rattle.desk.specs.Desk.{open_calls, packed_answers, packed_width}
 use Rattle.index.specs.Index.{answer_notes}
 use Rattle.index.proofs.Chains.{covers_same}
 use Rattle.index.proofs.IndexLaws.{call_index_same}
 use Rattle.stowing.specs.Stowing.{freed_words, stowed_words}
-use Rattle.matching.specs.Flags.{Whether, Kept, Flagged, RowFound, RowForRow}
-use Rattle.matching.specs.Matching.{call_row, answer_row, stowed_row, run_row, CallsReady, AnswersReady, SameRows}
+use Rattle.matching.specs.Flags.{Kept, Flagged, RowFound, RowForRow}
+use Rattle.matching.specs.Matching.{call_row, answer_row, stowed_row, run_row, CallsReady, AnswersReady}
 use Rattle.matching.proofs.Pairs.{rows_same}
 
 pub row_of_parts : {a b : ℕ} {D F : State} → a ≡ b → D ≡ F → ◌≡◌ {A = ℕ × State} (a, D) (b, F)
@@ -146,23 +145,6 @@ module _ {n stowed m most kept : ℕ} {answers : List ℕ} (c : AnswersReady n s
         by (yes b) = row_once held g.once (given.call y) r a D (c.of_calls y l) b h (f.found b)
         by (no b) = absurd (f.absent (omega arith) (given.call y) (c.of_calls y l) h)
 
-    pub answer_found : (a : ℕ) (D f : State) (r s : ℕ) → FindCall held a D r → r ≤ n → FindAnswer given r f s
-        → RowFound (a, D, f) (answer_row held given) m s
-    answer_found a D f r s fc low fa = record { found = there; absent = none }
-      where
-        there : s < m → ◌≡◌ {A = ℕ × State × State} (a, D, f) (answer_row held given s)
-        there l =
-            let u = fa.found l in
-            let b : r < n = omega (arith, c.of_calls s l, u.has_call) in
-            let v = fc.found b in
-            rw (u.has_call, v.has_action, v.has_state, u.has_final) refl
-
-        none : m ≤ s → (j : ℕ) → j < m → ◌≡◌ {A = ℕ × State × State} (a, D, f) (answer_row held given j) → ⊥
-        none l j h e =
-            let (x, d, z) = answer_parts e in
-            let same : given.call j ≡ r = row_is a D r j fc h (record { has_action = sym x; has_state = sym d }) in
-            fa.absent l j h (record { has_call = same; has_final = sym z })
-
     pub answers_apart : (x y : ℕ) → x < m → y < m → answer_row held given x ≡ answer_row held given y → x ≡ y
     answers_apart x y k l e = by (dec_lt x y) (dec_lt y x)
       where
@@ -182,11 +164,3 @@ module _ {n stowed m most kept : ℕ} {answers : List ℕ} (c : AnswersReady n s
         by (yes p) q = absurd (c.once x y (given.call y) (given.final y) p l at_x at_y)
         by (no p) (yes q) = absurd (c.once y x (given.call y) (given.final y) q k at_y at_x)
         by (no p) (no q) = omega arith
-
--- ---- both tables
-module _ (t e : Tables) (p : RowForRow (answer_row t.calls t.answers) t.answers.count (answer_row e.calls e.answers) e.answers.count) where
-  -- Where the answers are the same, the calls tell.
-  pub calls_tell : (b : Bool) → Whether (RowForRow (call_row t.calls) t.calls.count (call_row e.calls) e.calls.count) b
-      → Whether (SameRows t e) b
-  calls_tell true h = record { calls = h; answers = p }
-  calls_tell false h = λ s. h s.calls

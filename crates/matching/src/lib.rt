@@ -13,20 +13,16 @@ ghost use Rattle.matching.specs.Flags.{Whether, Flagged, Kept, NoFlags, AllFlags
 ghost use Rattle.matching.specs.Matching.{stowed_calls, call_row, SameRows, CallsReady, AnswersReady, stowed_tables, run_tables};
 ghost use Rattle.matching.specs.Matching.{stowed_row, run_row};
 
+use desk::PACKED_WORDS;
+use records::tables::CALL_WORDS;
 use steps::state::{Call, State};
+use stowing::FREED_WORDS;
 
-// A call record of a run, and the place of the flag in it: the uses that a run notes there are done with.
-const CALL_WORDS: usize = 3;
-
+// The place of the flag in a call record of a run: the uses that a run notes there are done with.
 const CALL_FLAG: usize = 2;
 
-// An answer record of a run, or one put aside, and the place of the flag: the round.
-const PACKED_WORDS: usize = 8;
-
+// Its place in an answer record of a run: the round.
 const ANSWER_FLAG: usize = 3;
-
-// The words that each answer record put aside leaves free.
-const FREED_WORDS: usize = 11;
 
 // ---- flags
 
@@ -35,10 +31,8 @@ fn clear_flags(words: &mut [u64], width: usize, at: usize, n: usize)
     requires { Flagged width at n words.old }
     ensures { Kept width at n words.old words.new × NoFlags width at n words.new }
 {
-    let mut j = 0;
-    while j < n {
+    for j in 0..n {
         words[width * j + at] = 0;
-        j += 1;
     }
 }
 
@@ -62,12 +56,10 @@ fn all_flags(words: &[u64], width: usize, at: usize, n: usize) -> bool
     requires { Flagged width at n words.now }
     ensures { Whether (AllFlags width at n words.now) result }
 {
-    let mut j = 0;
-    while j < n {
+    for j in 0..n {
         if words[width * j + at] == 0 {
             return false;
         }
-        j += 1;
     }
     true
 }
@@ -89,7 +81,7 @@ fn row_of(
         (get_or calls.now (call_room + i) 0) result }
 {
     let call = Call {
-        action: actions[i] as u64,
+        action: u64::from(actions[i]),
         state: State::of(calls[call_room + i]),
     };
     index::find_call(rows, n, calls, call)
@@ -109,13 +101,11 @@ fn match_calls(
         × ToldOff (call_row (stowed_calls call_room calls.now actions.now stowed)) stowed
         (call_row (open_calls rows.old n)) n (flag call_width 2 rows.new) result }
 {
-    let mut i = 0;
-    while i < stowed {
+    for i in 0..stowed {
         let row = row_of(rows, n, calls, actions, call_room, i);
         if !mark(rows, CALL_WORDS, CALL_FLAG, n, row, i as u64 + 1) {
             return false;
         }
-        i += 1;
     }
     true
 }
@@ -135,10 +125,8 @@ fn same_calls(
         (call_row (open_calls rows.old n)) n) result }
 {
     clear_flags(rows, CALL_WORDS, CALL_FLAG, n);
-    if !match_calls(rows, n, calls, actions, call_room, stowed) {
-        return false;
-    }
-    all_flags(rows, CALL_WORDS, CALL_FLAG, n)
+    match_calls(rows, n, calls, actions, call_room, stowed)
+        && all_flags(rows, CALL_WORDS, CALL_FLAG, n)
 }
 
 // ---- answers
@@ -184,13 +172,11 @@ fn match_answers(
         × ToldOff (stowed_row call_room calls.now actions.now most answers.old) kept
         (run_row rows.now answers.old) m (flag packed_width 3 answers.new) result }
 {
-    let mut x = 0;
-    while x < kept {
+    for x in 0..kept {
         let y = answer_of(rows, n, calls, actions, call_room, answers, m, most, x);
         if !mark(answers, PACKED_WORDS, ANSWER_FLAG, m, y, x as u64 + 1) {
             return false;
         }
-        x += 1;
     }
     true
 }
@@ -214,10 +200,8 @@ fn same_answers(
         (run_row rows.now answers.old) m) result }
 {
     clear_flags(answers, PACKED_WORDS, ANSWER_FLAG, m);
-    if !match_answers(rows, n, calls, actions, call_room, answers, m, most, kept) {
-        return false;
-    }
-    all_flags(answers, PACKED_WORDS, ANSWER_FLAG, m)
+    match_answers(rows, n, calls, actions, call_room, answers, m, most, kept)
+        && all_flags(answers, PACKED_WORDS, ANSWER_FLAG, m)
 }
 
 // Whether the tables put aside hold just the rows of the run's n calls and m answers, each once. The third words of the run's call records and the
@@ -240,8 +224,6 @@ pub fn same_rows(
     ensures kept { Kept call_width 2 n rows.old rows.new
         × Kept packed_width 3 m answers.old answers.new }
 {
-    if !same_answers(rows, n, calls, actions, call_room, answers, m, most, kept) {
-        return false;
-    }
-    same_calls(rows, n, calls, actions, call_room, stowed)
+    same_answers(rows, n, calls, actions, call_room, answers, m, most, kept)
+        && same_calls(rows, n, calls, actions, call_room, stowed)
 }

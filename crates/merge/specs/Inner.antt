@@ -1,19 +1,25 @@
 -- Inner contracts: the parts of two sheets, word by word, and what a merge leaves. Assumes nothing.
-use Rattle.std.specs.Prelude.{◌≡◌, ℕ, ◌+◌, ◌-◌, ◌≤◌, ltb, cond, ◌||◌, List, ◌++◌, length}
+use Rattle.std.specs.Prelude.{◌≡◌, ℕ, ◌+◌, ◌-◌, ◌≤◌, ltb, cond, ◌||◌, List, ◌++◌, length, Result, Ok, Err}
+use Rattle.refusals.specs.declared.Refusal.{Refusal}
+use Rattle.refusals.specs.Number.{number_of}
 use Rattle.refusals.specs.Sheet.{line_refusals}
 use Rattle.refusals.specs.Text.{text_refusals}
 use Rattle.chars.specs.Bytes.{text}
 use Rattle.chars.specs.Pieces.{lines}
 use Rattle.chars.specs.Places.{meets}
 use Rattle.fields.specs.Book.{Book}
+use Rattle.lines.specs.Reader.{read_sheet, refused}
+use Rattle.sheet.specs.declared.Sheet.{Sheet}
+use Rattle.sheet.specs.Result.{result_of}
 use Rattle.writer.specs.Text.{text_of}
 use Rattle.parts.specs.declared.Word.{Word}
 use Rattle.parts.specs.declared.Layout.{Layout}
 use Rattle.parts.specs.Parts.{Inside, Grows, parts_from, section}
 use Rattle.parts.specs.Texts.{text_in, Ordered}
+use Rattle.merge.specs.declared.Fault.{Fault}
 use Rattle.merge.specs.declared.Joined.{Joined}
 use Rattle.merge.specs.Joined.{together, both_books}
-use Rattle.merge.specs.Merge.{joins, merge_of}
+use Rattle.merge.specs.Merge.{faulty, joins, merge_of}
 
 -- The list has the parts of a word: the second's, the first's, and behind these the new ones of the second.
 pub record Holds (u list : List ℕ) (w : Word) (ours theirs : List (List ℕ)) : Type 0 where
@@ -64,3 +70,17 @@ pub record Joining (s t list : List ℕ) (r : Joined) : Type 0 where
   pub ordered : Ordered r.layout r.held
   pub inside : Inside (length s) (s ++ t) list r.held
   pub fluents : Holds (s ++ t) list r.layout.fluents (section (text "fluent") (lines s)) (section (text "fluent") (lines t))
+
+-- A refusal of the two sheets together.
+abbrev pub of_both : Refusal → Fault
+of_both refusal = record { refusal = number_of refusal; sheet = 0; line = 0 }
+
+-- What a sheet says, or its own fault.
+abbrev pub Told : (number : ℕ) (s : List ℕ) → Result Sheet Fault → Type 0
+Told number s (Ok told) = (told ≡ result_of 4608 (read_sheet s)) × (told.refusal ≡ 0)
+Told number s (Err fault) = (read_sheet s ≡ refused fault.refusal fault.line) × (fault.sheet ≡ number)
+
+-- What two sheets say together, or why they are not merged.
+abbrev pub Answered : (s t list : List ℕ) → Result Joined Fault → Type 0
+Answered s t list (Ok r) = Joining s t list r
+Answered s t list (Err fault) = merge_of s t ≡ faulty fault.refusal fault.sheet fault.line

@@ -3,18 +3,20 @@
 #![tactic(auto)]
 
 ghost use Rattle.std.specs.Prelude.{◌≡◌, ◌++◌, ◌+◌, ◌*◌, ◌≤◌, length};
+ghost use Rattle.refusals.specs.Number.{number_in};
 ghost use Rattle.chars.specs.Bytes.{text};
 ghost use Rattle.chars.specs.Pieces.{lines};
-ghost use Rattle.lines.specs.Reader.{read_sheet};
-ghost use Rattle.sheet.specs.Result.{result_of};
 ghost use Rattle.parts.specs.Parts.{Inside, section};
-ghost use Rattle.merge.specs.Merge.{faulty, merge_of, merged_in, out_after};
-ghost use Rattle.merge.specs.Inner.{Adds, Few, Laid, fault_of, Joining};
+ghost use Rattle.merge.specs.Merge.{merge_of, merged_in, merged_by, out_after};
+ghost use Rattle.merge.specs.Inner.{Adds, Few, Laid, fault_of, of_both, Told, Answered};
 
 use parts::{Layout, Word, texts};
+use refusals::Refusal;
+use sheet::Sheet;
 use steps::state::State;
 
 // What the merge says. Refusal 0 is none; a sheet's own fault has the sheet, 1 or 2, and its line; the length is that of the text written.
+// Stays: C sees its fields and numbers (`lawhemuri_merge`).
 #[repr(C)]
 #[derive(Clone, Copy)]
 pub struct Merged {
@@ -24,23 +26,49 @@ pub struct Merged {
     pub length: u64,
 }
 
-// What two sheets say together, or a refusal: the parts, the end of those of `start`, and how long the text is.
-#[derive(Clone, Copy)]
-pub struct Joined {
+// Why two sheets are not merged: a sheet's own fault has the sheet, 1 or 2, and its line; else both are 0.
+// Stays: the refusal is a number, as C's `Sheet` tells a sheet's own.
+#[derive(Clone, Copy, Debug, PartialEq, Eq)]
+pub struct Fault {
     pub refusal: u64,
     pub sheet: u64,
     pub line: u64,
+}
+
+impl From<Refusal> for Fault {
+    ghost from_gives = { λ refusal fault. fault ≡ of_both refusal };
+
+    fn from(refusal: Refusal) -> Fault {
+        Fault {
+            refusal: refusal.number(),
+            sheet: 0,
+            line: 0,
+        }
+    }
+}
+
+// What two sheets say together: the parts, the end of those of `start`, and how long the text is.
+#[derive(Clone, Copy)]
+pub struct Joined {
     pub layout: Layout,
     pub held: usize,
     pub size: usize,
 }
 
-// What a sheet says beside its rule words, which are not kept.
-fn told(s: &[u8]) -> sheet::Sheet
-    ensures { result ≡ result_of 4608 (read_sheet s.now) }
+// What a sheet, the first or the second, says beside its rule words, which are not kept.
+fn told(s: &[u8], number: u64) -> Result<Sheet, Fault>
+    ensures { Told number s.now result }
 {
     let mut words = [0u16; 4608];
-    sheet::read(s, &mut words)
+    let told = sheet::read(s, &mut words);
+    if told.refusal != 0 {
+        return Err(Fault {
+            refusal: told.refusal,
+            sheet: number,
+            line: told.line,
+        });
+    }
+    Ok(told)
 }
 
 // Puts the parts of a word into the list.
@@ -86,10 +114,11 @@ fn lay<'a>(first: &'a [u8], second: &'a [u8], list: &mut [usize]) -> Layout
     }
 }
 
-// 70 or 17, or 0.
-fn fault<'a>(first: &'a [u8], second: &'a [u8], list: &[usize], l: Layout) -> u64
+// 70 or 17, where it is met.
+fn may_join<'a>(first: &'a [u8], second: &'a [u8], list: &[usize], l: Layout) -> Result<(), Refusal>
     requires { Laid first.now second.now list.now l }
-    ensures { result ≡ fault_of (section (text "fluent") (lines first.now)) (section (text "fluent") (lines second.now))
+    ensures { number_in result
+        ≡ fault_of (section (text "fluent") (lines first.now)) (section (text "fluent") (lines second.now))
         (section (text "action") (lines first.now)) (section (text "action") (lines second.now))
         (section (text "rule") (lines first.now)) (section (text "rule") (lines second.now)) }
 {
@@ -97,68 +126,32 @@ fn fault<'a>(first: &'a [u8], second: &'a [u8], list: &[usize], l: Layout) -> u6
     let a = l.actions;
     let r = l.rules;
     if parts::meet(first, second, list, f.own, f.new, a.lo, a.own) {
-        return refusals::BOTH_KINDS;
+        return Err(Refusal::BothKinds);
     }
     if parts::meet(first, second, list, a.own, a.new, f.lo, f.own) {
-        return refusals::BOTH_KINDS;
+        return Err(Refusal::BothKinds);
     }
     if 64 < f.end - f.own {
-        return refusals::TOO_MANY;
+        return Err(Refusal::TooMany);
     }
     if 64 < a.end - a.own {
-        return refusals::TOO_MANY;
+        return Err(Refusal::TooMany);
     }
     if 256 < r.end - r.own {
-        return refusals::TOO_MANY;
+        return Err(Refusal::TooMany);
     }
-    0
-}
-
-// A refusal.
-fn refused(refusal: u64, sheet: u64, line: u64) -> Joined
-    ensures { (result.refusal ≡ refusal) × (result.sheet ≡ sheet) × (result.line ≡ line) }
-{
-    let none = Word {
-        lo: 0,
-        own: 0,
-        new: 0,
-        end: 0,
-    };
-    let layout = Layout {
-        fluents: none,
-        actions: none,
-        rules: none,
-        end: 0,
-    };
-    Joined {
-        refusal,
-        sheet,
-        line,
-        layout,
-        held: 0,
-        size: 0,
-    }
+    Ok(())
 }
 
 // What two sheets say together, its parts in the list, or the first refusal met.
-pub fn join<'a>(first: &'a [u8], second: &'a [u8], list: &mut [usize]) -> Joined
+pub fn join<'a>(first: &'a [u8], second: &'a [u8], list: &mut [usize]) -> Result<Joined, Fault>
     requires { length list.old ≡ 2560 }
-    ensures second_value { (result.refusal ≡ 0 → ⊥) → merge_of first.now second.now ≡ faulty result.refusal result.sheet result.line }
-    ensures joining { result.refusal ≡ 0 → Joining first.now second.now list.new result }
+    ensures { Answered first.now second.now list.new result }
 {
-    let a = told(first);
-    if a.refusal != 0 {
-        return refused(a.refusal, 1, a.line);
-    }
-    let b = told(second);
-    if b.refusal != 0 {
-        return refused(b.refusal, 2, b.line);
-    }
+    let a = told(first, 1)?;
+    let b = told(second, 2)?;
     let layout = lay(first, second, list);
-    let n = fault(first, second, list, layout);
-    if n != 0 {
-        return refused(n, 0, 0);
-    }
+    may_join(first, second, list, layout)?;
     let f = layout.fluents;
     let state = texts::starts(
         first,
@@ -174,16 +167,9 @@ pub fn join<'a>(first: &'a [u8], second: &'a [u8], list: &mut [usize]) -> Joined
     let held = texts::held(list, f.own, f.end, state, layout.end);
     let size = texts::text_size(first, second, list, layout, held);
     if 65536 < size {
-        return refused(refusals::TOO_LONG, 0, 0);
+        return Err(Fault::from(Refusal::TooLong));
     }
-    Joined {
-        refusal: 0,
-        sheet: 0,
-        line: 0,
-        layout,
-        held,
-        size,
-    }
+    Ok(Joined { layout, held, size })
 }
 
 // Writes the one fixed text of two accepted sheets to `out`, which is unchanged past it and by a refusal.
@@ -191,31 +177,32 @@ pub fn merge<'a>(first: &'a [u8], second: &'a [u8], out: &mut [u8]) -> Merged
     ensures value { result ≡ merged_in (length out.old) (merge_of first.now second.now) }
     ensures out_after { out.new ≡ out_after out.old (merge_of first.now second.now) }
 {
-    let mut list = [0usize; 2560];
-    let j = join(first, second, &mut list);
-    let refusal = j.refusal;
-    if refusal != 0 {
-        return Merged {
-            refusal,
-            sheet: j.sheet,
-            line: j.line,
-            length: 0,
-        };
-    }
-    let size = j.size;
-    if out.len() < size {
-        return Merged {
-            refusal: refusals::TEXT_SHORT,
+    match write_both(first, second, out) {
+        Ok(size) => Merged {
+            refusal: 0,
             sheet: 0,
             line: 0,
+            length: size as u64,
+        },
+        Err(fault) => Merged {
+            refusal: fault.refusal,
+            sheet: fault.sheet,
+            line: fault.line,
             length: 0,
-        };
+        },
+    }
+}
+
+// The same; how long the text is.
+fn write_both<'a>(first: &'a [u8], second: &'a [u8], out: &mut [u8]) -> Result<usize, Fault>
+    ensures value { merged_by result ≡ merged_in (length out.old) (merge_of first.now second.now) }
+    ensures out_after { out.new ≡ out_after out.old (merge_of first.now second.now) }
+{
+    let mut list = [0usize; 2560];
+    let j = join(first, second, &mut list)?;
+    if out.len() < j.size {
+        return Err(Fault::from(Refusal::TextShort));
     }
     texts::put_text(first, second, &list, j.layout, j.held, out);
-    Merged {
-        refusal: 0,
-        sheet: 0,
-        line: 0,
-        length: size as u64,
-    }
+    Ok(j.size)
 }

@@ -6,6 +6,7 @@ ghost use Rattle.chars.specs.Pieces.{lines};
 ghost use Rattle.naming.specs.Spans.{name_in, field_span};
 
 // A part of a sheet: where it begins, and how long it is.
+// Stays: C sees its fields (`lawhemuri_fluent_name`).
 #[repr(C)]
 #[derive(Clone, Copy)]
 pub struct Span {

@@ -10,8 +10,10 @@ use accounts::reading::Limits;
 use accounts::writing::Kept;
 use accounts::{judging, writing};
 use records::tables;
+use refusals::Refusal;
 
 // The refusal, 0 for none, and the words kept beside the tables from then on.
+// Stays: a number beside what is kept, since C sees both.
 #[repr(C)]
 #[derive(Clone, Copy)]
 pub struct Opened {
@@ -27,10 +29,9 @@ fn refused() -> Opened
         calls: 0,
         answers: 0,
     };
-    let kept = writing::opened(none, none);
     Opened {
-        refusal: refusals::OVER_LIMITS,
-        kept: kept,
+        refusal: Refusal::OverLimits.number(),
+        kept: writing::opened(none, none),
     }
 }
 
@@ -60,9 +61,8 @@ pub fn open(
     }
     tables::clear(calls);
     tables::clear(answers);
-    let kept = writing::opened(first, second);
     Opened {
         refusal: 0,
-        kept: kept,
+        kept: writing::opened(first, second),
     }
 }

@@ -5,6 +5,7 @@ ghost use Rattle.std.specs.Prelude.{◌≡◌};
 ghost use Rattle.origin.specs.MergedName.{part_in, merged_span, part_of_two, address_of_two};
 
 // A part of one of two sheets: which, 1 or 2, where it begins, and how long it is. Sheet 0 is none.
+// Stays: C sees its fields, and 0 for none (`lawhemuri_merged_fluent`).
 #[repr(C)]
 #[derive(Clone, Copy)]
 pub struct Part {
@@ -12,6 +13,13 @@ pub struct Part {
     pub at: usize,
     pub len: usize,
 }
+
+// No part.
+const NONE: Part = Part {
+    sheet: 0,
+    at: 0,
+    len: 0,
+};
 
 // A part of the sheet `which`.
 fn part_in(which: u64, span: naming::Span) -> Part
@@ -30,29 +38,18 @@ pub fn merged_span<'a>(first: &'a [u8], second: &'a [u8], number: u64) -> Part
     ensures { result ≡ merged_span first.now second.now number }
 {
     let mut list = [0usize; 2560];
-    let j = merge::join(first, second, &mut list);
-    let refusal = j.refusal;
-    let layout = j.layout;
-    let f = layout.fluents;
-    if refusal != 0 {
-        return Part {
-            sheet: 0,
-            at: 0,
-            len: 0,
-        };
-    }
+    let Ok(joined) = merge::join(first, second, &mut list) else {
+        return NONE;
+    };
+    let f = joined.layout.fluents;
     if (f.end - f.own) as u64 <= number {
-        return Part {
-            sheet: 0,
-            at: 0,
-            len: 0,
-        };
+        return NONE;
     }
     let i = f.own + number as usize;
     if i < f.new {
         return part_in(1, sheet::fluent_span(first, number));
     }
-    let k = parts::find(first, second, &list, i, f.lo, f.own);
+    let k = parts::find(first, second, &list, i, f.lo, f.own).unwrap_or(f.own);
     part_in(2, sheet::fluent_span(second, (k - f.lo) as u64))
 }
 

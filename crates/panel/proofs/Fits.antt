@@ -86,10 +86,9 @@ module _ {fluents actions : ℕ} {rules words calls answers : List ℕ} (F : Fit
         within second h = F.within second h
 
     -- What is given is left.
-    given_left : {calls' answers' : List ℕ} (full : Bool) → RowsGiven (bodies_held rules l) (roots_of l.first.holds l.second.holds l.first.start l.second.start)
-        (room plain_answer_width (length answers)) calls answers calls' answers' full n m → Left rules now calls answers calls' answers'
-    given_left true R = absurd (never_full (R.outgrown refl))
-    given_left false R = record {
+    given_left : {calls' answers' : List ℕ} → RowsGiven (bodies_held rules l) (roots_of l.first.holds l.second.holds l.first.start l.second.start)
+        (room plain_answer_width (length answers)) calls answers calls' answers' false n m → Left rules now calls answers calls' answers'
+    given_left R = record {
       calls_long = R.calls_long;
       answers_long = R.answers_long;
       calls_fit = rw R.calls_long (R.calls_fit refl);
@@ -98,8 +97,14 @@ module _ {fluents actions : ℕ} {rules words calls answers : List ℕ} (F : Fit
           (R.whole refl) (R.calls_past refl) (R.answers_past refl);
     }
 
-    -- So are the rows of goals read from the words.
-    pub settled_left : {b c full : Bool} {g h calls' answers' : List ℕ} {s t most : ℕ} → b ≡ l.first.holds → c ≡ l.second.holds
+    -- No table is full of the rows of goals read from the words,
+    pub settled_fits : {b c : Bool} {g h calls' answers' : List ℕ} {s t most k j : ℕ} → b ≡ l.first.holds → c ≡ l.second.holds
         → g ≡ l.first.goal → h ≡ l.second.goal → s ≡ l.first.start → t ≡ l.second.start → most ≡ room plain_answer_width (length answers)
-        → RowsGiven (bodies_with rules b c g h) (roots_of b c s t) most calls answers calls' answers' full n m → Left rules now calls answers calls' answers'
-    settled_left {full = full} e f e' f' e'' f'' w R = given_left full (rw (e, f, e', f', e'', f'', w) at R)
+        → ¬ RowsGiven (bodies_with rules b c g h) (roots_of b c s t) most calls answers calls' answers' true k j
+    settled_fits e f e' f' e'' f'' w R = never_full (rw (e, f, e', f', e'', f'', w) at (R.outgrown refl))
+
+    -- and they are left.
+    pub settled_left : {b c : Bool} {g h calls' answers' : List ℕ} {s t most : ℕ} → b ≡ l.first.holds → c ≡ l.second.holds
+        → g ≡ l.first.goal → h ≡ l.second.goal → s ≡ l.first.start → t ≡ l.second.start → most ≡ room plain_answer_width (length answers)
+        → RowsGiven (bodies_with rules b c g h) (roots_of b c s t) most calls answers calls' answers' false n m → Left rules now calls answers calls' answers'
+    settled_left e f e' f' e'' f'' w R = given_left (rw (e, f, e', f', e'', f'', w) at R)

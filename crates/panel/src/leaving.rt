@@ -39,7 +39,7 @@ fn settle_kept<'a>(
     let start = reading::start(kept, 0);
     let second_start = reading::start(kept, reading::SECOND);
     let most = tables::room_of(answers.len(), stowing::ANSWER_WORDS);
-    settling::settle(
+    let settled = settling::settle(
         rules,
         &first[..n],
         &second[..m],
@@ -50,7 +50,11 @@ fn settle_kept<'a>(
         calls,
         answers,
         most,
-    )
+    );
+    match settled {
+        Ok(left) => left,
+        Err(_) => unreachable!(),
+    }
 }
 
 // Leaves the rows of the other party alone, and gives the words that are kept then: this one holds no rows.

@@ -7,14 +7,20 @@
 mod leaving;
 mod running;
 
+ghost use Rattle.std.specs.Prelude.{◌≡◌};
+ghost use Rattle.refusals.specs.Number.{number_of};
 ghost use Rattle.evaluator.specs.Evaluated.{asked};
+ghost use Rattle.sharing.specs.Shared.{refused, handed_back};
 ghost use Rattle.panel.specs.Reply.{panel, reply, RunOf};
 
+use accounts::writing;
 use accounts::writing::Kept;
 use records::tables;
+use refusals::Refusal;
 use steps::accept;
 
 // The refusal, 0 for none, the party's own counts of ends, calls and answers, and the words kept from then on.
+// Stays: what C sees, a number beside the counts, since 31 is told with all of them.
 #[repr(C)]
 #[derive(Clone, Copy)]
 pub struct Shared {
@@ -23,6 +29,29 @@ pub struct Shared {
     pub calls: u64,
     pub answers: u64,
     pub kept: Kept,
+}
+
+impl Shared {
+    // A refusal other than 31: no counts are given.
+    fn refused(refusal: Refusal, kept: Kept) -> Shared
+        ensures { reply result.refusal result.ends result.calls result.answers result.kept.words ≡ refused (number_of refusal) kept.words }
+    {
+        Shared {
+            refusal: refusal.number(),
+            ends: 0,
+            calls: 0,
+            answers: 0,
+            kept,
+        }
+    }
+
+    // A refusal that changes nothing: what is kept is handed back.
+    fn unchanged(refusal: Refusal, kept: &[u64]) -> Shared
+        ensures { reply result.refusal result.ends result.calls result.answers result.kept.words
+            ≡ refused (number_of refusal) (handed_back kept.now) }
+    {
+        Shared::refused(refusal, writing::handed_back(kept))
+    }
 }
 
 // Runs the goal of the second party, or else of the first, from the start, and lists its ends in rising order; both tables hold the rows of both
@@ -46,9 +75,8 @@ pub fn share<'a>(
         (reply result.refusal result.ends result.calls result.answers result.kept.words) }
 {
     // 20 to 22 are the book's alone: a goal of no steps meets no 23.
-    let refusal = accept::words_refusal(fluents, actions, rules, &goal[..0]);
-    if refusal != 0 {
-        return running::unchanged(refusal, kept);
+    if let Err(refusal) = accept::words_refusal(fluents, actions, rules, &goal[..0]) {
+        return Shared::unchanged(refusal, kept);
     }
     let mut rows = [0u64; 196608];
     let mut bytes = [0u8; 65536];

@@ -5,51 +5,34 @@ ghost use Rattle.steps.specs.Acceptance.{words_refusal};
 ghost use Rattle.records.specs.Records.{room, call_width};
 ghost use Rattle.evaluator.specs.Evaluated.{asked};
 ghost use Rattle.sharing.specs.Charged.{plain_call_width, AsKept};
-ghost use Rattle.sharing.specs.Shared.{refused, handed_back};
 ghost use Rattle.panel.specs.Reply.{panel, reply, RunOf};
 
 use crate::{Shared, leaving};
 use accounts::writing::Kept;
 use accounts::{reading, writing};
 use alone::Lone;
+use refusals::Refusal;
 use steps::accept;
-
-// A refusal other than 31: no counts are given.
-fn refused(refusal: u64, kept: Kept) -> Shared
-    ensures { reply result.refusal result.ends result.calls result.answers result.kept.words ≡ refused refusal kept.words }
-{
-    Shared {
-        refusal: refusal,
-        ends: 0,
-        calls: 0,
-        answers: 0,
-        kept: kept,
-    }
-}
-
-// A refusal that changes nothing: what is kept is handed back.
-pub fn unchanged(refusal: u64, kept: &[u64]) -> Shared
-    ensures { reply result.refusal result.ends result.calls result.answers result.kept.words ≡ refused refusal (handed_back kept.now) }
-{
-    refused(refusal, writing::handed_back(kept))
-}
 
 // The counts of a run within its limits; 31 if the list has too few places for its ends.
 fn told(lone: Lone, kept: Kept, places: usize) -> Shared
     ensures { reply result.refusal result.ends result.calls result.answers result.kept.words
         ≡ reply (cond (ltb places lone.ends) run_refusals.list_short 0) lone.ends lone.calls lone.answers kept.words }
 {
-    let mut refusal = 0;
-    if (places as u64) < lone.ends {
-        refusal = refusals::LIST_SHORT;
-    }
-    Shared {
-        refusal: refusal,
+    let ran = Shared {
+        refusal: 0,
         ends: lone.ends,
         calls: lone.calls as u64,
         answers: lone.answers as u64,
-        kept: kept,
+        kept,
+    };
+    if (places as u64) < lone.ends {
+        return Shared {
+            refusal: Refusal::ListShort.number(),
+            ..ran
+        };
     }
+    ran
 }
 
 // A run over tables that are as kept.
@@ -73,20 +56,22 @@ fn run_kept<'a>(
         (panel calls.new answers.new ends.new)
         (reply result.refusal result.ends result.calls result.answers result.kept.words) }
 {
-    let refusal = accept::refusal(fluents, actions, rules, goal, start);
-    if refusal != 0 {
+    if let Err(refusal) = accept::refusal(fluents, actions, rules, goal, start) {
         let left = leaving::give_up(second, rules, kept, rows, calls, answers);
-        return refused(refusal, left);
+        return Shared::refused(refusal, left);
     }
     let places = ends.len();
     let own = reading::limits_of(kept, writing::place(second));
-    let lone = alone::alone(rules, goal, start, own, rows, calls, answers, ends);
-    if lone.full {
-        let left = leaving::give_up(second, rules, kept, rows, calls, answers);
-        return refused(refusals::TABLES_FULL, left);
+    match alone::alone(rules, goal, start, own, rows, calls, answers, ends) {
+        Ok(lone) => {
+            let left = leaving::take_up(second, rules, goal, start, kept, rows, calls, answers);
+            told(lone, left, places)
+        }
+        Err(_) => {
+            let left = leaving::give_up(second, rules, kept, rows, calls, answers);
+            Shared::refused(Refusal::TablesFull, left)
+        }
     }
-    let left = leaving::take_up(second, rules, goal, start, kept, rows, calls, answers);
-    told(lone, left, places)
 }
 
 // A run: 91 if the tables are not as kept.
@@ -117,5 +102,5 @@ pub fn run<'a>(
             second, fluents, actions, rules, goal, start, kept, rows, calls, answers, ends,
         );
     }
-    unchanged(refusals::NOT_AS_KEPT, kept)
+    Shared::unchanged(Refusal::NotAsKept, kept)
 }

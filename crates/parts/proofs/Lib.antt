@@ -4,3 +4,4 @@ pub mod Behind
 pub mod News
 pub mod PartLists
 pub mod Turns
+pub mod Founds

@@ -1,5 +1,5 @@
 -- Parts of two sheets, kept in a list as where each begins and ends in the one behind the other. Assumes nothing.
-use Rattle.std.specs.Prelude.{◌≡◌, ℕ, zero, suc, ◌+◌, ◌*◌, ◌≤◌, ◌<◌, cond, List, [], ◌∷◌, ◌++◌, length, get_or, drop}
+use Rattle.std.specs.Prelude.{◌≡◌, ℕ, zero, suc, ◌+◌, ◌*◌, ◌≤◌, ◌<◌, cond, List, [], ◌∷◌, ◌++◌, length, get_or, drop, Option, None, Some}
 use Rattle.std.proofs.Math.Seq.{slice}
 use Rattle.steps.specs.State.{State, holds}
 use Rattle.steps.specs.Inner.{inserted}
@@ -24,6 +24,11 @@ pub record At (cut : ℕ) (u list : List ℕ) (i : ℕ) : Type 0 where
 -- The same of its first n parts.
 abbrev pub Inside : ℕ → List ℕ → List ℕ → ℕ → Type 0
 Inside cut u list n = (i : ℕ) → i < n → At cut u list i
+
+-- Where y stands among xs, the first of which has the number lo, if it does.
+abbrev pub Found : (y : List ℕ) (xs : List (List ℕ)) (lo : ℕ) → Option ℕ → Type 0
+Found y xs lo None = place y xs ≡ length xs
+Found y xs lo (Some k) = (k ≡ lo + place y xs) × (place y xs < length xs)
 
 -- The n parts from number k on.
 unfoldable pub parts_from : List ℕ → List ℕ → ℕ → ℕ → List (List ℕ)

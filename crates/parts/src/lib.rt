@@ -7,7 +7,7 @@ ghost use Rattle.std.specs.Prelude.{◌≡◌, List, [], ◌∷◌, ◌++◌, �
 ghost use Rattle.std.proofs.Math.Seq.{slice};
 ghost use Rattle.chars.specs.Pieces.{lines};
 ghost use Rattle.chars.specs.Places.{same, place, meets};
-ghost use Rattle.parts.specs.Parts.{Lies, At, Inside, Grows, part_at, parts_from, behind_word, section, fresh, news};
+ghost use Rattle.parts.specs.Parts.{Lies, At, Inside, Found, Grows, part_at, parts_from, behind_word, section, fresh, news};
 
 // The parts of one word: the second's from `lo` on, the first's from `own` on, the new ones of the second from `new` up to `end`.
 #[derive(Clone, Copy)]
@@ -47,7 +47,7 @@ pub fn part_at<'a>(first: &'a [u8], second: &'a [u8], list: &[usize], i: usize) 
     part(first, second, list[2 * i], list[2 * i + 1])
 }
 
-// The place of part i among the parts from lo up to hi, or hi.
+// The place of part i among the parts from lo up to hi, where it is one of them.
 pub fn find<'a>(
     first: &'a [u8],
     second: &'a [u8],
@@ -55,24 +55,21 @@ pub fn find<'a>(
     i: usize,
     lo: usize,
     hi: usize,
-) -> usize
+) -> Option<usize>
     requires at { At (length first.now) (first.now ++ second.now) list.now i }
     requires inside { Inside (length first.now) (first.now ++ second.now) list.now hi }
     requires lo_le_hi { lo ≤ hi }
-    ensures value { result ≡ lo + place (part_at (first.now ++ second.now) list.now i)
-        (parts_from (first.now ++ second.now) list.now lo (hi - lo)) }
-    ensures upper_bound { result ≤ hi }
+    ensures { Found (part_at (first.now ++ second.now) list.now i)
+        (parts_from (first.now ++ second.now) list.now lo (hi - lo)) lo result }
 {
     let x = part_at(first, second, list, i);
-    let mut k = lo;
-    while k < hi {
+    for k in lo..hi {
         let y = part_at(first, second, list, k);
         if chars::same_bytes(x, y) {
-            return k;
+            return Some(k);
         }
-        k += 1;
     }
-    hi
+    None
 }
 
 // Whether some part from lo up to hi is one of those from `from` up to `to`.
@@ -91,12 +88,10 @@ pub fn meet<'a>(
     ensures { result ≡ meets (parts_from (first.now ++ second.now) list.now lo (hi - lo))
         (parts_from (first.now ++ second.now) list.now from (to - from)) }
 {
-    let mut i = lo;
-    while i < hi {
-        if find(first, second, list, i, from, to) < to {
+    for i in lo..hi {
+        if find(first, second, list, i, from, to).is_some() {
             return true;
         }
-        i += 1;
     }
     false
 }
@@ -189,7 +184,7 @@ fn add_new<'a>(
         (fresh (parts_from (first.now ++ second.now) list.old base (n - base))
         (part_at (first.now ++ second.now) list.old i)) }
 {
-    if find(first, second, list, i, base, n) < n {
+    if find(first, second, list, i, base, n).is_some() {
         return n;
     }
     copy(list, i, n)
@@ -212,10 +207,8 @@ pub fn gather<'a>(
         (parts_from (first.now ++ second.now) list.old lo (hi - lo))) }
 {
     let mut n = at;
-    let mut i = lo;
-    while i < hi {
+    for i in lo..hi {
         n = add_new(first, second, list, i, base, n);
-        i += 1;
     }
     n
 }

@@ -30,7 +30,7 @@ fn start_one<'a>(
         (parts_from (first.now ++ second.now) list.now lo (hi - lo)))) to.0 }
 {
     if s.holds(k) {
-        let p = find(first, second, list, i, lo, hi);
+        let p = find(first, second, list, i, lo, hi).unwrap_or(hi);
         return to.insert((p - lo) as u64);
     }
     to
@@ -55,10 +55,8 @@ pub fn starts<'a>(
         (parts_from (first.now ++ second.now) list.now from (end - from)) to.0 }
 {
     let mut state = to;
-    let mut i = from;
-    while i < end {
+    for i in from..end {
         state = start_one(first, second, list, i, lo, hi, (i - from) as u64, s, state);
-        i += 1;
     }
     state
 }
@@ -83,10 +81,8 @@ pub fn held(list: &mut [usize], lo: usize, hi: usize, state: State, at: usize) -
         → Grows cut u list.old at list.new result (holding 0 state.0 (parts_from u list.old lo (hi - lo))) }
 {
     let mut n = at;
-    let mut i = lo;
-    while i < hi {
+    for i in lo..hi {
         n = held_one(list, i, (i - lo) as u64, state, n);
-        i += 1;
     }
     n
 }
@@ -107,11 +103,9 @@ pub fn size<'a>(
     ensures upper_bound { result ≤ 131080 * (hi - lo) }
 {
     let mut n = 0;
-    let mut i = lo;
-    while i < hi {
+    for i in lo..hi {
         let p = part_at(first, second, list, i);
         n += around + p.len();
-        i += 1;
     }
     n
 }
@@ -133,9 +127,9 @@ fn put_one<'a>(
         ((word.now ++ part_at (first.now ++ second.now) list.now i) ++ end.now) out.new result }
 {
     let p = part_at(first, second, list, i);
-    let a = writer::put_part(out, at, word, 0, word.len());
-    let b = writer::put_part(out, a, p, 0, p.len());
-    writer::put_part(out, b, end, 0, end.len())
+    let a = writer::put(out, at, word);
+    let b = writer::put(out, a, p);
+    writer::put(out, b, end)
 }
 
 // Puts the parts from lo up to hi, each between two words; the place after them.
@@ -157,10 +151,8 @@ pub fn put_all<'a>(
         (parts_from (first.now ++ second.now) list.now lo (hi - lo))) out.new result }
 {
     let mut p = at;
-    let mut i = lo;
-    while i < hi {
+    for i in lo..hi {
         p = put_one(first, second, list, i, word, end, out, p);
-        i += 1;
     }
     p
 }
@@ -204,9 +196,9 @@ fn put_start<'a>(
     ensures { Puts out.old at
         (start_parts (parts_from (first.now ++ second.now) list.now lo (hi - lo))) out.new result }
 {
-    let word = writer::put_part(out, at, b"start", 0, 5);
+    let word = writer::put(out, at, b"start");
     let names = put_all(first, second, list, lo, hi, b"", b"", out, word);
-    writer::put(out, names, b'\n')
+    writer::put(out, names, b"\n")
 }
 
 // Puts the text.

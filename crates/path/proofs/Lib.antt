@@ -2,3 +2,5 @@
 pub mod Told
 pub mod OutcomeLaws
 pub mod FinishedLaws
+pub mod Copying
+pub mod Packed

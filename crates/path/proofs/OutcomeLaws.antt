@@ -8,6 +8,7 @@ use mathlib.Core.Logic.{◌≢◌}
 use lib.ListN.{length}
 use lib.Dec.{eqb, ltb}
 use borrow.Author.Tests.{eq-eqb, ne_eqb, eqb-true, eqb-false, lt-ltb, le-ltb, ltb-true}
+use Rattle.std.specs.Prelude.{Option, None, Some}
 use Rattle.refusals.specs.Run.{run_refusals}
 use Rattle.refusals.specs.Path.{path_refusals}
 use Rattle.steps.specs.Acceptance.{bad_counts, bad_length, bad_rules, bad_goal, words_refusal}
@@ -121,18 +122,15 @@ module _ (l : Handed) (x : ℕ) where
     same : states_of l x ≡ path
     same = path_added it l.call_count l.answer_count (bodies l) (λ i a. refl) x
 
-    some : 0 < length (states_of l x)
-    some = rw same (omega arith)
+    module _ (none : fault l x ≡ 0) (told : Option ℕ) (list' : List ℕ) (listed : PathListed path (length list) list told list') where
+      there : PathListed (states_of l x) (length list) list told list'
+      there = subst (λ (p : List ℕ). PathListed p (length list) list told list') (sym same) listed
 
-    module _ (none : fault l x ≡ 0) (count : ℕ) (list' : List ℕ) (listed : PathListed path (length list) list count list') where
-      there : PathListed (states_of l x) (length list) list count list'
-      there = subst (λ (p : List ℕ). PathListed p (length list) list count list') (sym same) listed
+      pub too_few : told ≡ None → Answered l x list path_refusals.states_short 0 list'
+      too_few z = answered (told_short (fault l x) (states_of l x) list none there z)
 
-      pub too_few : count ≡ 0 → Answered l x list path_refusals.states_short 0 list'
-      too_few z = answered (told_short (fault l x) (states_of l x) list none some there z)
-
-      pub listed_all : count ≢ 0 → Answered l x list 0 count list'
-      listed_all n = answered (told_listed (fault l x) (states_of l x) list none some there n)
+      pub listed_all : (count : ℕ) → told ≡ Some count → Answered l x list 0 count list'
+      listed_all count n = answered (told_listed (fault l x) (states_of l x) list none there n)
 
     -- what an evaluation leaves is never refused with 42
     pub never_42 : ((i : ℕ) → i < l.call_count → Proper l.fluents l.actions (call_records l) i)

@@ -1,2 +1,3 @@
--- What the path answers.
+-- Answered is what the path answers; Inner has what the contracts of its private functions speak of.
 pub mod Answered
+pub mod Inner

@@ -5,8 +5,9 @@ ghost use Rattle.steps.specs.Inner.{is_call};
 ghost use Rattle.unfolding.proofs.Walk.{lent, Checked, added_by, words_at};
 ghost use Rattle.unfolding.proofs.Sizes.{Sized, size_of};
 ghost use Rattle.unfolding.proofs.Frames.{Stopped, Tallied};
+ghost use Rattle.path.specs.Inner.{down_to};
 
-use crate::frames::{Stop, turn};
+use crate::frames::{Spot, Stop, turn};
 use crate::walk::{evidence_of, shown, steps_of};
 use steps::word::is_call;
 
@@ -39,28 +40,26 @@ fn tally<'a>(
         Checked it (n + 1) × (n ≤ length (numbers sizes.now)) × (1 < cap) × (cap < 2 ^ 24) × Sized (added_by it) (numbers sizes.now) n cap
         × (step ≤ length (words_at it n)) × (found < 2 ^ 61) }
     ensures { let it = lent plain rules.now goal.now second.now calls.now answers.now in
-        Stopped it n step result.step result.to × Tallied it n step found result.step result.found }
+        Stopped it n step result.step (down_to result.to) × Tallied it n step found result.step result.found }
 {
     let steps = steps_of(plain, rules, goal, second, calls, answers, n);
-    let mut q = step;
     let mut sum = found;
-    while q < steps.len() {
+    for q in step..steps.len() {
         let used = evidence_of(plain, answers, n, q);
         let size = size_by(steps[q], used, sizes);
         if cap <= size {
             return Stop {
                 step: q,
                 found: sum,
-                to: used as usize + 1,
+                to: Some(used as usize),
             };
         }
         sum += size;
-        q += 1;
     }
     Stop {
-        step: q,
+        step: steps.len(),
         found: sum,
-        to: 0,
+        to: None,
     }
 }
 
@@ -85,24 +84,23 @@ pub fn count<'a>(
         (length (numbers frames.new) ≡ length (numbers frames.old)) × (result ≤ length (added_by it asked))
         × (result < most → result ≡ length (added_by it asked)) }
 {
-    let mut n = asked;
-    let mut step = 0;
-    let mut depth = 0;
+    let mut at = Spot {
+        n: asked,
+        step: 0,
+        depth: 0,
+    };
     let mut found = 0;
     loop {
         let stop = tally(
-            plain, rules, goal, second, calls, answers, n, step, found, sizes, cap,
+            plain, rules, goal, second, calls, answers, at.n, at.step, found, sizes, cap,
         );
         found = stop.found;
         if most <= found {
             return found;
         }
-        if stop.to + depth == 0 {
-            return found;
+        match turn(at.n, stop.step, at.depth, stop.to, frames) {
+            Some(next) => at = next,
+            None => return found,
         }
-        let at = turn(n, stop.step, depth, stop.to, frames);
-        n = at.n;
-        step = at.step;
-        depth = at.depth;
     }
 }

@@ -17,13 +17,15 @@ mod walk;
 mod write;
 
 ghost use Rattle.std.specs.Prelude.{◌≡◌};
+ghost use Rattle.refusals.specs.Number.{number_in};
 ghost use Rattle.path.specs.Answered.{handed, fault, Answered};
 
 use crate::outcome::Path;
 use checks::tables::{bad_records, over_room};
+use refusals::Refusal;
 use steps::accept::words_refusal;
 
-// The first of 20 to 23 and 40 to 42 that is met, or 0.
+// The first of 20 to 23 and 40 to 42 that is met.
 fn fault<'a>(
     fluents: u64,
     actions: u64,
@@ -34,19 +36,16 @@ fn fault<'a>(
     answers: &[u64],
     answer_count: u64,
     asked: u64,
-) -> u64
-    ensures { result ≡ fault (handed fluents actions rules.now goal.now calls.now call_count
+) -> Result<(), Refusal>
+    ensures { number_in result ≡ fault (handed fluents actions rules.now goal.now calls.now call_count
         answers.now answer_count) asked }
 {
-    let words = words_refusal(fluents, actions, rules, goal);
-    if words != 0 {
-        return words;
-    }
+    words_refusal(fluents, actions, rules, goal)?;
     if over_room(calls, call_count, answers, answer_count) {
-        return refusals::BAD_RECORD_COUNT;
+        return Err(Refusal::BadRecordCount);
     }
     if answer_count <= asked {
-        return refusals::NO_RECORD;
+        return Err(Refusal::NoRecord);
     }
     if bad_records(
         fluents,
@@ -58,9 +57,9 @@ fn fault<'a>(
         answers,
         answer_count,
     ) {
-        return refusals::BAD_RECORD;
+        return Err(Refusal::BadRecord);
     }
-    0
+    Ok(())
 }
 
 // Lists the path of an answer record: the states come first in the list, and the list past them is unchanged. Refused, it lists none and
@@ -81,7 +80,7 @@ pub fn path<'a>(
         answers.now answer_count)
         «record» states.old result.refusal result.states states.new }
 {
-    let refused = fault(
+    if let Err(refusal) = fault(
         fluents,
         actions,
         rules,
@@ -91,15 +90,14 @@ pub fn path<'a>(
         answers,
         answer_count,
         record,
-    );
-    if refused != 0 {
+    ) {
         return Path {
-            refusal: refused,
+            refusal: refusal.number(),
             states: 0,
         };
     }
     let most = states.len();
-    let listed = list::list_states(
+    let Some(listed) = list::list_states(
         false,
         rules,
         goal,
@@ -109,13 +107,12 @@ pub fn path<'a>(
         record as usize,
         most,
         states,
-    );
-    if listed == 0 {
+    ) else {
         return Path {
-            refusal: refusals::STATES_SHORT,
+            refusal: Refusal::StatesShort.number(),
             states: 0,
         };
-    }
+    };
     Path {
         refusal: 0,
         states: listed as u64,

@@ -39,15 +39,12 @@ fn place<'a>(
     let steps = steps_of(plain, rules, goal, second, calls, answers, n);
     let mut state = start(plain, calls, answers, n);
     let mut at = cells::get(offsets, n);
-    let mut q = 0;
-    while q < steps.len() {
-        let step = steps[q];
+    for (q, step) in steps.iter().enumerate() {
         let used = evidence_of(plain, answers, n, q);
-        let t = take_step(plain, step, state, used, n, calls, answers, sizes);
-        note(step, used, at, offsets);
+        let t = take_step(plain, *step, state, used, n, calls, answers, sizes);
+        note(*step, used, at, offsets);
         at += t.size;
         state = t.state;
-        q += 1;
     }
 }
 
@@ -70,9 +67,7 @@ pub fn place_all<'a>(
         × Laid it asked 0 (start_at it asked ∷ added_by it asked) (numbers offsets.new) }
 {
     cells::put(offsets, asked, 1);
-    let mut n = asked + 1;
-    while 0 < n {
-        n -= 1;
+    for n in (0..asked + 1).rev() {
         if cells::get(offsets, n) != 0 {
             place(
                 plain, rules, goal, second, calls, answers, n, sizes, offsets,

@@ -6,15 +6,6 @@ ghost use Rattle.unfolding.proofs.Sizes.{Sized};
 
 use crate::walk::{evidence_of, start, steps_of, take_step};
 
-// The sum, or the cap where it is larger.
-fn capped(a: usize, b: usize, cap: usize) -> usize
-    requires { (a ≤ cap) × (b ≤ cap + 1) × (cap < 2 ^ 61) }
-    ensures { result ≡ min cap (a + b) }
-{
-    let sum = a + b;
-    if sum < cap { sum } else { cap }
-}
-
 // How many states record n adds, at most the cap.
 fn size<'a>(
     plain: bool,
@@ -35,21 +26,11 @@ fn size<'a>(
     let steps = steps_of(plain, rules, goal, second, calls, answers, n);
     let mut state = start(plain, calls, answers, n);
     let mut sum = 0;
-    let mut q = 0;
-    while q < steps.len() {
-        let t = take_step(
-            plain,
-            steps[q],
-            state,
-            evidence_of(plain, answers, n, q),
-            n,
-            calls,
-            answers,
-            sizes,
-        );
-        sum = capped(sum, t.size, cap);
+    for (q, step) in steps.iter().enumerate() {
+        let used = evidence_of(plain, answers, n, q);
+        let t = take_step(plain, *step, state, used, n, calls, answers, sizes);
+        sum = cap.min(sum + t.size);
         state = t.state;
-        q += 1;
     }
     sum
 }
@@ -72,10 +53,8 @@ pub fn size_all<'a>(
         (length (numbers sizes.new) ≡ length (numbers sizes.old))
         × Sized (added_by it) (numbers sizes.new) count cap }
 {
-    let mut n = 0;
-    while n < count {
+    for n in 0..count {
         let added = size(plain, rules, goal, second, calls, answers, n, sizes, cap);
         cells::put(sizes, n, added);
-        n += 1;
     }
 }

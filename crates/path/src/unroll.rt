@@ -9,8 +9,9 @@ ghost use Rattle.unfolding.proofs.Rests.{Fresh, rest, state_at};
 ghost use Rattle.unfolding.proofs.Frames.{Stopped};
 ghost use Rattle.unfolding.proofs.Leads.{Led, CallLead};
 ghost use Rattle.unfolding.proofs.Unrolling.{Put, Ran};
+ghost use Rattle.path.specs.Inner.{down_to};
 
-use crate::frames::{Stop, turn};
+use crate::frames::{Spot, Stop, turn};
 use crate::walk::{after, evidence_of, shown, start, steps_of};
 use records::tables;
 use steps::word::is_call;
@@ -38,15 +39,15 @@ fn state_before(
     tables::final_of(answers, tables::answer_width(plain), used as usize).0
 }
 
-// What a call stands for; 0 for any other step.
-fn call_lead(step: u16, used: u64, leads: &[u8]) -> usize
+// The record that a call stands for, if it adds states; none for any other step.
+fn call_lead(step: u16, used: u64, leads: &[u8]) -> Option<usize>
     requires { is_call step ≡ true → used < length (numbers leads.now) }
-    ensures { CallLead (numbers leads.now) step used result }
+    ensures { CallLead (numbers leads.now) step used (down_to result) }
 {
     if is_call(step) {
-        return cells::get(leads, used as usize);
+        return cells::get(leads, used as usize).checked_sub(1);
     }
-    0
+    None
 }
 
 // Writes the state that a step leads to, if it is an update, and gives the place of the next one.
@@ -80,31 +81,28 @@ fn run<'a>(
         Checked it (n + 1) × (n ≤ length (numbers leads.now)) × Led (added_by it) (numbers leads.now) n × Fresh it n step
         × (step ≤ length (words_at it n)) × (found + length (rest it n step) ≤ length list.old) }
     ensures { let it = lent plain rules.now goal.now second.now calls.now answers.now in
-        Stopped it n step result.step result.to × Ran it n step found result.step result.found list.old list.new }
+        Stopped it n step result.step (down_to result.to) × Ran it n step found result.step result.found list.old list.new }
 {
     let steps = steps_of(plain, rules, goal, second, calls, answers, n);
     let mut state = state_before(plain, rules, goal, second, calls, answers, n, step);
-    let mut q = step;
     let mut at = found;
-    while q < steps.len() {
+    for q in step..steps.len() {
         let word = steps[q];
         let used = evidence_of(plain, answers, n, q);
-        let to = call_lead(word, used, leads);
-        if to != 0 {
+        if let Some(lead) = call_lead(word, used, leads) {
             return Stop {
                 step: q,
                 found: at,
-                to: to,
+                to: Some(lead),
             };
         }
         state = after(plain, word, state, used, n, calls, answers);
         at = show(word, state, at, list);
-        q += 1;
     }
     Stop {
-        step: q,
+        step: steps.len(),
         found: at,
-        to: 0,
+        to: None,
     }
 }
 
@@ -127,21 +125,20 @@ pub fn unroll<'a>(
     ensures { let it = lent plain rules.now goal.now second.now calls.now answers.now in
         Put (added_by it asked) 1 list.old list.new }
 {
-    let mut n = asked;
-    let mut step = 0;
-    let mut depth = 0;
+    let mut at = Spot {
+        n: asked,
+        step: 0,
+        depth: 0,
+    };
     let mut found = 1;
     loop {
         let stop = run(
-            plain, rules, goal, second, calls, answers, n, step, found, leads, list,
+            plain, rules, goal, second, calls, answers, at.n, at.step, found, leads, list,
         );
         found = stop.found;
-        if stop.to + depth == 0 {
-            return;
+        match turn(at.n, stop.step, at.depth, stop.to, frames) {
+            Some(next) => at = next,
+            None => return,
         }
-        let at = turn(n, stop.step, depth, stop.to, frames);
-        n = at.n;
-        step = at.step;
-        depth = at.depth;
     }
 }

@@ -11,7 +11,7 @@ ghost use Rattle.unfolding.proofs.Sizes.{Turned};
 use records::bodies::Goals;
 use records::{bodies, tables};
 use steps::state::{Call, State};
-use steps::word::{Next, elementary, is_call};
+use steps::word::{elementary, is_call};
 
 // The state that a step leads to, and how many states it adds to the path.
 #[derive(Clone, Copy)]
@@ -104,8 +104,8 @@ pub fn after(
     }
     let next = elementary(step, State::of(state));
     match next {
-        Next::On(t) => t.0,
-        Next::Stuck => state,
+        Some(t) => t.0,
+        None => state,
     }
 }
 

@@ -14,11 +14,7 @@ fn copy(list: &mut [u64], from: usize, to: usize, n: usize)
     requires { (from + n ≤ length list.old) × (to + n ≤ length list.old) }
     ensures { Copied list.old list.new from to n n }
 {
-    let mut i = 0;
-    while i < n {
-        list[to + i] = list[from + i];
-        i += 1;
-    }
+    list.copy_within(from..from + n, to);
 }
 
 // Writes what one step adds: a call's states, if they do not stand there already, or the new state.
@@ -59,16 +55,13 @@ fn write<'a>(
     let steps = steps_of(plain, rules, goal, second, calls, answers, n);
     let mut state = start(plain, calls, answers, n);
     let mut at = cells::get(offsets, n);
-    let mut q = 0;
-    while q < steps.len() {
-        let step = steps[q];
+    for (q, step) in steps.iter().enumerate() {
         let used = evidence_of(plain, answers, n, q);
-        let t = take_step(plain, step, state, used, n, calls, answers, sizes);
+        let t = take_step(plain, *step, state, used, n, calls, answers, sizes);
         let from = cells::get(offsets, used as usize);
-        write_step(step, from, at, t.size, t.state, list);
+        write_step(*step, from, at, t.size, t.state, list);
         at += t.size;
         state = t.state;
-        q += 1;
     }
 }
 
@@ -90,13 +83,11 @@ pub fn write_all<'a>(
     ensures { let it = lent plain rules.now goal.now second.now calls.now answers.now in
         Written it (numbers offsets.now) (asked + 1) list.old list.new }
 {
-    let mut n = 0;
-    while n <= asked {
+    for n in 0..asked + 1 {
         if cells::get(offsets, n) != 0 {
             write(
                 plain, rules, goal, second, calls, answers, n, sizes, offsets, list,
             );
         }
-        n += 1;
     }
 }

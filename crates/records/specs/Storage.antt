@@ -1,5 +1,5 @@
 -- What the code that stores and finds records promises, over the views of the tables. Assumes nothing.
-use Rattle.std.specs.Prelude.{ℕ, ◌+◌, ◌*◌, ◌<◌, ◌≤◌, ◌≡◌, Bool, true, false, cond, List, ◌⊎◌, length, get_or, ltb}
+use Rattle.std.specs.Prelude.{ℕ, ◌+◌, ◌*◌, ◌<◌, ◌≤◌, ◌≡◌, Bool, true, false, cond, List, ◌⊎◌, length, get_or, ltb, Option, MatchOption}
 use Rattle.steps.specs.State.{State}
 use Rattle.records.specs.Records.{Calls, Answers, room, call_width, answer_width}
 
@@ -47,6 +47,10 @@ pub record CallAt (calls : Calls) (i a : ℕ) (D : State) : Type 0 where
 
 abbrev pub NoCall : Calls → ℕ → State → Type 0
 NoCall calls a D = (i : ℕ) → i < calls.count → CallAt calls i a D → ⊥
+
+-- The record of a call, if there is one.
+abbrev pub FoundCall : Calls → ℕ → State → Option ℕ → Type 0
+FoundCall calls a D r = MatchOption r (NoCall calls a D) (λ i. (i < calls.count) × CallAt calls i a D)
 
 -- The record of a call, or the count where there is none.
 pub record FindCall (calls : Calls) (a : ℕ) (D : State) (r : ℕ) : Type 0 where

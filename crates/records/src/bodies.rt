@@ -6,14 +6,15 @@ ghost use Rattle.records.specs.Bodies.{number_at, Short, second_goal, is_goal, b
 
 use steps::state::Call;
 
-// The number under which the goal stands among the rules.
+// The number under which the goal stands among the rules. Stays: answer records hold it as a word, and the tables are part of the C interface.
 pub const GOAL_RULE: u64 = 256;
 
-// The number under which a second party's goal stands in the tables.
+// The number under which a second party's goal stands in the tables. Stays: call records hold it as a word, for the same reason.
 pub const SECOND_GOAL: u64 = 65;
 
 // Which goals stand: the first party's under 64, the second's under 65. A run alone is the first party's.
-#[derive(Clone, Copy)]
+// Stays: the two are independent, so the two fields are no flag with a value, and an enum of the four cases is no plainer.
+#[derive(Clone, Copy, Debug, PartialEq, Eq)]
 pub struct Goals {
     pub first: bool,
     pub second: bool,
@@ -31,23 +32,19 @@ impl Goals {
 pub fn is_goal(goals: Goals, action: u64) -> bool
     ensures { result ≡ is_goal goals.first goals.second action }
 {
-    if action == SECOND_GOAL {
-        return goals.second;
+    match action {
+        SECOND_GOAL => goals.second,
+        Call::GOAL => goals.first,
+        _ => false,
     }
-    if action == Call::GOAL {
-        return goals.first;
-    }
-    false
 }
 
 // The number of the k-th body of `count` rules and the goal behind them.
+#[tactic(auto, unfolding(crate::specs::Bodies::number_at))]
 pub fn number_of(k: usize, count: usize) -> u64
     ensures { result ≡ number_at count k }
 {
-    if k < count {
-        return k as u64;
-    }
-    GOAL_RULE
+    if k < count { k as u64 } else { GOAL_RULE }
 }
 
 // Whether the rule of this number is one of the action.
@@ -57,22 +54,22 @@ pub fn is_of(rules: &[u16], goals: Goals, number: u64, action: u64) -> bool
     if number == GOAL_RULE {
         return is_goal(goals, action);
     }
-    if number < (rules.len() / steps::word::RULE_WORDS) as u64 {
-        return rules[steps::word::RULE_WORDS * (number as usize)] as u64 == action;
-    }
-    false
+    number < (rules.len() / steps::word::RULE_WORDS) as u64
+        && rules[steps::word::RULE_WORDS * (number as usize)] as u64 == action
 }
 
 // Whether the k-th body, of the rules and the goals behind them, is one of the action.
+#[tactic(auto, unfolding(crate::specs::Bodies::number_at))]
 pub fn is_at(rules: &[u16], goals: Goals, k: usize, action: u64) -> bool
     requires { length rules.now / rule_width ≤ 256 }
     ensures { result ≡ (bodies_with rules.now goals.first goals.second [] []
         ).fits (number_at (length rules.now / rule_width) k) action }
 {
     if k < rules.len() / steps::word::RULE_WORDS {
-        return rules[steps::word::RULE_WORDS * k] as u64 == action;
+        rules[steps::word::RULE_WORDS * k] as u64 == action
+    } else {
+        is_goal(goals, action)
     }
-    is_goal(goals, action)
 }
 
 // The steps of rule r.
@@ -89,13 +86,11 @@ pub fn rule_steps(rules: &[u16], r: usize) -> &[u16]
 fn goal_under<'a>(goal: &'a [u16], second: &'a [u16], goals: Goals, action: u64) -> &'a [u16]
     ensures { result.now ≡ cond (goals.second && eqb action second_goal) second.now goal.now }
 {
-    if action == SECOND_GOAL {
-        if goals.second {
-            return second;
-        }
-        return goal;
+    if goals.second && action == SECOND_GOAL {
+        second
+    } else {
+        goal
     }
-    goal
 }
 
 // The step words of the rule of this number, which is one of some action; a goal's are those of the goal under this action.
@@ -113,7 +108,8 @@ pub fn steps_for<'a>(
         ).words number action) × (length result.now ≤ 16) }
 {
     if number == GOAL_RULE {
-        return goal_under(goal, second, goals, action);
+        goal_under(goal, second, goals, action)
+    } else {
+        rule_steps(rules, number as usize)
     }
-    rule_steps(rules, number as usize)
 }

@@ -2,7 +2,7 @@
 // how; an index knows only that the first two words of a record are its key.
 ghost use Rattle.std.specs.Prelude.{◌≡◌, ◌+◌, ◌*◌, ◌<◌, ◌≤◌, length, get_or, replicate};
 ghost use Rattle.records.specs.Records.{room, call_table, call_width};
-ghost use Rattle.records.specs.Storage.{round_in, call_width_of, answer_width_of, FindCall, PutCall, PutAnswer};
+ghost use Rattle.records.specs.Storage.{round_in, call_width_of, answer_width_of, FoundCall, PutCall, PutAnswer};
 
 use steps::state::{Call, State};
 
@@ -37,22 +37,14 @@ pub fn room_of(len: usize, width: usize) -> usize
     requires { 0 < width }
     ensures { result ≡ room width len }
 {
-    let whole = len / width;
-    if whole < 65536 {
-        return whole;
-    }
-    65536
+    (len / width).min(65536)
 }
 
 // Sets every word to 0.
 pub fn clear(words: &mut [u64])
     ensures { words.new ≡ replicate (length words.old) 0 }
 {
-    let mut i = 0;
-    while i < words.len() {
-        words[i] = 0;
-        i += 1;
-    }
+    words.fill(0);
 }
 
 // The action of call record i, of `width` words.
@@ -77,9 +69,10 @@ pub fn round_of(words: &[u64], others: usize, width: usize, i: usize) -> u64
     ensures { result ≡ round_in others width words.now i }
 {
     if others < width {
-        return words[width * i + others];
+        words[width * i + others]
+    } else {
+        i as u64
     }
-    i as u64
 }
 
 // The number of the call record that answer record x, of `width` words, is of.
@@ -114,23 +107,17 @@ pub fn evidence_of(answers: &[u64], width: usize, x: usize, q: usize) -> u64
     answers[width * x + 3 + q]
 }
 
-// The record of the call among the first n, or n.
-pub fn find_call(calls: &[u64], n: usize, call: Call) -> usize
+// The record of the call among the first n, if there is one.
+pub fn find_call(calls: &[u64], n: usize, call: Call) -> Option<usize>
     requires { (call_width * n ≤ length calls.now) × (n ≤ 65536) }
-    ensures { (result ≤ n) × FindCall (call_table calls.now n) call.action call.state.0 result }
+    ensures { FoundCall (call_table calls.now n) call.action call.state.0 result }
 {
-    let action = call.action;
-    let state = call.state.0;
-    let mut i = 0;
-    while i < n {
-        if calls[CALL_WORDS * i] == action {
-            if calls[CALL_WORDS * i + 1] == state {
-                return i;
-            }
+    for i in 0..n {
+        if calls[CALL_WORDS * i] == call.action && calls[CALL_WORDS * i + 1] == call.state.0 {
+            return Some(i);
         }
-        i += 1;
     }
-    n
+    None
 }
 
 // Writes call record n, of 2 words or of 3 with its round.
@@ -164,11 +151,7 @@ pub fn put_answer(
     answers[at] = row as u64;
     answers[at + 1] = last.0;
     answers[at + 2] = rule;
-    let mut q = 0;
-    while q < 16 {
-        answers[at + 3 + q] = evidence[q];
-        q += 1;
-    }
+    answers[at + 3..at + ANSWER_OTHERS].copy_from_slice(evidence);
     if ANSWER_OTHERS < width {
         answers[at + ANSWER_OTHERS] = round;
     }

@@ -8,3 +8,5 @@ pub mod Text
 pub mod Marking
 pub mod Archive
 pub mod Sharing
+-- The enum `Refusal` of the code, and its numbers.
+pub mod Number

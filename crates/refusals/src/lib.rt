@@ -1,110 +1,199 @@
-// The numbers of refusals, each named once, as the tables of documents 01 and 02 have them; 0 is none.
+// Why something is refused, each refusal with its number as the tables of documents 01 and 02 have it. C sees the number,
+// and 0 where nothing is refused.
 #![tactic(auto)]
 
-// The sheet is longer than 65,536 bytes.
-pub const TOO_LONG: u64 = 10;
+ghost use Rattle.std.specs.Prelude.{◌≡◌};
+ghost use Rattle.refusals.specs.Number.{number_of, number_in};
 
-// A byte that may not stand where it does.
-pub const BAD_BYTE: u64 = 11;
+use std::error::Error;
+use std::fmt;
 
-// The sheet is not empty and its last byte is not LF.
-pub const NOT_ENDED: u64 = 12;
+#[derive(Clone, Copy, Debug, PartialEq, Eq)]
+pub enum Refusal {
+    // The sheet is longer than 65,536 bytes.
+    TooLong = 10,
 
-// A line whose first field is no record word, or is out of order.
-pub const BAD_WORD: u64 = 13;
+    // A byte that may not stand where it does.
+    BadByte = 11,
 
-// A fluent or action without exactly one name, a rule without head, or a field that is no name or step.
-pub const BAD_FIELD: u64 = 14;
+    // The sheet is not empty and its last byte is not LF.
+    NotEnded = 12,
 
-// A name defined before, or twice in `start`.
-pub const REPEATED: u64 = 15;
+    // A line whose first field is no record word, or is out of order.
+    BadWord = 13,
 
-// A used name that is undefined or of the wrong kind.
-pub const UNDEFINED: u64 = 16;
+    // A fluent or action without exactly one name, a rule without head, or a field that is no name or step.
+    BadField = 14,
 
-// A 65th fluent or action, a 257th rule, or more than 16 steps.
-pub const TOO_MANY: u64 = 17;
+    // A name defined before, or twice in `start`.
+    Repeated = 15,
 
-// A sheet that ends without `start` or without `goal`.
-pub const INCOMPLETE: u64 = 18;
+    // A used name that is undefined or of the wrong kind.
+    Undefined = 16,
 
-// Rule words lent that are fewer than the rules have.
-pub const NO_ROOM: u64 = 19;
+    // A 65th fluent or action, a 257th rule, or more than 16 steps.
+    TooMany = 17,
 
-// A count of fluents or actions over 64.
-pub const BAD_COUNTS: u64 = 20;
+    // A sheet that ends without `start` or without `goal`.
+    Incomplete = 18,
 
-// Rule words that are not whole rules, or over 256 rules.
-pub const BAD_LENGTH: u64 = 21;
+    // Rule words lent that are fewer than the rules have.
+    NoRoom = 19,
 
-// A bad rule.
-pub const BAD_RULE: u64 = 22;
+    // A count of fluents or actions over 64.
+    BadCounts = 20,
 
-// A bad goal.
-pub const BAD_GOAL: u64 = 23;
+    // Rule words that are not whole rules, or over 256 rules.
+    BadLength = 21,
 
-// A start, or a state to be stored, with a bit at or above the fluent count.
-pub const BAD_START: u64 = 24;
+    // A bad rule.
+    BadRule = 22,
 
-// Over 1,024 starts of a class, or result room under 4 words each.
-pub const BAD_CLASS: u64 = 25;
+    // A bad goal.
+    BadGoal = 23,
 
-// Result words that are not those of at most 1,024 starts, or do not fit the ends lent, or an end with a bit too high.
-pub const BAD_RESULTS: u64 = 26;
+    // A start, or a state to be stored, with a bit at or above the fluent count.
+    BadStart = 24,
 
-// Fewer words lent than the figures of a report have.
-pub const REPORT_SHORT: u64 = 27;
+    // Over 1,024 starts of a class, or result room under 4 words each.
+    BadClass = 25,
 
-// Calls outnumber the call room, or answers the answer room.
-pub const TABLES_FULL: u64 = 30;
+    // Result words that are not those of at most 1,024 starts, or do not fit the ends lent, or an end with a bit too high.
+    BadResults = 26,
 
-// Fewer places for ends than there are ends.
-pub const LIST_SHORT: u64 = 31;
+    // Fewer words lent than the figures of a report have.
+    ReportShort = 27,
 
-// A list of calls shorter than the call room.
-pub const CALL_LIST_SHORT: u64 = 34;
+    // Calls outnumber the call room, or answers the answer room.
+    TablesFull = 30,
 
-// A list of calls with fewer places than calls, or a place read that is not below the call count.
-pub const BAD_CALL_LIST: u64 = 35;
+    // Fewer places for ends than there are ends.
+    ListShort = 31,
 
-// A record count over its room.
-pub const BAD_RECORD_COUNT: u64 = 40;
+    // A list of calls shorter than the call room.
+    CallListShort = 34,
 
-// The record asked for is not below the count.
-pub const NO_RECORD: u64 = 41;
+    // A list of calls with fewer places than calls, or a place read that is not below the call count.
+    BadCallList = 35,
 
-// A call record that is not good, or an answer record that is not justified.
-pub const BAD_RECORD: u64 = 42;
+    // A record count over its room.
+    BadRecordCount = 40,
 
-// Fewer places than states in the path.
-pub const STATES_SHORT: u64 = 43;
+    // The record asked for is not below the count.
+    NoRecord = 41,
 
-// Fewer bytes lent than the text has.
-pub const TEXT_SHORT: u64 = 50;
+    // A call record that is not good, or an answer record that is not justified.
+    BadRecord = 42,
 
-// Over 63 recorded steps.
-pub const LONG_RECORD: u64 = 60;
+    // Fewer places than states in the path.
+    StatesShort = 43,
 
-// Fewer than 4,096 words lent for the marks.
-pub const MARKS_SHORT: u64 = 61;
+    // Fewer bytes lent than the text has.
+    TextShort = 50,
 
-// A recorded step that is a call or bad.
-pub const BAD_RECORDED_STEP: u64 = 62;
+    // Over 63 recorded steps.
+    LongRecord = 60,
 
-// A name that is a fluent in one sheet and an action in the other.
-pub const BOTH_KINDS: u64 = 70;
+    // Fewer than 4,096 words lent for the marks.
+    MarksShort = 61,
 
-// Fewer places lent than are to be written.
-pub const OUTPUT_SHORT: u64 = 80;
+    // A recorded step that is a call or bad.
+    BadRecordedStep = 62,
 
-// A number of stored words that does not match the count of states.
-pub const BAD_WORD_COUNT: u64 = 81;
+    // A name that is a fluent in one sheet and an action in the other.
+    BothKinds = 70,
 
-// A stored bit past the last state.
-pub const BIT_PAST_END: u64 = 82;
+    // Fewer places lent than are to be written.
+    OutputShort = 80,
 
-// The limits of both parties add up to more than a table's room.
-pub const OVER_LIMITS: u64 = 90;
+    // A number of stored words that does not match the count of states.
+    BadWordCount = 81,
 
-// What is kept meets 23, 24, 40 or 90, or the tables handed back do not hold just that, within the limits.
-pub const NOT_AS_KEPT: u64 = 91;
+    // A stored bit past the last state.
+    BitPastEnd = 82,
+
+    // The limits of both parties add up to more than a table's room.
+    OverLimits = 90,
+
+    // What is kept meets 23, 24, 40 or 90, or the tables handed back do not hold just that, within the limits.
+    NotAsKept = 91,
+}
+
+impl Refusal {
+    // The number that the documents give it, from 10 on.
+    pub fn number(self) -> u64
+        ensures { result ≡ number_of self }
+    {
+        self as u64
+    }
+}
+
+// The number of an answer: of its refusal, or 0 where it has a value.
+pub fn number_in<T>(answer: &Result<T, Refusal>) -> u64
+    ensures { result ≡ number_in answer.now }
+{
+    match answer {
+        Ok(_) => 0,
+        Err(refusal) => refusal.number(),
+    }
+}
+
+impl From<Refusal> for u64 {
+    ghost from_gives = { λ refusal number. number ≡ number_of refusal };
+
+    fn from(refusal: Refusal) -> u64 {
+        refusal.number()
+    }
+}
+
+impl fmt::Display for Refusal {
+    fn fmt<W: fmt::Write>(&self, f: &mut fmt::Formatter<W>) -> fmt::Result {
+        f.write_str(match self {
+            Refusal::TooLong => "the sheet is longer than 65,536 bytes",
+            Refusal::BadByte => "a byte that may not stand where it does",
+            Refusal::NotEnded => "the sheet is not empty and its last byte is not LF",
+            Refusal::BadWord => "a line whose first field is no record word, or is out of order",
+            Refusal::BadField =>
+                "a fluent or action without exactly one name, a rule without head, or a field that is no name or step",
+            Refusal::Repeated => "a name defined before, or twice in `start`",
+            Refusal::Undefined => "a used name that is undefined or of the wrong kind",
+            Refusal::TooMany => "a 65th fluent or action, a 257th rule, or more than 16 steps",
+            Refusal::Incomplete => "a sheet that ends without `start` or without `goal`",
+            Refusal::NoRoom => "rule words lent that are fewer than the rules have",
+            Refusal::BadCounts => "a count of fluents or actions over 64",
+            Refusal::BadLength => "rule words that are not whole rules, or over 256 rules",
+            Refusal::BadRule => "a bad rule",
+            Refusal::BadGoal => "a bad goal",
+            Refusal::BadStart =>
+                "a start, or a state to be stored, with a bit at or above the fluent count",
+            Refusal::BadClass => "over 1,024 starts of a class, or result room under 4 words each",
+            Refusal::BadResults =>
+                "result words that are not those of at most 1,024 starts, or do not fit the ends lent, or an end with a bit too high",
+            Refusal::ReportShort => "fewer words lent than the figures of a report have",
+            Refusal::TablesFull => "calls outnumber the call room, or answers the answer room",
+            Refusal::ListShort => "fewer places for ends than there are ends",
+            Refusal::CallListShort => "a list of calls shorter than the call room",
+            Refusal::BadCallList =>
+                "a list of calls with fewer places than calls, or a place read that is not below the call count",
+            Refusal::BadRecordCount => "a record count over its room",
+            Refusal::NoRecord => "the record asked for is not below the count",
+            Refusal::BadRecord =>
+                "a call record that is not good, or an answer record that is not justified",
+            Refusal::StatesShort => "fewer places than states in the path",
+            Refusal::TextShort => "fewer bytes lent than the text has",
+            Refusal::LongRecord => "over 63 recorded steps",
+            Refusal::MarksShort => "fewer than 4,096 words lent for the marks",
+            Refusal::BadRecordedStep => "a recorded step that is a call or bad",
+            Refusal::BothKinds => "a name that is a fluent in one sheet and an action in the other",
+            Refusal::OutputShort => "fewer places lent than are to be written",
+            Refusal::BadWordCount =>
+                "a number of stored words that does not match the count of states",
+            Refusal::BitPastEnd => "a stored bit past the last state",
+            Refusal::OverLimits => "the limits of both parties add up to more than a table's room",
+            Refusal::NotAsKept =>
+                "what is kept is refused, or the tables handed back do not hold just that, within the limits",
+        })
+    }
+}
+
+impl Error for Refusal {}

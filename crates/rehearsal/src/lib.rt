@@ -4,6 +4,7 @@
 ghost use Rattle.rehearsal.specs.Rehearsed.{Rehearsed};
 
 // The refusal, 0 for none, and its line; the counts of ends, calls, answers and rounds.
+// Stays: the counts hold beside a refusal of the evaluator too (`evaluated` of `Rehearsed`), which a Result would lose.
 #[derive(Clone, Copy)]
 pub struct Rehearsal {
     pub refusal: u64,

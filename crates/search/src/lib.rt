@@ -5,7 +5,7 @@
 // so it is marked and never entered twice. At the body's end the state is added as an answer, with the answers on the way as its evidence.
 #![tactic(auto)]
 
-ghost use Rattle.std.specs.Prelude.{◌≡◌, true, false, List, ℕ, ◌+◌, ◌-◌, ◌<◌, ◌≤◌, length, get_or, drop};
+ghost use Rattle.std.specs.Prelude.{◌≡◌, true, false, List, ℕ, ◌+◌, ◌-◌, ◌<◌, ◌≤◌, length, get_or, drop, MatchOption};
 ghost use Rattle.steps.specs.Inner.{is_call};
 ghost use Rattle.records.specs.Records.{Bodies, room, call_width};
 ghost use Rattle.records.proofs.Growth.{Tables};
@@ -25,6 +25,7 @@ use steps::word;
 // What does not change while a body is walked: its rule's number, the call record that it is of, how many answers may serve and how many
 // there is room for, and the walk's own number; the records from `first` up to `old` were walked before, with the answers below `seen`;
 // whether the round has noted all that it has to look at again; and the round's number.
+// Stays: `warm` is a fact of its own, and every number holds whatever it says.
 #[derive(Clone, Copy)]
 pub struct Job {
     pub rule: u64,
@@ -109,28 +110,17 @@ fn is_old(chosen: &[u64; 16], at: usize, seen: usize) -> bool
     requires { at ≤ 16 }
     ensures { result ≡ true → (q : ℕ) → q < at → get_or chosen.now q 0 < seen }
 {
-    let mut place = at;
-    while 0 < place {
-        place -= 1;
-        if (seen as u64) <= chosen[place] {
-            return false;
-        }
-    }
-    true
+    chosen[..at]
+        .iter()
+        .rev()
+        .all(|answer| *answer < seen as u64)
 }
 
 // Whether no call comes after the step in front.
 fn is_last(rest: &[u16]) -> bool
     ensures { result ≡ true → (q : ℕ) → 0 < q → q < length rest.now → is_call (get_or rest.now q 0) ≡ false }
 {
-    let mut place = 1;
-    while place < rest.len() {
-        if word::is_call(rest[place]) {
-            return false;
-        }
-        place += 1;
-    }
-    true
+    !rest.iter().skip(1).any(|step| word::is_call(*step))
 }
 
 // The answer of call record `row` that a walk takes first, or `known`: where a record is walked again and the walk has come by old answers, the
@@ -280,7 +270,7 @@ fn advance(
     let state = spot.state;
     let next = word::elementary(step, state);
     match next {
-        word::Next::On(after) => {
+        Some(after) => {
             chosen[at] = 0;
             let there = Spot {
                 state: after,
@@ -292,7 +282,7 @@ fn advance(
                 front: Front::On(there),
             }
         }
-        word::Next::Stuck => Advanced {
+        None => Advanced {
             calls: n,
             answers: m,
             front: Front::Spent,
@@ -300,14 +290,14 @@ fn advance(
     }
 }
 
-// A place, and an answer to take before it.
+// The place of a call step, and an answer to take there.
 #[derive(Clone, Copy)]
-pub struct Later {
-    pub at: usize,
-    pub answer: usize,
+struct Later {
+    place: usize,
+    answer: usize,
 }
 
-// The place after the latest call step with an answer left, and that answer; place 0 where there is none.
+// The latest call step with an answer left, and that answer.
 fn retreat(
     body: &[u16],
     answers: &[u64],
@@ -315,37 +305,35 @@ fn retreat(
     most: usize,
     chosen: &[u64; 16],
     at: usize,
-) -> Later
+) -> Option<Later>
     requires at_in_bounds { (at ≤ length body.now) × (at ≤ 16) × Chosen body.now known chosen.now at }
     requires by_index { (m : ℕ) × (known ≤ m) × AnswersOpen most answers.now m × ((calls : List ℕ) × AnswerIndex most calls answers.now m) }
-    ensures { RetreatRow body.now (packed_answers answers.now known) known chosen.now at result.at
-        result.answer }
+    ensures { MatchOption result (RetreatRow body.now (packed_answers answers.now known) known chosen.now at 0 0)
+        (λ r. RetreatRow body.now (packed_answers answers.now known) known chosen.now at (r.place + 1) r.answer) }
 {
-    let mut place = at;
-    while 0 < place {
-        place -= 1;
+    for place in (0..at).rev() {
         if word::is_call(body[place]) {
             let last = chosen[place] as usize;
             let later = index::later_answer(answers, known, most, last);
             if later < known {
-                return Later {
-                    at: place + 1,
+                return Some(Later {
+                    place: place,
                     answer: later,
-                };
+                });
             }
         }
     }
-    Later { at: 0, answer: 0 }
+    None
 }
 
 // A place and where the walk is then.
 #[derive(Clone, Copy)]
-pub struct Went {
-    pub at: usize,
-    pub spot: Spot,
+struct Went {
+    at: usize,
+    spot: Spot,
 }
 
-// Takes the next answer of the latest call step that has one left: the place after it and its final state; place 0 where there is none.
+// Takes the next answer of the latest call step that has one left: the place after it and its final state.
 fn go_back(
     body: &[u16],
     answers: &[u64],
@@ -353,32 +341,21 @@ fn go_back(
     most: usize,
     chosen: &mut [u64; 16],
     at: usize,
-) -> Went
+) -> Option<Went>
     requires at_in_bounds { (at ≤ length body.now) × (at ≤ 16) × Chosen body.now known chosen.old at }
     requires by_index { (m : ℕ) × (known ≤ m) × AnswersOpen most answers.now m × ((calls : List ℕ) × AnswerIndex most calls answers.now m) }
-    ensures { WentBack body.now answers.now known chosen.old at chosen.new result.at
-        (spot_of result.spot) }
+    ensures { MatchOption result (WentBack body.now answers.now known chosen.old at chosen.new 0 (0, 0))
+        (λ r. (0 < r.at) × WentBack body.now answers.now known chosen.old at chosen.new r.at (spot_of r.spot)) }
 {
-    let back = retreat(body, answers, known, most, chosen, at);
-    let after = back.at;
-    let answer = back.answer;
-    if after == 0 {
-        return Went {
-            at: 0,
-            spot: Spot {
-                state: State::NOTHING,
-                last: 0,
-            },
-        };
-    }
-    chosen[after - 1] = answer as u64;
-    Went {
-        at: after,
+    let later = retreat(body, answers, known, most, chosen, at)?;
+    chosen[later.place] = later.answer as u64;
+    Some(Went {
+        at: later.place + 1,
         spot: Spot {
-            state: desk::final_of(answers, answer),
-            last: answer + 1,
+            state: desk::final_of(answers, later.answer),
+            last: later.answer + 1,
         },
-    }
+    })
 }
 
 // How a turn comes out: on after the step in front, back at a place of the body, done, or a table is full.
@@ -429,8 +406,7 @@ pub fn turn(
 {
     let at = body.len() - rest.len();
     let a = advance(rest, at, job, calls, n, list, answers, m, chosen, spot);
-    let front = a.front;
-    match front {
+    match a.front {
         Front::On(after) => Moved {
             calls: a.calls,
             answers: a.answers,
@@ -441,22 +417,17 @@ pub fn turn(
             answers: a.answers,
             leave: Leave::Full,
         },
-        Front::Spent => {
-            let back = go_back(body, answers, job.known, job.most, chosen, at);
-            let place = back.at;
-            let there = back.spot;
-            if place == 0 {
-                return Moved {
-                    calls: a.calls,
-                    answers: a.answers,
-                    leave: Leave::Done,
-                };
-            }
-            Moved {
+        Front::Spent => match go_back(body, answers, job.known, job.most, chosen, at) {
+            Some(went) => Moved {
                 calls: a.calls,
                 answers: a.answers,
-                leave: Leave::Back(place, there),
-            }
-        }
+                leave: Leave::Back(went.at, went.spot),
+            },
+            None => Moved {
+                calls: a.calls,
+                answers: a.answers,
+                leave: Leave::Done,
+            },
+        },
     }
 }

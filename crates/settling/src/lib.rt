@@ -4,7 +4,7 @@
 // answers stand in the answer table. When it is over both tables are given.
 #![tactic(auto)]
 
-ghost use Rattle.std.specs.Prelude.{◌≡◌, ◌*◌, ◌≤◌, length};
+ghost use Rattle.std.specs.Prelude.{◌≡◌, true, false, ◌*◌, ◌≤◌, length, MatchResult};
 ghost use Rattle.records.specs.Records.{room, call_width};
 ghost use Rattle.records.specs.Bodies.{bodies_with};
 ghost use Rattle.invariants.proofs.Filling.{Accepted};
@@ -12,7 +12,7 @@ ghost use Rattle.stowing.specs.Stowing.{call_words, answer_words};
 ghost use Rattle.joint.specs.Joint.{roots_of};
 ghost use Rattle.settling.specs.Given.{RowsGiven};
 
-use joint::Rows;
+use joint::{Full, Rows};
 use records::bodies::Goals;
 use records::tables;
 
@@ -29,13 +29,15 @@ pub fn settle<'a>(
     calls: &mut [u64],
     answers: &mut [u64],
     most: usize,
-) -> Rows
+) -> Result<Rows, Full>
     requires accepted { Accepted rules.now goal.now second.now }
     requires rows_len { (length rows.old ≡ call_width * room call_words (length calls.old)) × (most ≤ 65536)
         × (answer_words * most ≤ length answers.old) }
-    ensures { RowsGiven (bodies_with rules.now goals.first goals.second goal.now second.now)
-        (roots_of goals.first goals.second start second_start) most calls.old answers.old calls.new
-        answers.new result.full result.calls result.answers }
+    ensures { MatchResult result
+        (λ r. RowsGiven (bodies_with rules.now goals.first goals.second goal.now second.now) (roots_of goals.first goals.second start second_start)
+        most calls.old answers.old calls.new answers.new false r.calls r.answers)
+        (λ r. RowsGiven (bodies_with rules.now goals.first goals.second goal.now second.now) (roots_of goals.first goals.second start second_start)
+        most calls.old answers.old calls.new answers.new true r.calls r.answers) }
 {
     let room = tables::room_of(calls.len(), stowing::CALL_WORDS);
     let filled = joint::fill_rows(
@@ -49,13 +51,10 @@ pub fn settle<'a>(
         &mut calls[..room],
         answers,
         most,
-    );
-    if filled.full {
-        return filled;
-    }
+    )?;
     let n = filled.calls;
     let m = filled.answers;
     stowing::give_calls(rows, n, calls);
     stowing::give_answers(answers, m, most);
-    filled
+    Ok(filled)
 }

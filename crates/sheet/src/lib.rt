@@ -1,18 +1,23 @@
 // The sheet reader: an author's text into rule words, counts, start and goal, or one numbered refusal and its line.
 #![tactic(auto)]
 
-ghost use Rattle.std.specs.Prelude.{◌≡◌, ◌++◌, ◌≤◌, length, take, drop};
+ghost use Rattle.std.specs.Prelude.{◌≡◌, length};
+ghost use Rattle.refusals.specs.Number.{number_of};
 ghost use Rattle.fields.specs.Held.{answer};
 ghost use Rattle.lines.specs.Reader.{whole_sheet, read_sheet};
 ghost use Rattle.naming.specs.Spans.{part_of, address_of};
 ghost use Rattle.sheet.specs.Result.{refusal, result_of, rules_after};
 ghost use Rattle.sheet.specs.FluentName.{name_span};
-ghost use Rattle.sheet.specs.Inner.{Gives};
+ghost use Rattle.sheet.specs.Inner.{outcome_of};
 
-use lines::Scan;
+use lines::parse::Parse;
+use lines::{Fault, Stage};
 use naming::Span;
+use refusals::Refusal;
+use steps::word::RULE_WORDS;
 
 // What a sheet says beside its rule words. Refusal 0 is none.
+// Stays: C sees its fields and numbers (`lawhemuri_read`).
 #[repr(C)]
 #[derive(Clone, Copy)]
 pub struct Sheet {
@@ -26,78 +31,48 @@ pub struct Sheet {
     pub goal: [u16; 16],
 }
 
-// The refusal of the whole sheet, before its lines are read, or 0.
-fn whole_refusal(s: &[u8]) -> u64
-    ensures { answer result tt ≡ whole_sheet s.now }
+// The sheet as a whole, before its lines are read.
+fn check_whole(s: &[u8]) -> Result<(), Refusal>
+    ensures { answer (λ _. tt) result ≡ whole_sheet s.now }
 {
-    if 65536 < s.len() {
-        return refusals::TOO_LONG;
+    if s.len() > 65536 {
+        return Err(Refusal::TooLong);
     }
     if !chars::is_clean(s) {
-        return refusals::BAD_BYTE;
+        return Err(Refusal::BadByte);
     }
-    if s.len() == 0 {
-        return 0;
+    if !s.is_empty() && s[s.len() - 1] != b'\n' {
+        return Err(Refusal::NotEnded);
     }
-    let last = s.len() - 1;
-    if s[last] != b'\n' {
-        return refusals::NOT_ENDED;
-    }
-    0
+    Ok(())
 }
 
-// What the sheet says, with its rule words in `words`, or its refusal and line.
-fn scan_sheet(s: &[u8], words: &mut [u16]) -> Scan
+// What the sheet says, with its rule words in `words`.
+fn scan_sheet<'a>(s: &'a [u8], words: &mut [u16]) -> Result<Parse<'a>, Fault>
     requires { length words.old ≡ 4608 }
-    ensures { Gives s.now words.new result.line result.said (read_sheet s.now) }
+    ensures { outcome_of words.new result ≡ read_sheet s.now }
 {
-    let fault = whole_refusal(s);
-    if fault != 0 {
-        let said = lines::blank(fault);
-        return Scan { line: 0, said };
+    check_whole(s)?;
+    let said = lines::read_lines(s, words)?;
+    if said.started && matches!(said.stage, Stage::End) {
+        return Ok(said);
     }
-    let got = lines::read_lines(s, words);
-    let b = got.said;
-    let r = b.refusal;
-    let stage = b.stage;
-    let started = b.started;
-    if r != 0 {
-        return got;
-    }
-    if started {
-        if stage == 5 {
-            return got;
-        }
-    }
-    let said = lines::blank(refusals::INCOMPLETE);
-    Scan { line: 0, said }
+    Err(Fault::from(Refusal::Incomplete))
 }
 
 // A refused sheet.
-fn refused(number: u64, line: u64) -> Sheet
-    ensures { result ≡ refusal number line }
+fn refused(fault: Fault) -> Sheet
+    ensures { result ≡ refusal (number_of fault.refusal) fault.line }
 {
     Sheet {
-        refusal: number,
-        line,
+        refusal: fault.refusal.number(),
+        line: fault.line,
         fluents: 0,
         actions: 0,
         rules: 0,
         start: 0,
         goal_len: 0,
-        goal: [0u16; 16],
-    }
-}
-
-// Copies the first n words.
-fn copy_words(to: &mut [u16], from: &[u16], n: usize)
-    requires { (n ≤ length to.old) × (n ≤ length from.now) }
-    ensures { to.new ≡ take n from.now ++ drop n to.old }
-{
-    let mut i = 0;
-    while i < n {
-        to[i] = from[i];
-        i += 1;
+        goal: [0; 16],
     }
 }
 
@@ -107,30 +82,24 @@ pub fn read(sheet: &[u8], rules: &mut [u16]) -> Sheet
     ensures rules_after { rules.new ≡ rules_after rules.old (read_sheet sheet.now) }
 {
     let mut words = [0u16; 4608];
-    let got = scan_sheet(sheet, &mut words);
-    let line = got.line;
-    let b = got.said;
-    let r = b.refusal;
-    if r != 0 {
-        return refused(r, line);
+    let said = match scan_sheet(sheet, &mut words) {
+        Ok(said) => said,
+        Err(fault) => return refused(fault),
+    };
+    let used = RULE_WORDS * said.rules;
+    if rules.len() < used {
+        return refused(Fault::from(Refusal::NoRoom));
     }
-    let count = b.rules;
-    if rules.len() < steps::word::RULE_WORDS * count {
-        return refused(refusals::NO_ROOM, 0);
-    }
-    copy_words(rules, &words, steps::word::RULE_WORDS * count);
-    let goal = b.goal;
-    let n = b.names;
-    let start = b.start;
+    rules[..used].copy_from_slice(&words[..used]);
     Sheet {
         refusal: 0,
         line: 0,
-        fluents: n.fluents as u64,
-        actions: n.actions as u64,
-        rules: count as u64,
-        start: start.0,
-        goal_len: b.goal_len as u64,
-        goal,
+        fluents: said.names.fluents.len as u64,
+        actions: said.names.actions.len as u64,
+        rules: said.rules as u64,
+        start: said.start.0,
+        goal_len: said.goal.len as u64,
+        goal: said.goal.words,
     }
 }
 
@@ -139,18 +108,14 @@ pub fn fluent_span(sheet: &[u8], number: u64) -> Span
     ensures { result ≡ name_span sheet.now number }
 {
     let mut words = [0u16; 4608];
-    let got = scan_sheet(sheet, &mut words);
-    let b = got.said;
-    let r = b.refusal;
-    let n = b.names;
-    let count = n.fluents as u64;
-    if r != 0 {
+    let Ok(said) = scan_sheet(sheet, &mut words) else {
         return Span { at: 0, len: 0 };
+    };
+    if number < said.names.fluents.len as u64 {
+        naming::name_in(sheet, number)
+    } else {
+        Span { at: 0, len: 0 }
     }
-    if count <= number {
-        return Span { at: 0, len: 0 };
-    }
-    naming::name_in(sheet, number)
 }
 
 // The very part of the lent sheet that defines the fluent; for a refused sheet or a number too high, the empty part at the sheet's first byte.
@@ -159,7 +124,5 @@ pub fn fluent_name<'a>(sheet: &'a [u8], number: u64) -> &'a [u8]
     ensures ref_ptr_value { result.ref_ptr ≡ address_of sheet.entry.ref_ptr (name_span sheet.now number) }
 {
     let name = fluent_span(sheet, number);
-    let at = name.at;
-    let end = at + name.len;
-    &sheet[at..end]
+    &sheet[name.at..name.at + name.len]
 }

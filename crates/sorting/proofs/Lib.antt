@@ -8,4 +8,3 @@ pub mod HeapLaws
 pub mod Sinking
 pub mod Selection
 pub mod SortedLaws
-pub mod Names

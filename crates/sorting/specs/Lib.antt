@@ -3,3 +3,4 @@
 pub mod Permuted
 pub mod Shuffled
 pub mod Heap
+pub mod Orders

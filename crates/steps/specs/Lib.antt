@@ -10,6 +10,8 @@ pub mod Widths
 pub mod Words
 pub mod Acceptance
 pub mod Elementary
--- What only inner contracts and laws cite. Next: the code's answer to an elementary step. Inner: what they say in one word.
+-- What only inner contracts and laws cite. Kinds: the kinds of steps as the code has them. Next: the code's answer to an elementary step.
+-- Inner: what they say in one word.
+pub mod Kinds
 pub mod Next
 pub mod Inner

@@ -5,8 +5,24 @@ ghost use Rattle.steps.specs.State.{holds, removed};
 ghost use Rattle.steps.specs.Inner.{inserted};
 
 // A set of at most 64 fluents: fluent k holds exactly if bit k is set.
-#[derive(Clone, Copy)]
+#[derive(Clone, Copy, Debug, Default, PartialEq, Eq)]
 pub struct State(pub u64);
+
+impl From<u64> for State {
+    ghost from_gives = { λ word state. state.0 ≡ word };
+
+    fn from(word: u64) -> State {
+        State::of(word)
+    }
+}
+
+impl From<State> for u64 {
+    ghost from_gives = { λ state word. word ≡ state.0 };
+
+    fn from(state: State) -> u64 {
+        state.0
+    }
+}
 
 impl State {
     // The state in which nothing holds.
@@ -30,23 +46,18 @@ impl State {
     pub fn holds(self, k: u64) -> bool
         ensures { result ≡ holds self.0 k }
     {
-        if k < 64 {
-            return (self.0 >> k) % 2 == 1;
-        }
-        false
+        k < 64 && (self.0 >> k) % 2 == 1
     }
 
     // The state with fluent k added; from 64 on there is no fluent to add, and the state is handed back as it is.
     pub fn insert(self, k: u64) -> State
         ensures { result.0 ≡ inserted self.0 k }
     {
-        if k < 64 {
-            if self.holds(k) {
-                return self;
-            }
-            return State(self.0 + (1 << k));
+        if k < 64 && !self.holds(k) {
+            State(self.0 + (1 << k))
+        } else {
+            self
         }
-        self
     }
 
     // The state with fluent k removed.
@@ -54,14 +65,15 @@ impl State {
         ensures { result.0 ≡ removed self.0 k }
     {
         if self.holds(k) {
-            return State(self.0 - (1 << k));
+            State(self.0 - (1 << k))
+        } else {
+            self
         }
-        self
     }
 }
 
 // An action and the state in which it is called.
-#[derive(Clone, Copy)]
+#[derive(Clone, Copy, Debug, PartialEq, Eq)]
 pub struct Call {
     pub action: u64,
     pub state: State,

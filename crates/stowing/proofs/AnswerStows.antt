@@ -1,59 +1,20 @@
 -- Laws of answer records put aside and given back. Assumes nothing.
-use Prim.Native.Nat.{ℕ, zero, suc, ◌+◌, ◌-◌, ◌*◌, ◌/◌, ◌%◌, ◌<◌, ◌≤◌}
+use Prim.Native.Nat.{ℕ, zero, suc, ◌+◌, ◌*◌, ◌/◌, ◌%◌, ◌<◌, ◌≤◌}
 use native.Mathlib.Omega.{arith}
 use native.Mathlib.Decide.{dec_lt, ℕ_discrete}
 use native.Mathlib.Nat.{add-zero}
-use mathlib.Core.Path.{◌≡◌, refl, sym, ap, ◌∙◌}
-use mathlib.Core.List.{List, ◌++◌, append-nil}
+use mathlib.Core.Path.{◌≡◌, sym, ap, ◌∙◌}
+use mathlib.Core.List.{List}
 use mathlib.Core.Logic.{inl, inr}
-use lib.ListN.{length, get_or, take, drop, replicate, length-drop, length-replicate, get_or-replicate, drop_of_length-le, get_or-eq_default}
-use lib.Seq.{get_or-take, get_or-append-add, length-take-le, ext_get_or}
-use borrow.Rule.Slice.PartMut.{mid_of, put_mid, take_put, same_len_mid}
+use lib.ListN.{length, get_or}
+use lib.Seq.{ext_get_or}
 use Rattle.quarters.specs.Quarters.{quarter}
 use Rattle.quarters.proofs.QuarterLaws.{four, quarter_0, quarter_1, quarter_2, quarter_3}
 use Rattle.records.specs.Records.{Answers}
 use Rattle.radix.specs.Lines.{Copied}
-use Rattle.radix.proofs.Copies.{word_at}
+use Rattle.radix.proofs.Names.{word_at}
 use Rattle.desk.specs.Desk.{packed, packed_answers, Written, ClearedFrom}
 use Rattle.stowing.specs.Stowing.{answer_words, stowed_words, freed_words, plain_answers, packed_from, stowed_answers, AnswerAlike, EvidenceSmall, Stowed, Unstowed, AnswersGiven, stowed_record, AnswerLaid}
-
--- ---- words cleared from a place on
-
-zeros : (n i : ℕ) → ◌≡◌ {A = ℕ} (get_or (replicate n 0) i 0) 0
-zeros n i = elim (dec_lt i n) [
-  | yes l ↦ get_or-replicate n i 0 0 l
-  | no l ↦ get_or-eq_default (replicate n 0) 0 (omega (arith, length-replicate {A = ℕ} n 0))
-]
-
-module _ (from : ℕ) (words : List ℕ) (inside : from ≤ length words) where
-  abbrev part : List ℕ
-  part = mid_of from (length words - from) words
-
-  pub part_cleared : {zs : List ℕ} → zs ≡ replicate (length part) 0 → ClearedFrom words from (put_mid from (length words - from) words zs)
-  part_cleared {zs} e = record {
-    long = same_len_mid from (length words - from) words zs (ap length e ∙ length-replicate (length part) 0);
-    cleared = λ p l. by p (p - from) (omega arith);
-    below = λ p l.
-        sym (get_or-take from whole p 0 l)
-        ∙ ap (λ (ws : List ℕ). get_or ws p 0) (take_put from (length words - from) words zs inside)
-        ∙ get_or-take from words p 0 l;
-  }
-    where
-      whole : List ℕ
-      whole = put_mid from (length words - from) words zs
-
-      back : whole ≡ take from words ++ zs
-      back =
-          ap (λ (ws : List ℕ). take from words ++ (zs ++ ws)) (drop_of_length-le (drop from words) {i = length words - from} (omega (arith, length-drop from words)))
-          ∙ ap (λ (ws : List ℕ). take from words ++ ws) (append-nil zs)
-
-      by : (p k : ℕ) → p ≡ from + k → get_or whole p 0 ≡ 0
-      by p k d =
-          ap (λ (ws : List ℕ). get_or ws p 0) back
-          ∙ word_at (take from words ++ zs) (d ∙ ap (λ (n : ℕ). n + k) (sym (length-take-le from words inside)))
-          ∙ get_or-append-add (take from words) zs k 0
-          ∙ ap (λ (ws : List ℕ). get_or ws k 0) e
-          ∙ zeros (length part) k
 
 -- ---- records that are the same
 
@@ -64,9 +25,6 @@ alike_trans s t = record {
   rule = s.rule ∙ t.rule;
   evidence = λ q l. s.evidence q l ∙ t.evidence q l;
 }
-
-pub alike_sym : {a b : Answers} {x : ℕ} → AnswerAlike a b x → AnswerAlike b a x
-alike_sym s = record { call = sym s.call; final = sym s.final; rule = sym s.rule; evidence = λ q l. sym (s.evidence q l) }
 
 -- A record whose words stay is the same,
 pub plain_kept : (words words' : List ℕ) (m x : ℕ)
@@ -125,9 +83,6 @@ pub record Stowing (most m x : ℕ) (words words' : List ℕ) : Type 0 where
   pub done : (y : ℕ) → x ≤ y → y < m → AnswerAlike (stowed_answers most words' m) (plain_answers words m) y
   pub below : (p : ℕ) → p < freed_words * most + stowed_words * x → get_or words' p 0 ≡ get_or words p 0
 
-pub stow_none : (most m : ℕ) (words : List ℕ) → Stowing most m m words words
-stow_none most m words = record { long = refl; done = λ y a b. absurd (omega arith); below = λ p l. refl }
-
 pub stow_more : {most m x : ℕ} {words words' words'' : List ℕ} → Stowing most m (x + 1) words words' → EvidenceSmall words m → x < m → m ≤ most
     → Written words' (freed_words * most + stowed_words * x) (stowed_record words' x) words'' → Stowing most m x words words''
 stow_more {most} {m} {x} {words} {words'} {words''} s small l few w =
@@ -160,9 +115,6 @@ pub record Unstowing (most m x : ℕ) (words words' : List ℕ) : Type 0 where
   pub long : length words' ≡ length words
   pub done : (y : ℕ) → y < x → AnswerAlike (plain_answers words' m) (stowed_answers most words m) y
   pub past : (p : ℕ) → answer_words * x ≤ p → get_or words' p 0 ≡ get_or words p 0
-
-pub unstow_none : (most m : ℕ) (words : List ℕ) → Unstowing most m 0 words words
-unstow_none most m words = record { long = refl; done = λ y l. absurd (omega arith); past = λ p l. refl }
 
 pub unstow_more : {most m x : ℕ} {words words' words'' : List ℕ} → Unstowing most m x words words' → x < m → m ≤ most
     → AnswerLaid words' (freed_words * most + stowed_words * x) x words'' → Unstowing most m (x + 1) words words''

@@ -4,7 +4,7 @@
 
 ghost use Rattle.std.specs.Prelude.{◌≡◌, ℕ, ◌+◌, ◌*◌, ◌/◌, ◌%◌, ◌<◌, ◌≤◌, length, get_or};
 ghost use Rattle.records.specs.Records.{call_width};
-ghost use Rattle.desk.specs.Desk.{packed, Written, ClearedFrom};
+ghost use Rattle.desk.specs.Desk.{Written};
 ghost use Rattle.quarters.specs.Quarters.{quarter};
 ghost use Rattle.stowing.specs.Stowing.{call_words, answer_words, stow_words, stowed_record, AnswersFit, CallsFit};
 ghost use Rattle.stowing.specs.Stowing.{EvidenceSmall, ActionsSmall, Stowed, Unstowed, AnswersGiven, CallsStowed, CallsUnstowed, CallsGiven};
@@ -20,21 +20,12 @@ pub const CALL_WORDS: usize = 2;
 pub const ANSWER_WORDS: usize = 19;
 
 // An answer record that is put aside: its call record number, final state and rule number, a word that is free, four words of evidence.
-const STOWED_WORDS: usize = 8;
+const STOWED_WORDS: usize = desk::PACKED_WORDS;
 
 // The words that each answer record put aside leaves free.
-const FREED_WORDS: usize = 11;
+pub const FREED_WORDS: usize = 11;
 
 // ---- answers
-
-// Four words from `at` on as the quarters of one.
-fn packed(words: &[u64], at: usize) -> u64
-    requires { at + 4 ≤ length words.now }
-    ensures { result ≡ packed words.now at }
-{
-    let low = words[at] % 65536 + words[at + 1] % 65536 * 65536;
-    low + words[at + 2] % 65536 * 4294967296 + words[at + 3] % 65536 * 281474976710656
-}
 
 // The words of an answer record put aside, but for the free one.
 #[derive(Clone, Copy)]
@@ -59,10 +50,10 @@ fn stow_of(answers: &[u64], x: usize) -> Stow
         call: answers[from],
         last: answers[from + 1],
         rule: answers[from + 2],
-        first: packed(answers, from + 3),
-        second: packed(answers, from + 7),
-        third: packed(answers, from + 11),
-        fourth: packed(answers, from + 15),
+        first: desk::packed(answers, from + 3),
+        second: desk::packed(answers, from + 7),
+        third: desk::packed(answers, from + 11),
+        fourth: desk::packed(answers, from + 15),
     }
 }
 
@@ -88,32 +79,18 @@ pub fn stow_answers(answers: &mut [u64], m: usize, most: usize)
     ensures { Stowed most m answers.old answers.new }
 {
     let from = FREED_WORDS * most;
-    let mut x = m;
-    while 0 < x {
-        x -= 1;
+    for x in (0..m).rev() {
         let stow = stow_of(answers, x);
         put_stow(answers, from + STOWED_WORDS * x, stow);
     }
 }
 
-// 16 words of evidence.
-#[derive(Clone, Copy)]
-struct Evidence {
-    words: [u64; 16],
-}
-
 // The quarters of the four words from `at` on.
-fn evidence_at(words: &[u64], at: usize) -> Evidence
+fn evidence_at(words: &[u64], at: usize) -> [u64; 16]
     requires { at + 4 ≤ length words.now }
-    ensures { (q : ℕ) → q < 16 → get_or result.words q 0 ≡ quarter (get_or words.now (at + q / 4) 0) (q % 4) }
+    ensures { (q : ℕ) → q < 16 → get_or result q 0 ≡ quarter (get_or words.now (at + q / 4) 0) (q % 4) }
 {
-    let mut found = [0u64; 16];
-    let mut q = 0;
-    while q < 16 {
-        found[q] = quarters::get(words, at + q / 4, q % 4) as u64;
-        q += 1;
-    }
-    Evidence { words: found }
+    std::array::from_fn(|q| quarters::get(words, at + q / 4, q % 4) as u64)
 }
 
 // Gives the answer record that is put aside from `from` on as record x.
@@ -124,17 +101,8 @@ fn unstow_answer(answers: &mut [u64], x: usize, from: usize)
     let call = answers[from] as usize;
     let last = State::of(answers[from + 1]);
     let rule = answers[from + 2];
-    let found = evidence_at(answers, from + 4);
-    let evidence = found.words;
+    let evidence = evidence_at(answers, from + 4);
     tables::put_answer(answers, ANSWER_WORDS, x, call, last, rule, &evidence, 0);
-}
-
-// Sets every word from `from` on to 0.
-fn clear_from(words: &mut [u64], from: usize)
-    requires { from ≤ length words.old }
-    ensures { ClearedFrom words.old from words.new }
-{
-    tables::clear(&mut words[from..]);
 }
 
 // Gives the m answer records that are put aside, the first of them first: each is written before the words of all after it. Past them all is 0.
@@ -143,12 +111,10 @@ pub fn unstow_answers(answers: &mut [u64], m: usize, most: usize)
     ensures { Unstowed most m answers.old answers.new }
 {
     let from = FREED_WORDS * most;
-    let mut x = 0;
-    while x < m {
+    for x in 0..m {
         unstow_answer(answers, x, from + STOWED_WORDS * x);
-        x += 1;
     }
-    clear_from(answers, ANSWER_WORDS * m);
+    desk::clear_from(answers, ANSWER_WORDS * m);
 }
 
 // Gives the first m answer records that a run left in 8 words each, in words that nothing is put aside in. Past them all is 0.
@@ -168,9 +134,7 @@ pub fn stow_calls(calls: &mut [u64], n: usize, most: usize, actions: &mut [u8])
     ensures calls_stowed { CallsStowed most n calls.old calls.new actions.new }
     ensures actions_len_unchanged { length actions.new ≡ length actions.old }
 {
-    let mut i = n;
-    while 0 < i {
-        i -= 1;
+    for i in (0..n).rev() {
         actions[i] = calls[CALL_WORDS * i] as u8;
         calls[most + i] = calls[CALL_WORDS * i + 1];
     }
@@ -181,16 +145,14 @@ pub fn unstow_calls(calls: &mut [u64], n: usize, most: usize, actions: &[u8])
     requires { CallsFit most n calls.old actions.now }
     ensures { CallsUnstowed most n calls.old actions.now calls.new }
 {
-    let mut i = 0;
-    while i < n {
+    for i in 0..n {
         let call = Call {
-            action: actions[i] as u64,
+            action: u64::from(actions[i]),
             state: State::of(calls[most + i]),
         };
         tables::put_call(calls, CALL_WORDS, i, call, 0);
-        i += 1;
     }
-    clear_from(calls, CALL_WORDS * n);
+    desk::clear_from(calls, CALL_WORDS * n);
 }
 
 // Gives the n call records that a run left in 3 words each. Past them all is 0.
@@ -198,14 +160,12 @@ pub fn give_calls(rows: &[u64], n: usize, calls: &mut [u64])
     requires { (call_width * n ≤ length rows.now) × (call_words * n ≤ length calls.old) }
     ensures { CallsGiven n rows.now calls.old calls.new }
 {
-    let mut i = 0;
-    while i < n {
+    for i in 0..n {
         let call = Call {
             action: desk::action_of(rows, i),
             state: desk::state_of(rows, i),
         };
         tables::put_call(calls, CALL_WORDS, i, call, 0);
-        i += 1;
     }
-    clear_from(calls, CALL_WORDS * n);
+    desk::clear_from(calls, CALL_WORDS * n);
 }

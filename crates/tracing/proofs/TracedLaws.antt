@@ -8,6 +8,7 @@ use mathlib.Core.Logic.{◌≢◌}
 use lib.ListN.{length, get_or}
 use lib.Dec.{eqb, ltb}
 use borrow.Author.Tests.{eq-eqb, ne_eqb, eqb-true, eqb-false, lt-ltb, le-ltb, ltb-true, ltb-false, not-false}
+use Rattle.std.specs.Prelude.{Option, None, Some}
 use Rattle.refusals.specs.Path.{path_refusals}
 use Rattle.steps.specs.State.{State}
 use Rattle.steps.specs.Run.{Goal}
@@ -223,16 +224,13 @@ module _ (fluents actions : ℕ) (rules words calls answers : List ℕ) where
     same : path x ≡ states
     same = path_added it l.calls l.answers (bodies_kept rules l) same_words x
 
-    some : 0 < length (path x)
-    some = rw same (omega arith)
-
-    module _ {goal second : List ℕ} (k : GoalsKept fluents actions rules words goal second) (none : fault x ≡ 0) (count : ℕ) (list' : List ℕ)
-        (listed : PathListed (start_at (lent true rules goal second calls answers) x ∷ added_by (lent true rules goal second calls answers) x) (length list) list count list') where
-      there : PathListed (path x) (length list) list count list'
+    module _ {goal second : List ℕ} (k : GoalsKept fluents actions rules words goal second) (none : fault x ≡ 0) (told : Option ℕ) (list' : List ℕ)
+        (listed : PathListed (start_at (lent true rules goal second calls answers) x ∷ added_by (lent true rules goal second calls answers) x) (length list) list told list') where
+      there : PathListed (path x) (length list) list told list'
       there = rw same (rw (k.first_is, k.second_is) at listed)
 
-      pub too_few : count ≡ 0 → Traced fluents actions rules words calls answers x list path_refusals.states_short 0 list'
-      too_few z = traced (told_short (fault x) (path x) list none some there z)
+      pub too_few : told ≡ None → Traced fluents actions rules words calls answers x list path_refusals.states_short 0 list'
+      too_few z = traced (told_short (fault x) (path x) list none there z)
 
-      pub listed_all : count ≢ 0 → Traced fluents actions rules words calls answers x list 0 count list'
-      listed_all n = traced (told_listed (fault x) (path x) list none some there n)
+      pub listed_all : (count : ℕ) → told ≡ Some count → Traced fluents actions rules words calls answers x list 0 count list'
+      listed_all count n = traced (told_listed (fault x) (path x) list none there n)

@@ -3,6 +3,7 @@
 #![tactic(auto)]
 
 ghost use Rattle.std.specs.Prelude.{◌≡◌, cond, List, [], ℕ, ◌≤◌, length, eqb};
+ghost use Rattle.refusals.specs.Number.{number_of, number_in};
 ghost use Rattle.refusals.specs.Path.{path_refusals};
 ghost use Rattle.steps.specs.Acceptance.{words_refusal};
 ghost use Rattle.sharing.specs.SharedPath.{shared_fault, Traced};
@@ -14,6 +15,7 @@ use checks::tables::bad_rows;
 use path::list;
 use path::outcome::Path;
 use records::bodies::Goals;
+use refusals::Refusal;
 use steps::accept::words_refusal;
 
 // Where the counts of records stand in the words kept.
@@ -25,44 +27,46 @@ const ANSWERS: usize = 43;
 const MOST_STEPS: usize = 16;
 
 // What a refused path answers.
-fn refused(refusal: u64) -> Path
-    ensures { (result.refusal ≡ refusal) × (result.states ≡ 0) }
+fn refused(refusal: Refusal) -> Path
+    ensures { (result.refusal ≡ number_of refusal) × (result.states ≡ 0) }
 {
     Path {
-        refusal: refusal,
+        refusal: refusal.number(),
         states: 0,
     }
 }
 
 // The first of 20 to 22 that the book meets; 41 where it meets none, since nothing is kept.
-fn unkept(fluents: u64, actions: u64, rules: &[u16]) -> u64
-    ensures { result ≡ cond (eqb (words_refusal fluents actions rules.now []) 0) path_refusals.no_record
+fn unkept(fluents: u64, actions: u64, rules: &[u16]) -> Refusal
+    ensures { number_of result ≡ cond (eqb (words_refusal fluents actions rules.now []) 0) path_refusals.no_record
         (words_refusal fluents actions rules.now []) }
 {
-    let refusal = words_refusal(fluents, actions, rules, &[]);
-    if refusal != 0 {
-        return refusal;
+    match words_refusal(fluents, actions, rules, &[]) {
+        Err(refusal) => refusal,
+        Ok(()) => Refusal::NoRecord,
     }
-    refusals::NO_RECORD
 }
 
 // The first of 20 to 23 that is met with a goal read into 16 places; a count over 16 says that it is a bad one.
-fn goal_refusal(fluents: u64, actions: u64, rules: &[u16], goal: &[u16], count: usize) -> u64
+fn goal_refusal(
+    fluents: u64,
+    actions: u64,
+    rules: &[u16],
+    goal: &[u16],
+    count: usize,
+) -> Result<(), Refusal>
     requires { 16 ≤ length goal.now }
-    ensures { (result ≡ 0 → count ≤ 16) × ((words places : List ℕ) → GoalRead words places goal.now count
-        → result ≡ words_refusal fluents actions rules.now words) }
+    ensures { (number_in result ≡ 0 → count ≤ 16) × ((words places : List ℕ) → GoalRead words places goal.now count
+        → number_in result ≡ words_refusal fluents actions rules.now words) }
 {
     if count <= MOST_STEPS {
         return words_refusal(fluents, actions, rules, &goal[..count]);
     }
-    let refusal = words_refusal(fluents, actions, rules, &[]);
-    if refusal != 0 {
-        return refusal;
-    }
-    refusals::BAD_GOAL
+    words_refusal(fluents, actions, rules, &[])?;
+    Err(Refusal::BadGoal)
 }
 
-// The first of 40 to 42 that is met, or 0.
+// The first of 40 to 42 that is met.
 fn fault<'a>(
     fluents: u64,
     actions: u64,
@@ -73,19 +77,19 @@ fn fault<'a>(
     calls: &[u64],
     answers: &[u64],
     record: u64,
-) -> u64
+) -> Result<(), Refusal>
     requires { GoalsKept fluents actions rules.now kept.now goal.now second.now }
-    ensures { result ≡ shared_fault fluents actions rules.now kept.now calls.now answers.now
+    ensures { number_in result ≡ shared_fault fluents actions rules.now kept.now calls.now answers.now
         «record» }
 {
     if judging::over_rooms(kept, calls, answers) {
-        return refusals::BAD_RECORD_COUNT;
+        return Err(Refusal::BadRecordCount);
     }
     let n = kept[CALLS];
     let m = kept[ANSWERS];
     let among = m;
     if among <= record {
-        return refusals::NO_RECORD;
+        return Err(Refusal::NoRecord);
     }
     let goals = Goals {
         first: reading::holds(kept, 0),
@@ -94,9 +98,9 @@ fn fault<'a>(
     if bad_rows(
         fluents, actions, rules, goal, second, goals, calls, n as usize, answers, m as usize,
     ) {
-        return refusals::BAD_RECORD;
+        return Err(Refusal::BadRecord);
     }
-    0
+    Ok(())
 }
 
 // Lists the path of a record by the goals kept, which meet none of 20 to 23.
@@ -116,14 +120,13 @@ fn trace<'a>(
     ensures { Traced fluents actions rules.now kept.now calls.now answers.now «record»
         states.old result.refusal result.states states.new }
 {
-    let refusal = fault(
+    if let Err(refusal) = fault(
         fluents, actions, rules, goal, second, kept, calls, answers, record,
-    );
-    if refusal != 0 {
+    ) {
         return refused(refusal);
     }
     let most = states.len();
-    let listed = list::list_states(
+    let Some(listed) = list::list_states(
         true,
         rules,
         goal,
@@ -133,10 +136,9 @@ fn trace<'a>(
         record as usize,
         most,
         states,
-    );
-    if listed == 0 {
-        return refused(refusals::STATES_SHORT);
-    }
+    ) else {
+        return refused(Refusal::StatesShort);
+    };
     Path {
         refusal: 0,
         states: listed as u64,
@@ -162,12 +164,10 @@ fn judge<'a>(
     ensures { Traced fluents actions rules.now kept.now calls.now answers.now «record»
         states.old result.refusal result.states states.new }
 {
-    let own = goal_refusal(fluents, actions, rules, goal, n);
-    if own != 0 {
+    if let Err(own) = goal_refusal(fluents, actions, rules, goal, n) {
         return refused(own);
     }
-    let other = goal_refusal(fluents, actions, rules, second, m);
-    if other != 0 {
+    if let Err(other) = goal_refusal(fluents, actions, rules, second, m) {
         return refused(other);
     }
     trace(

@@ -1,4 +1,5 @@
 -- Writing the path: each record that has a place is written there, from the first record up. Assumes nothing.
+use Rattle.std.specs.Prelude.{Option, None, Some}
 use Prim.Native.Nat.{ℕ, suc, ◌+◌, ◌-◌, ◌<◌, ◌≤◌, ◌^◌}
 use native.Mathlib.Omega.{arith}
 use native.Mathlib.Nat.{add-zero}
@@ -212,14 +213,14 @@ module _ (it : Lent) where
           let ne : (i ≡ 0 → ⊥) = eqb-false i 0 z in
           written.keeps all placed i (get_or-set_other l 0 i s 0 ne ∙ sym (tail i (ltb-false i (length path) q)))
 
--- A path is listed in l if it has at most so many states: the count of its states, 0 if not, and the list afterwards.
-pub record PathListed (path : List ℕ) (most : ℕ) (l : List ℕ) (count : ℕ) (l' : List ℕ) : Type 0 where
-  pub the_count : count ≡ cond (ltb most (length path)) 0 (length path)
+-- A path is listed in l if it has at most so many states: the count of its states, none if not, and the list afterwards.
+pub record PathListed (path : List ℕ) (most : ℕ) (l : List ℕ) (listed : Option ℕ) (l' : List ℕ) : Type 0 where
+  pub the_count : listed ≡ cond (ltb most (length path)) None (Some (length path))
   pub the_list : l' ≡ cond (ltb most (length path)) l (path ++ drop (length path) l)
 
 -- listed with so many places, and so with more
-pub listed_fewer : {path : List ℕ} {fewer most : ℕ} {l : List ℕ} {count : ℕ} {l' : List ℕ} → length path ≤ fewer → fewer ≤ most → PathListed path fewer l count l'
-    → PathListed path most l count l'
+pub listed_fewer : {path : List ℕ} {fewer most : ℕ} {l : List ℕ} {listed : Option ℕ} {l' : List ℕ} → length path ≤ fewer → fewer ≤ most → PathListed path fewer l listed l'
+    → PathListed path most l listed l'
 listed_fewer {path} {fewer} {most} short h y =
     let fits = le-ltb fewer (length path) short in
     let more : ltb most (length path) ≡ false = le-ltb most (length path) (omega arith) in

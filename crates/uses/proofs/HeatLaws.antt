@@ -4,12 +4,11 @@ use Prim.Native.Nat.{ℕ, ◌+◌, ◌-◌, ◌<◌, ◌≤◌, min}
 use native.Mathlib.Omega.{arith}
 use native.Mathlib.Decide.{ℕ_discrete}
 use mathlib.Core.Path.{◌≡◌, refl, sym, subst, ap, ◌∙◌}
-use mathlib.Core.Bool.{Bool, true, false}
-use mathlib.Core.Logic.{◌⊎◌, inl, inr, ◌≢◌}
-use Rattle.steps.proofs.EachBelow.{true_not_false}
+use mathlib.Core.Bool.{Bool, true}
+use mathlib.Core.Logic.{◌⊎◌, inl, inr}
 use Rattle.records.specs.Records.{Answers}
 use Rattle.uses.specs.Uses.{Uses, Own, via, start, heat, Hot, Newest, Up, StartPut, Lighted, Looked, Heating, Begun}
-use Rattle.uses.proofs.UsesLaws.{before_refl, before_trans}
+use Rattle.uses.proofs.UsesLaws.{before_trans}
 
 module _ {uses uses' : Uses} {k y h : ℕ} (S : StartPut uses k y h uses') where
   pub heat_most : (most : ℕ) → h ≤ most → ((i : ℕ) → heat uses i ≤ most) → (i : ℕ) → heat uses' i ≤ most
@@ -45,15 +44,6 @@ module _ {uses uses' : Uses} {k y h : ℕ} (S : StartPut uses k y h uses') where
             rw f (l, a, b, c)
         by (no n) = rw (S.heats (answers.call z) n) (l, a, b, c)
 
-pub light_start : (answers : Answers) (uses : Uses) (seen known : ℕ) → seen ≤ known → ((k : ℕ) → heat uses k ≤ seen - 1) → Lighted answers uses uses seen known known
-light_start answers uses seen known in_order stale = record {
-  low = before_refl uses;
-  most = λ k. omega (arith, stale k);
-  newest = λ y l h. absurd (omega arith);
-  hot = λ y l h. absurd (omega arith);
-  own = λ some k l. absurd (omega (arith, stale k));
-}
-
 pub light_next : {answers : Answers} {uses uses' uses'' : Uses} {seen known x k : ℕ} → Lighted answers uses uses' seen known (x + 1) → StartPut uses' k x x uses'' → seen ≤ x → x < known → answers.call x ≡ k → k < 65536
     → Lighted answers uses uses'' seen known x
 light_next {answers} {uses} {uses'} {uses''} {seen} {known} {x} {k} L S after below e small = record {
@@ -83,13 +73,6 @@ light_next {answers} {uses} {uses'} {uses''} {seen} {known} {x} {k} L S after be
     own : 0 < seen → (i : ℕ) → seen ≤ heat uses'' i → Dec (i ≡ k) → Own answers uses'' i
     own some i l (yes z) = rw (z, here) e
     own some i l (no n) = let f = S.heats i n in rw f (L.own some i (rw f at l))
-
-pub look_start : (answers : Answers) (uses : Uses) (seen known : ℕ) → Looked answers uses uses seen known seen true
-look_start answers uses seen known = record { low = before_refl uses; most = λ m. m; newest = λ y n. n; hot = λ y h. h; up = λ e own k l h. inr (h, own k h) }
-
--- or it is not even begun
-pub look_none : (answers : Answers) (uses : Uses) (seen known x : ℕ) → Looked answers uses uses seen known x false
-look_none answers uses seen known x = record { low = before_refl uses; most = λ m. m; newest = λ y n. n; hot = λ y h. h; up = λ e. absurd (true_not_false (sym e)) }
 
 -- x is not the first new answer of its record: there is nothing to do for it
 pub look_other : {answers : Answers} {uses uses' : Uses} {seen known x : ℕ} → Looked answers uses uses' seen known x true → (heat uses' (answers.call x) ≡ x → ⊥) → Looked answers uses uses' seen known (x + 1) true
@@ -183,10 +166,6 @@ module _ {answers : Answers} {uses uses' after : Uses} {seen known x y : ℕ} (H
       up own i l f (no n) = let e = S.heats i n in wide (up_other own i l (rw e at f) e)
 
 -- ---- both
--- it may be given up
-pub look_stop : {answers : Answers} {uses uses' : Uses} {seen known x : ℕ} {ok : Bool} (y : ℕ) → Looked answers uses uses' seen known x ok → (ok ≡ true → ⊥) → Looked answers uses uses' seen known y ok
-look_stop y L n = record { low = L.low; most = L.most; newest = L.newest; hot = L.hot; up = λ e. absurd (n e) }
-
 pub begun : {answers : Answers} {uses uses' uses'' : Uses} {seen known : ℕ} {ok : Bool} (walked : ℕ) → 0 < seen → seen ≤ known → Lighted answers uses uses' seen known seen → Looked answers uses' uses'' seen known known ok
     → Begun answers uses uses'' walked seen known walked ok
 begun {answers} {uses} {uses'} {uses''} {seen} {known} walked some in_order L R = record {

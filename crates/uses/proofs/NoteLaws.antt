@@ -2,30 +2,18 @@
 use Prim.Native.Nat.{ℕ, ◌+◌, ◌-◌, ◌*◌, ◌/◌, ◌%◌, ◌<◌, ◌≤◌, min, max}
 use native.Mathlib.Omega.{arith}
 use native.Mathlib.Decide.{ℕ_discrete, dec_lt}
-use mathlib.Core.Path.{◌≡◌, refl, sym, ap, ◌∙◌}
+use mathlib.Core.Path.{◌≡◌, refl, ap, ◌∙◌}
 use mathlib.Core.List.{List}
 use mathlib.Core.Logic.{◌≢◌}
-use lib.ListN.{length, get_or, replicate, get_or-replicate, length-replicate, get_or-eq_default}
+use lib.ListN.{get_or, replicate, get_or-replicate, length-replicate, get_or-eq_default}
 use Rattle.quarters.specs.Quarters.{quarter, QuarterPut}
 use Rattle.records.specs.Records.{call_width}
 use Rattle.records.specs.Storage.{Stored}
 use Rattle.desk.specs.Desk.{open_calls, mark_words, round_unit, round_top, action_unit}
-use Rattle.uses.specs.Uses.{Uses, third, uses_in, heat, after_both, UseAdded, ViaNoted, StartPut, SameLooks, UsesAlone, LooksAlone, AnswersHeld}
+use Rattle.uses.specs.Uses.{third, uses_in, heat, after_both, UseAdded, ViaNoted, StartPut, SameLooks, UsesAlone, LooksAlone}
 
 -- ---- the call table
-pub alone_refl : (n : ℕ) (words : List ℕ) → UsesAlone n words words
-alone_refl n words = record { long = refl; heads = λ i. refl; states = λ i. refl; firsts = λ i. refl; past = λ p l. refl }
-
-pub alone_trans : {n : ℕ} {words words' words'' : List ℕ} → UsesAlone n words words' → UsesAlone n words' words'' → UsesAlone n words words''
-alone_trans a b = record {
-  long = b.long ∙ a.long;
-  heads = λ i. b.heads i ∙ a.heads i;
-  states = λ i. b.states i ∙ a.states i;
-  firsts = λ i. b.firsts i ∙ a.firsts i;
-  past = λ p l. b.past p l ∙ a.past p l;
-}
-
--- among more records
+-- where uses alone differ, they do among more records too
 pub alone_up : {m n : ℕ} {words words' : List ℕ} → m ≤ n → UsesAlone m words words' → UsesAlone n words words'
 alone_up l a = record { long = a.long; heads = a.heads; states = a.states; firsts = a.firsts; past = λ p h. a.past p (omega arith) }
 
@@ -41,10 +29,6 @@ alone_calls a m = λ d. record {
 -- and their marks
 pub alone_marks : {n : ℕ} {words words' : List ℕ} → UsesAlone n words words' → mark_words words' ≡ mark_words words
 alone_marks a = λ d i. a.heads i d % round_unit
-
--- and their first answers
-pub alone_firsts : {n : ℕ} {words words' : List ℕ} → UsesAlone n words words' → ◌≡◌ {A = ℕ → ℕ} (λ i. third words' i 3) (λ i. third words i 3)
-alone_firsts a = λ d i. a.firsts i d
 
 -- and all is 0 past them
 pub alone_stored : {n : ℕ} {words words' : List ℕ} → UsesAlone n words words' → Stored call_width words n → Stored call_width words' n
@@ -101,15 +85,6 @@ module _ {words words' : List ℕ} {j v : ℕ} (i : ℕ) (p : QuarterPut words (
       by (yes e) = rw e (third_beside k l n)
       by (no m) = third_other r k m
 
-  pub put_alone : j < 3 → UsesAlone (i + 1) words words'
-  put_alone l = record {
-    long = p.long;
-    heads = λ r. p.other (call_width * r) (λ e. omega arith);
-    states = λ r. p.other (call_width * r + 1) (λ e. omega arith);
-    firsts = λ r. third_same r 3 (omega arith) (λ e. omega arith);
-    past = λ q h. p.other q (λ e. omega arith);
-  }
-
 -- what a round looks at is not there
 pub same_looks : (calls calls' list : List ℕ) → SameLooks (uses_in calls list) (uses_in calls' list)
 same_looks calls calls' list = record { starts = λ k. refl; heats = λ k. refl }
@@ -137,30 +112,13 @@ via_noted {words} {words'} {last} {i} {v} list p e = record {
 }
 
 -- ---- the list
-pub looks_refl : (list : List ℕ) → LooksAlone list list
-looks_refl list = record { long = refl; links = λ i. refl; heads = λ i. refl }
-
 pub looks_trans : {list list' list'' : List ℕ} → LooksAlone list list' → LooksAlone list' list'' → LooksAlone list list''
 looks_trans a b = record { long = b.long ∙ a.long; links = λ i. b.links i ∙ a.links i; heads = λ i. b.heads i ∙ a.heads i }
-
--- links and heads of the list as functions
-pub looks_links : {list list' : List ℕ} → LooksAlone list list' → ◌≡◌ {A = ℕ → ℕ} (λ i. quarter (get_or list' i 0) 2) (λ i. quarter (get_or list i 0) 2)
-looks_links a = λ d i. a.links i d
-
-pub looks_heads : {list list' : List ℕ} → LooksAlone list list' → ◌≡◌ {A = ℕ → ℕ} (λ i. quarter (get_or list' i 0) 3) (λ i. quarter (get_or list i 0) 3)
-looks_heads a = λ d i. a.heads i d
 
 -- Where a round begins, and for which answer.
 module _ {list list' list'' : List ℕ} {k y h : ℕ} (p : QuarterPut list k 0 y list') (q : QuarterPut list' k 1 h list'') where
   at_other : (i j : ℕ) → i ≢ k → quarter (get_or list'' i 0) j ≡ quarter (get_or list i 0) j
   at_other i j n = ap (λ (w : ℕ). quarter w j) (q.other i n ∙ p.other i n)
-
-  at_beside : (i j : ℕ) → j < 4 → j ≢ 0 → j ≢ 1 → quarter (get_or list'' i 0) j ≡ quarter (get_or list i 0) j
-  at_beside i j l m n = by (ℕ_discrete i k)
-    where
-      by : Dec (i ≡ k) → quarter (get_or list'' i 0) j ≡ quarter (get_or list i 0) j
-      by (yes e) = rw e (q.changed.beside j l n ∙ p.changed.beside j l m)
-      by (no a) = at_other i j a
 
   pub start_put : (calls : List ℕ) → StartPut (uses_in calls list) k y h (uses_in calls list'')
   start_put calls = record {
@@ -170,14 +128,3 @@ module _ {list list' list'' : List ℕ} {k y h : ℕ} (p : QuarterPut list k 0 y
     starts = λ i n. at_other i 0 n;
     heats = λ i n. at_other i 1 n;
   }
-
-  pub start_alone : LooksAlone list list''
-  start_alone = record {
-    long = q.long ∙ p.long;
-    links = λ i. at_beside i 2 (omega arith) (λ e. omega arith) (λ e. omega arith);
-    heads = λ i. at_beside i 3 (omega arith) (λ e. omega arith) (λ e. omega arith);
-  }
-
--- the answers are held still
-pub held_same : {calls list list' answers : List ℕ} {known rows : ℕ} → LooksAlone list list' → AnswersHeld calls list answers known rows → AnswersHeld calls list' answers known rows
-held_same a h = record { answers_fit = h.answers_fit; calls_fit = h.calls_fit; listed = omega (arith, a.long, h.listed); few = h.few; small = h.small; inside = h.inside }

@@ -129,9 +129,6 @@ held_used t uses row c (i, l, k, u, v) = (i, l, k)
 pub held_used_up : {t u : Tables} {uses uses' : Uses} → Grew t u → UsesKept uses uses' → (row : ℕ) (c : (ℕ × State) × ℕ) → HeldUsed t uses row c → HeldUsed u uses' row c
 held_used_up g w row c (i, l, k, v, a) = (i, omega (arith, g.calls_more), call_up g l k, w.more row i v, w.came c.1 i v.0 a)
 
-pub between_none : (answers : Answers) (uses : Uses) (low high known : ℕ) → Between answers uses low high known known
-between_none answers uses low high known x l h = absurd (omega arith)
-
 -- with one answer more before them
 pub between_more : (answers : Answers) (uses : Uses) (low high x known l g : ℕ) → Between answers uses low high (x + 1) known → l ≡ least uses (answers.call x) → g ≡ greatest uses (answers.call x)
     → Between answers uses (min low l) (max high (g + 1)) x known

@@ -37,24 +37,6 @@ const SEVERAL: usize = 65535;
 
 const SINGLE: usize = 65534;
 
-fn lesser(a: usize, b: usize) -> usize
-    ensures { result ≡ min a b }
-{
-    if a < b {
-        return a;
-    }
-    b
-}
-
-fn greater(a: usize, b: usize) -> usize
-    ensures { result ≡ max a b }
-{
-    if a < b {
-        return b;
-    }
-    a
-}
-
 // The number of the call record that answer record x is of.
 fn call_of(answers: &[u64], x: usize) -> usize
     requires { packed_width * x + 8 ≤ length answers.now }
@@ -106,11 +88,11 @@ fn heat_of(list: &[u64], k: usize) -> usize
 // Notes that a walk of record `row` has come to record `callee`.
 fn note_caller(calls: &mut [u64], row: usize, callee: usize)
     requires { (call_width * callee + 2 < length calls.old) × (row < 65536) }
-    ensures by_index { (list : List ℕ) → UseAdded (uses_in calls.old list) row callee (uses_in calls.new list) }
+    ensures use_added { (list : List ℕ) → UseAdded (uses_in calls.old list) row callee (uses_in calls.new list) }
     ensures uses_alone { UsesAlone (callee + 1) calls.old calls.new }
 {
-    let low = lesser(least_of(calls, callee), row);
-    let high = greater(greatest_of(calls, callee), row);
+    let low = least_of(calls, callee).min(row);
+    let high = greatest_of(calls, callee).max(row);
     quarters::put(
         calls,
         tables::CALL_WORDS * callee + THIRD,
@@ -121,22 +103,23 @@ fn note_caller(calls: &mut [u64], row: usize, callee: usize)
 }
 
 // What is noted where walks have come after `was` and now come after `last`.
+#[tactic(auto, unfolding(crate::specs::Uses::after_both))]
 fn after_both(was: usize, last: usize) -> usize
     ensures { result ≡ after_both was last }
 {
     if was == 0 {
-        return lesser(last, SEVERAL);
+        last.min(SEVERAL)
+    } else if was == last {
+        last
+    } else {
+        SEVERAL
     }
-    if was == last {
-        return last;
-    }
-    SEVERAL
 }
 
 // Notes that walks come to record `callee` after the answer `last - 1`.
 fn note_via(calls: &mut [u64], callee: usize, last: usize)
     requires { call_width * callee + 2 < length calls.old }
-    ensures by_index { (list : List ℕ) → ViaNoted (uses_in calls.old list) last callee (uses_in calls.new list) }
+    ensures via_noted { (list : List ℕ) → ViaNoted (uses_in calls.old list) last callee (uses_in calls.new list) }
     ensures uses_alone { UsesAlone (callee + 1) calls.old calls.new }
 {
     let was = via_of(calls, callee);
@@ -150,20 +133,11 @@ fn is_noted(calls: &[u64], row: usize, callee: usize, last: usize) -> bool
     ensures { (list : List ℕ) → result ≡ true
         → Used (uses_in calls.now list) row callee × Came (uses_in calls.now list) last callee }
 {
-    if row < least_of(calls, callee) {
+    if row < least_of(calls, callee) || greatest_of(calls, callee) < row {
         return false;
-    }
-    if greatest_of(calls, callee) < row {
-        return false;
-    }
-    if last == 0 {
-        return true;
     }
     let via = via_of(calls, callee);
-    if via == last {
-        return true;
-    }
-    via == SEVERAL
+    last == 0 || via == last || via == SEVERAL
 }
 
 // Notes that a walk of record `row` has come to record `callee`, after the answer `last - 1` or, where `last` is 0, after none. Most often it
@@ -177,16 +151,15 @@ pub fn note(calls: &mut [u64], row: usize, callee: usize, last: usize)
         return;
     }
     note_caller(calls, row, callee);
-    if last == 0 {
-        return;
+    if last != 0 {
+        note_via(calls, callee, last);
     }
-    note_via(calls, callee, last);
 }
 
 // Has the round look at the answers of record k from y on, for the new answer `heat`.
 fn put_start(list: &mut [u64], k: usize, y: usize, heat: usize)
     requires { (k < length list.old) × (y ≤ 65535) × (heat ≤ 65535) }
-    ensures by_index { (calls : List ℕ) → StartPut (uses_in calls list.old) k y heat (uses_in calls list.new) }
+    ensures start_put { (calls : List ℕ) → StartPut (uses_in calls list.old) k y heat (uses_in calls list.new) }
     ensures looks_alone { LooksAlone list.old list.new }
 {
     quarters::put(list, k, START, y);
@@ -212,7 +185,7 @@ fn look_at_new(
     rows: usize,
 ) -> Within
     requires answers_held { AnswersHeld calls.now list.old answers.now known rows × (seen ≤ known) × (walked ≤ rows) }
-    requires by_index { (k : ℕ) → heat (uses_in calls.now list.old) k ≤ seen - 1 }
+    requires stale { (k : ℕ) → heat (uses_in calls.now list.old) k ≤ seen - 1 }
     ensures spans { Spans (packed_answers answers.now known) (uses_in calls.now list.old)
         walked seen known rows result.low result.high result.top }
     ensures lighted { Lighted (packed_answers answers.now known) (uses_in calls.now list.old)
@@ -221,26 +194,14 @@ fn look_at_new(
 {
     let mut low = walked;
     let mut high: usize = 0;
-    let mut x = known;
-    while seen < x {
-        x -= 1;
+    for x in (seen..known).rev() {
         let k = call_of(answers, x);
-        low = lesser(low, least_of(calls, k));
-        high = greater(high, greatest_of(calls, k) + 1);
+        low = low.min(least_of(calls, k));
+        high = high.max(greatest_of(calls, k) + 1);
         put_start(list, k, x, x);
     }
-    if walked < rows {
-        return Within {
-            low,
-            high,
-            top: rows,
-        };
-    }
-    Within {
-        low,
-        high,
-        top: lesser(high, rows),
-    }
+    let top = if walked < rows { rows } else { high.min(rows) };
+    Within { low, high, top }
 }
 
 // Where x is the first new answer of its record: has the round look at the answer after which walks come to that record, and so on; false
@@ -264,10 +225,9 @@ fn look_before(
     if heat_of(list, first) != x {
         return true;
     }
-    let most = lesser(known, SINGLE);
+    let most = known.min(SINGLE);
     let mut via = via_of(calls, first);
-    let mut left: usize = 65536;
-    while 0 < left {
+    'back: for _ in 0..65536 {
         if via == 0 {
             return true;
         }
@@ -278,13 +238,12 @@ fn look_before(
         let k = call_of(answers, y);
         let heat = heat_of(list, k);
         if seen <= heat {
-            let start = lesser(start_of(list, k), y);
+            let start = start_of(list, k).min(y);
             put_start(list, k, start, heat);
             return true;
         }
         via = via_of(calls, k);
         put_start(list, k, y, x);
-        left -= 1;
     }
     false
 }
@@ -307,13 +266,10 @@ fn look_back(
     if seen + seen <= known {
         return false;
     }
-    let mut x = seen;
-    while x < known {
-        let all = look_before(calls, list, answers, seen, known, x, rows);
-        if !all {
+    for x in seen..known {
+        if !look_before(calls, list, answers, seen, known, x, rows) {
             return false;
         }
-        x += 1;
     }
     true
 }
@@ -336,12 +292,11 @@ pub fn first_looked(
         return known;
     }
     let x = start_of(list, row);
-    if x < known {
-        if call_of(answers, x) == row {
-            return x;
-        }
+    if x < known && call_of(answers, x) == row {
+        x
+    } else {
+        first
     }
-    first
 }
 
 // The first answer of record `row` from `seen` on, or `known`.
@@ -351,20 +306,16 @@ pub fn first_new(list: &[u64], answers: &[u64], seen: usize, known: usize, row: 
         → FirstNew (packed_answers answers.now known) (uses_in calls list.now) seen known row result }
 {
     let x = heat_of(list, row);
-    if x < seen {
-        return known;
+    if seen <= x && x < known && call_of(answers, x) == row {
+        x
+    } else {
+        known
     }
-    if x < known {
-        if call_of(answers, x) == row {
-            return x;
-        }
-    }
-    known
 }
 
 // The records that a round looks at: from `low` up to `top`; those from `high` on only if they were never walked. The walks of those below
 // `old` may pass over answers: at the last call of a body over those that are not new, and if `warm` over those that the round does not
-// look at.
+// look at. Stays: `warm` is a fact of its own, and every number holds whatever it says.
 #[derive(Clone, Copy)]
 pub struct Span {
     pub low: usize,
@@ -394,21 +345,16 @@ pub fn span_of(
     ensures looks_alone { LooksAlone list.old list.new }
 {
     let within = look_at_new(calls, list, answers, seen, known, walked, rows);
-    if 0 < seen {
-        let warm = look_back(calls, list, answers, seen, known, rows);
-        return Span {
-            low: within.low,
-            high: within.high,
-            top: within.top,
-            old: walked,
-            warm: warm,
-        };
-    }
+    let (old, warm) = if 0 < seen {
+        (walked, look_back(calls, list, answers, seen, known, rows))
+    } else {
+        (0, false)
+    };
     Span {
         low: within.low,
         high: within.high,
         top: within.top,
-        old: 0,
-        warm: false,
+        old,
+        warm,
     }
 }

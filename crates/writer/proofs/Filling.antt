@@ -1,11 +1,10 @@
 -- Lists filled from the front, piece by piece. Assumes nothing.
-use Prim.Native.Nat.{ℕ, suc, ◌+◌, ◌<◌}
+use Prim.Native.Nat.{ℕ, ◌+◌}
 use native.Mathlib.Omega.{arith}
-use native.Mathlib.Numerals.{add-one}
-use mathlib.Core.Path.{◌≡◌, refl, ap, sym, ◌∙◌, subst}
-use mathlib.Core.List.{List, [], ◌∷◌, ◌++◌, append-nil, append_assoc}
-use lib.ListN.{length, get_or, drop, set, length-append, length-drop}
-use lib.Seq.{drop-cons, set_at, append_snoc}
+use mathlib.Core.Path.{◌≡◌, refl, ap, ap₂, sym, ◌∙◌, subst}
+use mathlib.Core.List.{List, [], ◌++◌, append-nil, append_assoc}
+use lib.ListN.{length, take, drop, length-append}
+use lib.Seq.{take_at, drop-append-add, drop-drop}
 use Rattle.writer.specs.Inner.{Filled}
 
 -- from a list filled up to p to one filled by x more, up to q (with its length this is `Puts`)
@@ -21,21 +20,15 @@ gives_then o o' o'' x y p q r f g d t h = subst (λ (z : List ℕ). Filled d z o
 pub gives_as : (o o' x y : List ℕ) (p q : ℕ) → x ≡ y → Gives o p x o' q → Gives o p y o' q
 gives_as o o' x y p q e f d t h = subst (λ (z : List ℕ). Filled d (t ++ z) o' q) e (f d t h)
 
--- one byte more
-pub gives_byte : (o : List ℕ) (p b : ℕ) → p < length o → Gives o p (b ∷ []) (set o p b) (p + 1)
-gives_byte o p b l d t f =
-    let h = f.here in
-    let i = ap length f.is ∙ length-append t (drop p d) in
-    let j = length-drop p d in
-    let k : p < length d = omega arith in
-    record {
-      here = let n = length-append t (b ∷ []) in omega arith;
-      is =
-          ap (λ (z : List ℕ). set z p b) (f.is ∙ ap (λ (z : List ℕ). t ++ z) (drop-cons d p 0 k))
-          ∙ set_at t (get_or d p 0) (drop (suc p) d) b p (sym h)
-          ∙ sym (append_snoc t b (drop (suc p) d))
-          ∙ ap (λ (n : ℕ). (t ++ (b ∷ [])) ++ drop n d) (sym (add-one p));
-    }
+-- a piece copied to its place
+pub filled_piece : (o x : List ℕ) (p : ℕ) (d t o' : List ℕ) → Filled d t o p → o' ≡ take p o ++ x ++ drop (p + length x) o → Filled d (t ++ x) o' (p + length x)
+filled_piece o x p d t o' f w =
+    let n = length x in
+    let e : length t ≡ p = sym f.here in
+    let first : take p o ≡ t = ap (take p) f.is ∙ take_at t (drop p d) p e in
+    let past : drop (p + n) o ≡ drop (p + n) d =
+    ap (drop (p + n)) f.is ∙ ap (λ (k : ℕ). drop (k + n) (t ++ drop p d)) (sym e) ∙ drop-append-add t (drop p d) n ∙ drop-drop n p d in
+    record { here = omega (arith, length-append t x); is = w ∙ ap₂ (λ (a b : List ℕ). a ++ x ++ b) first past }
 
 -- from nothing
 pub filled_first : (d : List ℕ) → Filled d [] d 0

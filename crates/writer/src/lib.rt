@@ -2,16 +2,18 @@
 // names of `start` in fluent order, so lines are copied and none is rebuilt from words.
 #![tactic(auto)]
 
-ghost use Rattle.std.specs.Prelude.{◌≡◌, [], ◌∷◌, ◌+◌, ◌-◌, ◌≤◌, ◌<◌, length};
+ghost use Rattle.std.specs.Prelude.{◌≡◌, ◌+◌, ◌≤◌, length};
 ghost use Rattle.std.proofs.Math.Seq.{slice};
 ghost use Rattle.chars.specs.Pieces.{lines};
 ghost use Rattle.lines.specs.Reader.{read_sheet};
-ghost use Rattle.writer.specs.Writer.{written_in, out_after};
+ghost use Rattle.writer.specs.Writer.{told, written_in, out_after};
 ghost use Rattle.writer.specs.Inner.{Puts, plain_piece, plain_bytes, held_piece, held_next, held_bytes, start_bytes, line_piece, line_bytes};
 
+use refusals::Refusal;
 use steps::state::State;
 
 // What the writer gives: the refusal, 0 for none, with its line; the length of the text, 0 if refused.
+// Stays: C sees its fields and numbers (`lawhemuri_write`).
 #[repr(C)]
 #[derive(Clone, Copy)]
 pub struct Written {
@@ -20,27 +22,14 @@ pub struct Written {
     pub length: u64,
 }
 
-// Puts one byte at a place; the place after it.
-pub fn put(out: &mut [u8], at: usize, b: u8) -> usize
-    requires { at < length out.old }
-    ensures { Puts out.old at (b ∷ []) out.new result }
+// Puts a piece at a place; the place after it.
+pub fn put(out: &mut [u8], at: usize, piece: &[u8]) -> usize
+    requires { at + length piece.now ≤ length out.old }
+    ensures { Puts out.old at piece.now out.new result }
 {
-    out[at] = b;
-    at + 1
-}
-
-// Puts the part of s from `from` up to `to` at a place; the place after it.
-pub fn put_part(out: &mut [u8], at: usize, s: &[u8], from: usize, to: usize) -> usize
-    requires { (from ≤ to) × (to ≤ length s.now) × (at + (to - from) ≤ length out.old) }
-    ensures { Puts out.old at (slice from to s.now) out.new result }
-{
-    let mut p = at;
-    let mut i = from;
-    while i < to {
-        p = put(out, p, s[i]);
-        i += 1;
-    }
-    p
+    let end = at + piece.len();
+    out[at..end].copy_from_slice(piece);
+    end
 }
 
 // Where the text goes on, and the number of the next fluent.
@@ -65,7 +54,7 @@ fn put_held(out: &mut [u8], at: usize, s: &[u8], a: usize, e: usize, k: u64, sta
     if !start.holds(k) {
         return Place { at, fluent: k + 1 };
     }
-    let r = put_part(out, at, s, q, end);
+    let r = put(out, at, &s[q..end]);
     Place {
         at: r,
         fluent: k + 1,
@@ -95,9 +84,9 @@ fn put_start(out: &mut [u8], at: usize, s: &[u8], start: State) -> usize
     requires { at + length (start_bytes start.0 (lines s.now)) ≤ length out.old }
     ensures { Puts out.old at (start_bytes start.0 (lines s.now)) out.new result }
 {
-    let names = put_part(out, at, b"start", 0, 5);
+    let names = put(out, at, b"start");
     let end = put_names(out, names, s, start);
-    put(out, end, b'\n')
+    put(out, end, b"\n")
 }
 
 // Puts what the line from a up to e gives to the text; the place after it.
@@ -115,8 +104,8 @@ fn put_line(out: &mut [u8], at: usize, s: &[u8], a: usize, e: usize, start: Stat
     if chars::is_word(s, a, q, b"start") {
         return put_start(out, at, s, start);
     }
-    let r = put_part(out, at, s, a, end);
-    put(out, r, b'\n')
+    let r = put(out, at, &s[a..end]);
+    put(out, r, b"\n")
 }
 
 // Puts what all lines give from the front of the output on; the place after it.
@@ -161,35 +150,53 @@ fn text_size(s: &[u8]) -> usize
     n
 }
 
+// Why no text is written, and on which line: a sheet's own fault as `sheet::read` tells it, or line 0.
+// Stays: the refusal is a number, as C's `Sheet` tells a sheet's own.
+#[derive(Clone, Copy, Debug, PartialEq, Eq)]
+pub struct Fault {
+    pub refusal: u64,
+    pub line: u64,
+}
+
 // Writes an accepted sheet's one fixed text to `out`, which is unchanged past it and by a refusal.
 pub fn write(text: &[u8], out: &mut [u8]) -> Written
     ensures value { result ≡ written_in (length out.old) (read_sheet text.now) }
     ensures out_after { out.new ≡ out_after out.old (read_sheet text.now) }
 {
+    match write_text(text, out) {
+        Ok(n) => Written {
+            refusal: 0,
+            line: 0,
+            length: n as u64,
+        },
+        Err(fault) => Written {
+            refusal: fault.refusal,
+            line: fault.line,
+            length: 0,
+        },
+    }
+}
+
+// The same; how long the text is.
+fn write_text(text: &[u8], out: &mut [u8]) -> Result<usize, Fault>
+    ensures value { told result ≡ written_in (length out.old) (read_sheet text.now) }
+    ensures out_after { out.new ≡ out_after out.old (read_sheet text.now) }
+{
     let mut words = [0u16; 4608];
     let got = sheet::read(text, &mut words);
-    let r = got.refusal;
-    let line = got.line;
-    let start = got.start;
-    if r != 0 {
-        return Written {
-            refusal: r,
-            line,
-            length: 0,
-        };
+    if got.refusal != 0 {
+        return Err(Fault {
+            refusal: got.refusal,
+            line: got.line,
+        });
     }
     let n = text_size(text);
     if out.len() < n {
-        return Written {
-            refusal: refusals::TEXT_SHORT,
+        return Err(Fault {
+            refusal: Refusal::TextShort.number(),
             line: 0,
-            length: 0,
-        };
+        });
     }
-    put_lines(out, text, State::of(start));
-    Written {
-        refusal: 0,
-        line: 0,
-        length: n as u64,
-    }
+    put_lines(out, text, State::of(got.start));
+    Ok(n)
 }

@@ -1,10 +1,19 @@
-use Prim.Native.Nat.{◌<◌}
+-- `bad_bits` meets its contract. Assumes nothing.
+use Prim.Native.Nat.{ℕ, ◌/◌, ◌^◌, ◌*◌, ◌%◌, ◌+◌, ◌-◌}
 use native.Mathlib.Omega.{arith}
-use mathlib.Core.Path.{◌≡◌, refl}
-use mathlib.Core.Bool.{true}
+use mathlib.Core.Path.{◌≡◌, refl, ap, sym, ◌∙◌}
+use mathlib.Core.Bool.{Bool, not}
+use lib.Dec.{eqb}
+use lib.ListN.{take, drop, get_or, length, length-drop}
+use lib.Seq.{get_or-drop, take_all}
 use borrow.Author.Tests.{eq-eqb, ne_eqb}
-use Rattle.steps.proofs.EachBelow.{each_none, each_more, each_not}
+use Rattle.std.specs.List.{list_any}
+use Rattle.std.proofs.Common.{rules, tests}
+use Rattle.std.proofs.lemmas.Iterator.{YieldsList-from_slice}
+use Rattle.std.proofs.lemmas.Iterator.Search.{any_from_yields_List}
+use Rattle.steps.specs.Acceptance.{each_below}
 use Rattle.archive.specs.Archived.{bad_bits}
+use Rattle.archive.proofs.AnyBelow.{any_below}
 use Rattle.archive.proofs.Counted.{last_block}
 use Rattle.archive.proofs.bad_bits.Goals as goal
 
@@ -12,24 +21,17 @@ pub returns-then-used-eq0 : goal.returns-then-used-eq0
 unfolding bad_bits
 returns-then-used-eq0 c = rw (eq-eqb _ _ c.if-used-eq0.true) refl
 
-pub overflow_mul-from : goal.overflow_mul-from
-overflow_mul-from c = record { fits = omega (arith, last_block c.args.count c.args.fluents (omega arith)) }
-
-pub loop-k-init : goal.loop-k-init
-loop-k-init c = (omega arith, omega (arith, last_block c.args.count c.args.fluents (omega arith)), each_none _)
-
-pub returns-then-words-from-ne0 : goal.returns-then-words-from-ne0
-unfolding bad_bits
-returns-then-words-from-ne0 c =
-    let a = c.args in
-    let within : c.loop-k.k < a.fluents = omega arith in
-    rw (ne_eqb _ _ c.if-used-eq0.false, each_not _ _ _ within (ne_eqb _ _ c.if-words-from-ne0.true)) refl
-
-pub loop-k-preserved : goal.loop-k-preserved
-loop-k-preserved c = (omega arith, c.loop-k.invariant.1, each_more _ _ c.loop-k.invariant.2 (eq-eqb _ _ c.if-words-from-ne0.false))
-
 pub returns : goal.returns
 unfolding bad_bits
 returns c =
-    let e : c.loop-k.k ≡ c.args.fluents = omega arith in
-    rw (ne_eqb _ _ c.if-used-eq0.false, rw e at c.loop-k.invariant.2) refl
+    let a = c.args in
+    let from = a.count / 64 * a.fluents in
+    let last = drop from a.words.now in
+    let e : c.any.result ≡ list_any (λ w. not (eqb (w / 2 ^ (a.count % 64)) 0)) c.iter.result.rest.now = any_from_yields_List (λ w. not (eqb (w / 2 ^ (a.count % 64)) 0)) _ _ c.any.result c.any.ensures.ran (YieldsList-from_slice c.iter.result.rest.now cc) (λ x b q k. search (rules, tests)) in
+    let r : c.iter.result.rest.now ≡ take (length a.words.now - from) last = cc in
+    let n : length last ≡ a.fluents = omega (arith, length-drop from a.words.now, last_block a.count a.fluents (omega arith)) in
+    let whole : take (length a.words.now - from) last ≡ last = take_all _ last (omega (arith, length-drop from a.words.now)) in
+    let q : ℕ → Bool = λ k. eqb (get_or a.words.now (from + k) 0 / 2 ^ (a.count % 64)) 0 in
+    rw (ne_eqb _ _ c.if-used-eq0.false) (e ∙ ap (list_any (λ w. not (eqb (w / 2 ^ (a.count % 64)) 0))) (r ∙ whole)
+    ∙ any_below _ q last (λ k l. ap (λ (w : ℕ). not (eqb (w / 2 ^ (a.count % 64)) 0)) (get_or-drop from a.words.now k 0))
+    ∙ ap (λ (m : ℕ). not (each_below m q)) n)

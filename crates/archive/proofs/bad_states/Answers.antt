@@ -1,28 +1,19 @@
-use Prim.Native.Nat.{◌<◌}
-use native.Mathlib.Omega.{arith}
-use mathlib.Core.Path.{◌≡◌, sym, ap, ◌∙◌}
-use mathlib.Core.Bool.{true, not}
-use lib.ListN.{length}
+-- `bad_states` meets its contract. Assumes nothing.
+use mathlib.Core.Path.{◌≡◌, ◌∙◌, sym}
+use mathlib.Core.Bool.{not}
+use lib.ListN.{get_or}
+use Rattle.std.specs.List.{list_any}
+use Rattle.std.proofs.Common.{rules, tests}
+use Rattle.std.proofs.lemmas.Iterator.{YieldsList-from_slice}
+use Rattle.std.proofs.lemmas.Iterator.Search.{any_from_yields_List}
 use Rattle.steps.specs.Acceptance.{bad_state}
-use Rattle.steps.proofs.EachBelow.{each_none, each_more, each_not}
 use Rattle.archive.specs.Archived.{bad_states}
+use Rattle.archive.proofs.AnyBelow.{any_below, not_not}
 use Rattle.archive.proofs.bad_states.Goals as goal
-
-pub loop-i-init : goal.loop-i-init
-loop-i-init c = (omega arith, each_none _)
-
-pub returns-then-bad_state : goal.returns-then-bad_state
-unfolding bad_states
-returns-then-bad_state c =
-    let states = c.args.states.now in
-    let within : c.loop-i.i < length states = omega arith in
-    sym (ap not (each_not _ _ _ within (ap not (sym c.bad_state.ensures ∙ c.if-bad_state.true))))
-
-pub loop-i-preserved : goal.loop-i-preserved
-loop-i-preserved c = (omega arith, each_more _ _ c.loop-i.invariant.1 (ap not (sym c.bad_state.ensures ∙ c.if-bad_state.false)))
 
 pub returns : goal.returns
 unfolding bad_states
 returns c =
-    let e : c.loop-i.i ≡ length c.args.states.now = omega arith in
-    sym (ap not (rw e at c.loop-i.invariant.1))
+    let bad = bad_state c.args.fluents in
+    let e : c.any.result ≡ list_any bad c.args.states.now = any_from_yields_List bad _ _ c.any.result c.any.ensures.ran (YieldsList-from_slice c.args.states.now cc) (λ x b q k. search (rules, tests)) in
+    e ∙ any_below bad (λ i. not (bad (get_or c.args.states.now i 0))) c.args.states.now (λ i l. sym (not_not _))

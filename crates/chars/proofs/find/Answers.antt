@@ -1,28 +1,22 @@
--- `chars::find` meets its contract, one byte after the other. Assumes nothing.
-use Rattle.std.proofs.Common.{◌≡◌, arith}
-use Rattle.std.proofs.Math.Seq.{slice}
-use Rattle.chars.specs.Inner.{index_of}
-use Rattle.chars.proofs.Pieces.{index_hit, index_miss, index_none}
+-- `find` meets its contract: an index in the part, counted from its start. Assumes nothing.
+use Rattle.std.proofs.Common.{◌-◌, drop, take, sym, ◌∙◌, arith}
+use Rattle.std.proofs.Math.Seq.{length-slice}
+use Rattle.chars.proofs.Pieces.{index_Some, index_None}
+use Rattle.chars.proofs.Ends.{part_slice}
 use Rattle.chars.proofs.find.Goals as goal
 
-pub returns-then-s-i : goal.returns-then-s-i
-returns-then-s-i c =
+pub returns-in-Some : goal.returns-in-Some
+returns-in-Some c =
     let a = c.args in
-    let h : index_of a.b (slice c.loop-i.i a.to a.s.now) ≡ 0 = index_hit a.b a.s.now c.loop-i.i a.to (omega arith) (omega arith) c.if-s-i.true in
-    omega (arith, h, c.loop-i.invariant.sofar)
+    let p = part_slice a.s.now a.from a.to c.requires.0 c.requires.1 in
+    let e = index_Some a.b (take (a.to - a.from) (drop a.from a.s.now)) c.in-Some.k (sym c.first.ensures ∙ c.in-Some.is) in
+    let f = rw p at e in
+    omega (arith, f)
 
-pub loop-i-preserved : goal.loop-i-preserved
-loop-i-preserved c =
+pub returns-in-None : goal.returns-in-None
+returns-in-None c =
     let a = c.args in
-    let h = index_miss a.b a.s.now c.loop-i.i a.to (omega arith) (omega arith) c.if-s-i.false in
-    record {
-      low = omega arith;
-      high = omega arith;
-      sofar = omega (arith, h, c.loop-i.invariant.sofar);
-    }
-
-pub returns : goal.returns
-returns c =
-    let a = c.args in
-    let h = index_none a.b a.s.now c.loop-i.i a.to (omega arith) in
-    omega (arith, h, c.loop-i.invariant.sofar)
+    let p = part_slice a.s.now a.from a.to c.requires.0 c.requires.1 in
+    let e = index_None a.b (take (a.to - a.from) (drop a.from a.s.now)) (sym c.first.ensures ∙ c.in-None.is) in
+    let f = rw p at e in
+    omega (arith, f, length-slice a.from a.to a.s.now c.requires.1)

@@ -7,5 +7,5 @@ use Rattle.class.proofs.taken.Goals as goal
 pub returns-then-run-eq0 : goal.returns-then-run-eq0
 returns-then-run-eq0 c = let r = c.args.run in sym (places_ends (told r.refusal r.ends r.calls r.answers r.rounds) c.if-run-eq0.true)
 
-pub returns : goal.returns
-returns c = let r = c.args.run in sym (places_none (told r.refusal r.ends r.calls r.answers r.rounds) c.if-run-eq0.false)
+pub returns-else-run-eq0 : goal.returns-else-run-eq0
+returns-else-run-eq0 c = let r = c.args.run in sym (places_none (told r.refusal r.ends r.calls r.answers r.rounds) c.if-run-eq0.false)

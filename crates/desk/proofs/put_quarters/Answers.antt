@@ -1,21 +1,8 @@
 -- `put_quarters` meets its contract: four stores. Assumes nothing.
 use native.Mathlib.Omega.{arith}
-use lib.ListN.{length-set}
 use Rattle.desk.proofs.AnswerLaws.{written_one, written_store}
 use Rattle.quarters.proofs.QuarterLaws.{quarter_0, quarter_1, quarter_2, quarter_3}
 use Rattle.desk.proofs.put_quarters.Goals as goal
-
-pub bounds-words-at-2 : goal.bounds-words-at-2
-bounds-words-at-2 c = simp length-set (omega arith)
-
-pub bounds-words-at-3 : goal.bounds-words-at-3
-bounds-words-at-3 c = simp length-set (omega arith)
-
-pub bounds-words-at-4 : goal.bounds-words-at-4
-bounds-words-at-4 c = simp length-set (omega arith)
-
-pub shape_of-words : goal.shape_of-words
-shape_of-words c = simp length-set
 
 pub returns : goal.returns
 returns c =

@@ -1,52 +1,69 @@
 -- `evaluate` meets its contract, by the outcomes of acceptance, of the list's length, of filling the tables and of the room for ends. Assumes nothing.
 use Prim.Native.Nat.{ℕ}
 use native.Mathlib.Omega.{arith}
-use mathlib.Core.Path.{◌≡◌, refl, sym, ap, subst, ◌∙◌}
-use mathlib.Core.Bool.{false}
+use mathlib.Core.Path.{refl, sym, ap, ◌∙◌}
 use lib.ListN.{length, replicate}
-use borrow.Author.Rules.{rules}
+use Rattle.refusals.proofs.Numbers.{number-not_zero}
+use Rattle.steps.proofs.EachBelow.{true_not_false}
 use Rattle.steps.proofs.AcceptanceLaws.{start_accepted}
-use Rattle.records.specs.Records.{call_table}
-use Rattle.listing.specs.Listing.{CallsListed}
-use Rattle.evaluator.specs.Evaluated.{Asked, Lent, asked, lent, told, refused_with, CallListShort, not_accepted, list_of_calls_short, outgrown}
+use Rattle.evaluator.specs.Evaluated.{Asked, Lent, asked, lent, told, CallListShort, not_accepted, list_of_calls_short, outgrown}
 use Rattle.records.proofs.Zeros.{all_zero, zero_long}
 use Rattle.evaluator.proofs.Outcomes.{is_full, is_short, is_listed}
 use Rattle.evaluator.proofs.evaluate.Goals as goal
 
-pub returns-then-refusal-ne0 : goal.returns-then-refusal-ne0
-returns-then-refusal-ne0 c = let e = c.refusal-refusal.ensures in not_accepted (λ z. c.if-refusal-ne0.true (e ∙ z)) (ap (λ (n : ℕ). told n 0 0 0 0) e) refl
+pub returns-in-Err : goal.returns-in-Err
+returns-in-Err c = not_accepted (λ z. number-not_zero _ (c.in-Err.ensures ∙ z)) (c.refused.ensures ∙ ap (λ (n : ℕ). told n 0 0 0 0) c.in-Err.ensures) refl
 
 pub returns-then-list-room_of : goal.returns-then-list-room_of
-returns-then-list-room_of c = list_of_calls_short ((let accepted : refused_with ((let question : Asked = asked c.args.fluents c.args.actions c.args.rules.now c.args.goal.now c.args.start in question)) ≡ 0 = sym c.refusal-refusal.ensures ∙ c.if-refusal-ne0.false in accepted)) (omega (arith, c.room_of.ensures, c.if-list-room_of.true)) refl refl
+returns-then-list-room_of c =
+    list_of_calls_short (sym c.in_default.ensures) (omega (arith, c.room_of.ensures, c.if-list-room_of.true)) c.refused-then-list-room_of.ensures refl
 
-pub tabulate-run-requires : goal.tabulate-run-requires
-tabulate-run-requires c =
-    let z = c.clear.ensures in record {
-      by_index = (c.args.fluents, c.args.actions, (start_accepted c.args.fluents c.args.actions c.args.rules.now c.args.goal.now c.args.start ((let accepted : refused_with ((let question : Asked = asked c.args.fluents c.args.actions c.args.rules.now c.args.goal.now c.args.start in question)) ≡ 0 = sym c.refusal-refusal.ensures ∙ c.if-refusal-ne0.false in accepted))).0);
+pub tabulate-requires : goal.tabulate-requires
+tabulate-requires c =
+    let z = c.clear.ensures in
+    let a = c.args in record {
+      by_index = (a.fluents, a.actions, (start_accepted a.fluents a.actions a.rules.now a.goal.now a.start (sym c.in_default.ensures)).0);
       calls_value = (
-        all_zero (length c.args.calls.now) z,
-        all_zero (length c.args.list.now) c.clear-2.ensures,
-        omega (arith, c.room_of.ensures, c.if-list-room_of.false, zero_long (length c.args.calls.now) z),
+        all_zero (length a.calls.now) z,
+        all_zero (length a.list.now) c.clear-2.ensures,
+        omega (arith, c.room_of.ensures, c.if-list-room_of.false, zero_long (length a.calls.now) z),
       );
     }
 
-pub returns-then-run : goal.returns-then-run
-returns-then-run c =
-    let F = c.tabulate-run.ensures.begins.2 in
-    let full = c.if-run.true in
-    let calls : c.clear-then-run.new.words ≡ replicate (length c.args.calls.now) 0 = c.clear-then-run.ensures ∙ ap (λ (n : ℕ). replicate n 0) (F.calls_long ∙ (let calls_long : length c.clear.new.words ≡ length c.args.calls.now = zero_long (length c.args.calls.now) c.clear.ensures in calls_long)) in
-    let answers : c.clear-then-run-2.new.words ≡ replicate (length c.args.answers.now) 0 = c.clear-then-run-2.ensures ∙ ap (λ (n : ℕ). replicate n 0) F.answers_long in
-    let list : c.clear-then-run-3.new.words ≡ replicate (length c.args.list.now) 0 = c.clear-then-run-3.ensures ∙ ap (λ (n : ℕ). replicate n 0) (c.tabulate-run.ensures.list_len_unchanged.0 ∙ (let list_long : length c.clear-2.new.words ≡ length c.args.list.now = zero_long (length c.args.list.now) c.clear-2.ensures in list_long)) in
-    outgrown ((let ok : refused_with ((let question : Asked = asked c.args.fluents c.args.actions c.args.rules.now c.args.goal.now c.args.start in question)) ≡ 0 = (let accepted : refused_with ((let question : Asked = asked c.args.fluents c.args.actions c.args.rules.now c.args.goal.now c.args.start in question)) ≡ 0 = sym c.refusal-refusal.ensures ∙ c.if-refusal-ne0.false in accepted) in ok)) ((let long : ¬ CallListShort ((let buffers : Lent = lent c.args.calls.now c.args.answers.now c.args.ends.now c.args.list.now in buffers)) = (let long_enough : ¬ CallListShort ((let buffers : Lent = lent c.args.calls.now c.args.answers.now c.args.ends.now c.args.list.now in buffers)) = (λ h. omega (arith, c.room_of.ensures, c.if-list-room_of.false)) in long_enough) in long))
-    (is_full ((let question : Asked = asked c.args.fluents c.args.actions c.args.rules.now c.args.goal.now c.args.start in question)) ((let buffers : Lent = lent c.args.calls.now c.args.answers.now c.args.ends.now c.args.list.now in buffers)) ((let ok : refused_with ((let question : Asked = asked c.args.fluents c.args.actions c.args.rules.now c.args.goal.now c.args.start in question)) ≡ 0 = (let accepted : refused_with ((let question : Asked = asked c.args.fluents c.args.actions c.args.rules.now c.args.goal.now c.args.start in question)) ≡ 0 = sym c.refusal-refusal.ensures ∙ c.if-refusal-ne0.false in accepted) in ok)) ((let long : ¬ CallListShort ((let buffers : Lent = lent c.args.calls.now c.args.answers.now c.args.ends.now c.args.list.now in buffers)) = (let long_enough : ¬ CallListShort ((let buffers : Lent = lent c.args.calls.now c.args.answers.now c.args.ends.now c.args.list.now in buffers)) = (λ h. omega (arith, c.room_of.ensures, c.if-list-room_of.false)) in long_enough) in long)) ((let calls_long : length c.clear.new.words ≡ length c.args.calls.now = zero_long (length c.args.calls.now) c.clear.ensures in calls_long)) refl c.tabulate-run.ensures.begins.1 F ((let listed : c.tabulate-run.result.full ≡ false → CallsListed (call_table c.tabulate-run.new.calls c.tabulate-run.result.calls) (length c.args.list.now) c.tabulate-run.new.list = (λ z. subst (λ (len : ℕ). CallsListed (call_table c.tabulate-run.new.calls c.tabulate-run.result.calls) len c.tabulate-run.new.list) ((let list_long : length c.clear-2.new.words ≡ length c.args.list.now = zero_long (length c.args.list.now) c.clear-2.ensures in list_long)) (c.tabulate-run.ensures.list_len_unchanged.1 z)) in listed)) full)
-    refl (λ k. lent (calls k) (answers k) (c.tabulate-run.ensures.ends_unchanged.0 full k) (list k))
+pub returns-in_default-tabulate : goal.returns-in_default-tabulate
+returns-in_default-tabulate c =
+    let a = c.args in
+    let q : Asked = asked a.fluents a.actions a.rules.now a.goal.now a.start in
+    let b : Lent = lent a.calls.now a.answers.now a.ends.now a.list.now in
+    let (ends, (_, _, _, _, F)) = c.in_default-tabulate.ensures.tabled in
+    let calls_long = zero_long (length a.calls.now) c.clear.ensures in
+    let list_long = zero_long (length a.list.now) c.clear-2.ensures in
+    let calls = c.clear-in_default-tabulate.ensures ∙ ap (λ (n : ℕ). replicate n 0) (F.calls_long ∙ calls_long) in
+    let answers = c.clear-in_default-tabulate-2.ensures ∙ ap (λ (n : ℕ). replicate n 0) F.answers_long in
+    let list = c.clear-in_default-tabulate-3.ensures ∙ ap (λ (n : ℕ). replicate n 0) (c.in_default-tabulate.ensures.list_long ∙ list_long) in
+    let long : ¬ CallListShort b = (λ h. omega (arith, c.room_of.ensures, c.if-list-room_of.false)) in
+    outgrown (sym c.in_default.ensures) long
+    (is_full q b (sym c.in_default.ensures) long calls_long refl {list = c.tabulate.new.list} (λ z. absurd (true_not_false z)) F (λ z. absurd (true_not_false z)) refl)
+    c.refused-in_default-tabulate.ensures
+    (λ k. lent (calls k) (answers k) (ends k) (list k))
 
-pub returns-then-ends-found : goal.returns-then-ends-found
-returns-then-ends-found c =
-    let e = c.if-run.false in
-    is_short ((let question : Asked = asked c.args.fluents c.args.actions c.args.rules.now c.args.goal.now c.args.start in question)) ((let buffers : Lent = lent c.args.calls.now c.args.answers.now c.args.ends.now c.args.list.now in buffers)) ((let ok : refused_with ((let question : Asked = asked c.args.fluents c.args.actions c.args.rules.now c.args.goal.now c.args.start in question)) ≡ 0 = (let accepted : refused_with ((let question : Asked = asked c.args.fluents c.args.actions c.args.rules.now c.args.goal.now c.args.start in question)) ≡ 0 = sym c.refusal-refusal.ensures ∙ c.if-refusal-ne0.false in accepted) in ok)) ((let long : ¬ CallListShort ((let buffers : Lent = lent c.args.calls.now c.args.answers.now c.args.ends.now c.args.list.now in buffers)) = (let long_enough : ¬ CallListShort ((let buffers : Lent = lent c.args.calls.now c.args.answers.now c.args.ends.now c.args.list.now in buffers)) = (λ h. omega (arith, c.room_of.ensures, c.if-list-room_of.false)) in long_enough) in long)) ((let calls_long : length c.clear.new.words ≡ length c.args.calls.now = zero_long (length c.args.calls.now) c.clear.ensures in calls_long)) refl c.tabulate-run.ensures.begins.1 c.tabulate-run.ensures.begins.2 ((let listed : c.tabulate-run.result.full ≡ false → CallsListed (call_table c.tabulate-run.new.calls c.tabulate-run.result.calls) (length c.args.list.now) c.tabulate-run.new.list = (λ z. subst (λ (len : ℕ). CallsListed (call_table c.tabulate-run.new.calls c.tabulate-run.result.calls) len c.tabulate-run.new.list) ((let list_long : length c.clear-2.new.words ≡ length c.args.list.now = zero_long (length c.args.list.now) c.clear-2.ensures in list_long)) (c.tabulate-run.ensures.list_len_unchanged.1 z)) in listed)) e (c.tabulate-run.ensures.ends_unchanged.1 e) (omega (arith, c.if-ends-found.true))
+pub returns-then-ends-run : goal.returns-then-ends-run
+returns-then-ends-run c =
+    let a = c.args in
+    let q : Asked = asked a.fluents a.actions a.rules.now a.goal.now a.start in
+    let b : Lent = lent a.calls.now a.answers.now a.ends.now a.list.now in
+    let (_, begins, F, listed, finals) = c.in-Some.ensures.tabled in
+    let long : ¬ CallListShort b = (λ h. omega (arith, c.room_of.ensures, c.if-list-room_of.false)) in
+    rw c.number.ensures
+    (is_short q b (sym c.in_default.ensures) long (zero_long (length a.calls.now) c.clear.ensures) refl (λ _. begins) F
+    (λ _. rw (zero_long (length a.list.now) c.clear-2.ensures) at listed) refl finals (omega (arith, c.if-ends-run.true)))
 
 pub returns : goal.returns
 returns c =
-    let e = c.if-run.false in
-    is_listed ((let question : Asked = asked c.args.fluents c.args.actions c.args.rules.now c.args.goal.now c.args.start in question)) ((let buffers : Lent = lent c.args.calls.now c.args.answers.now c.args.ends.now c.args.list.now in buffers)) ((let ok : refused_with ((let question : Asked = asked c.args.fluents c.args.actions c.args.rules.now c.args.goal.now c.args.start in question)) ≡ 0 = (let accepted : refused_with ((let question : Asked = asked c.args.fluents c.args.actions c.args.rules.now c.args.goal.now c.args.start in question)) ≡ 0 = sym c.refusal-refusal.ensures ∙ c.if-refusal-ne0.false in accepted) in ok)) ((let long : ¬ CallListShort ((let buffers : Lent = lent c.args.calls.now c.args.answers.now c.args.ends.now c.args.list.now in buffers)) = (let long_enough : ¬ CallListShort ((let buffers : Lent = lent c.args.calls.now c.args.answers.now c.args.ends.now c.args.list.now in buffers)) = (λ h. omega (arith, c.room_of.ensures, c.if-list-room_of.false)) in long_enough) in long)) ((let calls_long : length c.clear.new.words ≡ length c.args.calls.now = zero_long (length c.args.calls.now) c.clear.ensures in calls_long)) refl c.tabulate-run.ensures.begins.1 c.tabulate-run.ensures.begins.2 ((let listed : c.tabulate-run.result.full ≡ false → CallsListed (call_table c.tabulate-run.new.calls c.tabulate-run.result.calls) (length c.args.list.now) c.tabulate-run.new.list = (λ z. subst (λ (len : ℕ). CallsListed (call_table c.tabulate-run.new.calls c.tabulate-run.result.calls) len c.tabulate-run.new.list) ((let list_long : length c.clear-2.new.words ≡ length c.args.list.now = zero_long (length c.args.list.now) c.clear-2.ensures in list_long)) (c.tabulate-run.ensures.list_len_unchanged.1 z)) in listed)) e (c.tabulate-run.ensures.ends_unchanged.1 e) (omega (arith, c.if-ends-found.false))
+    let a = c.args in
+    let q : Asked = asked a.fluents a.actions a.rules.now a.goal.now a.start in
+    let b : Lent = lent a.calls.now a.answers.now a.ends.now a.list.now in
+    let (_, begins, F, listed, finals) = c.in-Some.ensures.tabled in
+    let long : ¬ CallListShort b = (λ h. omega (arith, c.room_of.ensures, c.if-list-room_of.false)) in
+    is_listed q b (sym c.in_default.ensures) long (zero_long (length a.calls.now) c.clear.ensures) refl (λ _. begins) F
+    (λ _. rw (zero_long (length a.list.now) c.clear-2.ensures) at listed) refl finals (omega (arith, c.if-ends-run.false))

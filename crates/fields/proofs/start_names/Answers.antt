@@ -1,64 +1,38 @@
--- `start_names` meets its contract. Assumes nothing.
-use mathlib.Core.Path.{refl, sym, ◌∙◌}
-use Prim.Native.Nat.{◌+◌}
-use native.Mathlib.Omega.{arith}
-use borrow.Author.Rules.{rules}
-use lib.Seq.{slice}
+-- `start_names` meets its contract, one name after the other. Assumes nothing.
+use Rattle.std.proofs.Common.{◌+◌, sym, ◌∙◌, arith}
+use Rattle.std.proofs.Math.Seq.{slice}
 use Rattle.chars.specs.Inner.{fields_from}
-use Rattle.chars.proofs.Ends.{fields_gone}
+use Rattle.chars.proofs.Ends.{fields_gone, part_slice}
 use Rattle.fields.specs.Held.{symbols_of}
-use Rattle.fields.proofs.Verdicts.{answer_ok, answer_no}
+use Rattle.fields.proofs.Verdicts.{refused_with}
 use Rattle.fields.proofs.FieldVerdicts.{starts_stop, starts_go, starts_end}
 use Rattle.fields.proofs.start_names.Goals as goal
 
-pub loop-at-init : goal.loop-at-init
-loop-at-init c = (omega arith, refl)
-
-pub field_end-q-requires : goal.field_end-q-requires
-field_end-q-requires c = search rules
-
-pub start_name-got-requires : goal.start_name-got-requires
-start_name-got-requires c = search rules
-
-pub returns-then-r-ne0 : goal.returns-then-r-ne0
-returns-then-r-ne0 c =
-    let a = c.args in
-    let s = a.s.now in
-    let y = symbols_of s a.n in
+pub returns-in_err-state : goal.returns-in_err-state
+returns-in_err-state c =
+    let s = c.args.s.now in
     let q = c.field_end-q in
-    let r = c.start_name-got in
-    let f = slice c.loop-at.at q.result s in
-    let fs = fields_from (q.result + 1) a.e s in
-    let g = c.loop-at.invariant.1 in
-    let h = rw q.ensures.cut at g in
-    let v = answer_no r.result.refusal r.result.state.0 c.if-r-ne0.true in
-    v ∙ sym (h ∙ starts_stop y c.loop-at.state.0 f fs r.result.refusal (sym r.ensures ∙ v))
-
-pub overflow_add-at : goal.overflow_add-at
-overflow_add-at c = search rules
-
-pub loop-at-smaller : goal.loop-at-smaller
-loop-at-smaller c = search rules
+    let p = part_slice s c.loop-at.at q.result q.ensures.from (let w = q.ensures.within in omega arith) in
+    let v = rw p at (sym c.in_err-state.ensures) in
+    let h = rw q.ensures.cut at c.loop-at.invariant.sofar in
+    refused_with _ c.from_residual.result _ c.from_residual.ensures.1
+    ∙ sym (h ∙ starts_stop (symbols_of c.args.n.now) c.loop-at.state.0 (slice c.loop-at.at q.result s) (fields_from (q.result + 1) c.args.e s) _ v)
 
 pub loop-at-preserved : goal.loop-at-preserved
 loop-at-preserved c =
-    let a = c.args in
-    let s = a.s.now in
-    let y = symbols_of s a.n in
+    let s = c.args.s.now in
     let q = c.field_end-q in
-    let r = c.start_name-got in
-    let f = slice c.loop-at.at q.result s in
-    let fs = fields_from (q.result + 1) a.e s in
-    let g = c.loop-at.invariant.1 in
-    let h = rw q.ensures.cut at g in
-    let v = answer_ok r.result.refusal r.result.state.0 c.if-r-ne0.false in
-    let i = q.ensures.within in
-    (omega arith, h ∙ starts_go y c.loop-at.state.0 f fs r.result.state.0 (sym r.ensures ∙ v))
+    let w = q.ensures.within in
+    let p = part_slice s c.loop-at.at q.result q.ensures.from (omega arith) in
+    let v = rw p at (sym c.in_ok-state.ensures) in
+    let h = rw q.ensures.cut at c.loop-at.invariant.sofar in
+    let rest = fields_from (q.result + 1) c.args.e s in
+    record {
+      within = omega arith;
+      sofar = h ∙ starts_go (symbols_of c.args.n.now) c.loop-at.state.0 (slice c.loop-at.at q.result s) rest _ v;
+    }
 
 pub returns : goal.returns
 returns c =
-    let a = c.args in
-    let s = a.s.now in
-    let g = c.loop-at.invariant.1 in
-    let h = rw (fields_gone s c.loop-at.at a.e c.loop-at-test.false) at g in
-    sym (h ∙ starts_end (symbols_of s a.n) c.loop-at.state.0)
+    let h = rw (fields_gone c.args.s.now c.loop-at.at c.args.e c.loop-at-test.false) at c.loop-at.invariant.sofar in
+    sym (h ∙ starts_end (symbols_of c.args.n.now) c.loop-at.state.0)

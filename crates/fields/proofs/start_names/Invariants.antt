@@ -1,14 +1,16 @@
--- `start_names` meets its contract. The invariant: the verdict on all names is that on the names left, from the state so far.
--- The measure is what is left of the line. Assumes nothing.
-use mathlib.Core.Path.{◌≡◌}
-use Prim.Native.Nat.{◌+◌, ◌-◌, ◌≤◌}
+-- The verdict on all names is that on the names left, from the state so far; what is left of the line gets less. Assumes nothing.
+use Rattle.std.proofs.Common.{◌+◌, ◌-◌, ◌≡◌, ◌≤◌}
 use Rattle.chars.specs.Inner.{fields_from}
 use Rattle.fields.specs.Field.{start_names}
 use Rattle.fields.specs.Held.{symbols_of}
 use Rattle.fields.proofs.start_names.Given as goal
 
 abbrev pub invariant-loop-at : goal.invariant-loop-at
-invariant-loop-at l = (l.at ≤ l.e + 1) × (start_names (symbols_of l.s l.n) 0 (fields_from l.p l.e l.s) ≡ start_names (symbols_of l.s l.n) l.state.0 (fields_from l.at l.e l.s))
+invariant-loop-at l = record {
+  within : l.at ≤ l.e + 1;
+  sofar : start_names (symbols_of l.n) 0 (fields_from l.p l.e l.s)
+      ≡ start_names (symbols_of l.n) l.state.0 (fields_from l.at l.e l.s);
+}
 
 abbrev pub decreases-loop-at : goal.decreases-loop-at
 decreases-loop-at l = l.e + 1 - l.at

@@ -1,80 +1,49 @@
--- `steps` meets its contract. Assumes nothing.
-use mathlib.Core.Path.{refl, sym, ap, ◌∙◌}
-use mathlib.Core.List.{[]}
-use Prim.Native.Nat.{◌+◌}
-use native.Mathlib.Omega.{arith}
-use borrow.Author.Rules.{rules}
-use lib.ListN.{length, take}
-use lib.Seq.{slice}
+-- `steps` meets its contract, one step after the other. Assumes nothing.
+use Rattle.std.proofs.Common.{◌+◌, sym, ap, ◌∙◌, length, arith}
+use Rattle.std.proofs.Math.Seq.{slice}
 use Rattle.chars.specs.Inner.{fields_from}
-use Rattle.chars.proofs.Ends.{fields_gone}
-use Rattle.fields.specs.Held.{symbols_of}
-use Rattle.fields.proofs.Verdicts.{answer_ok, answer_no}
-use Rattle.fields.proofs.Bodies.{steps_stop, steps_go, steps_end, steps_begin, filled_next, taken_next}
+use Rattle.chars.proofs.Ends.{fields_gone, part_slice}
+use Rattle.fields.specs.Held.{symbols_of, steps_of}
+use Rattle.fields.proofs.Verdicts.{refused_with}
+use Rattle.fields.proofs.Bodies.{steps_stop, steps_go, steps_end, steps_begin}
 use Rattle.fields.proofs.steps.Goals as goal
 
 pub loop-at-init : goal.loop-at-init
-loop-at-init c = (omega arith, omega arith, record { few = omega arith; size = refl; zeros = refl }, steps_begin _)
+loop-at-init c =
+    record {
+      within = omega arith;
+      few = let n = c.new-body.ensures.count in omega arith;
+      sofar = rw c.new-body.ensures.words (steps_begin _);
+    }
 
-pub field_end-q-requires : goal.field_end-q-requires
-field_end-q-requires c = search rules
-
-pub step-w-requires : goal.step-w-requires
-step-w-requires c = search rules
-
-pub returns-then-r-ne0 : goal.returns-then-r-ne0
-returns-then-r-ne0 c =
-    let a = c.args in
-    let y = symbols_of a.s.now a.n in
+pub returns-in_err-word : goal.returns-in_err-word
+returns-in_err-word c =
+    let s = c.args.s.now in
     let q = c.field_end-q in
-    let r = c.step-w in
-    let v = sym r.ensures.value_value ∙ answer_no r.result.refusal r.result.value c.if-r-ne0.true in
-    let f = steps_stop y (take c.loop-at.len c.loop-at.words) (slice c.loop-at.at q.result a.s.now) (fields_from (q.result + 1) a.e a.s.now) r.result.refusal v in
-    let g = c.loop-at.invariant.3 in
-    let h = rw q.ensures.cut at g in
-    record { result_value = answer_no r.result.refusal [] c.if-r-ne0.true ∙ sym (h ∙ f); filled = record { few = omega arith; size = refl; zeros = refl } }
-
-pub overflow_cast-words : goal.overflow_cast-words
-overflow_cast-words c = search rules
-
-pub offset_bounds-words-len : goal.offset_bounds-words-len
-offset_bounds-words-len c = search rules
-
-pub bounds-words-len : goal.bounds-words-len
-bounds-words-len c =
-    let x = ap length c.field_end-q.ensures.cut in
-    omega arith
-
-pub overflow_add-len : goal.overflow_add-len
-overflow_add-len c = search rules
-
-pub overflow_add-at : goal.overflow_add-at
-overflow_add-at c = search rules
-
-pub loop-at-smaller : goal.loop-at-smaller
-loop-at-smaller c = search rules
+    let p = part_slice s c.loop-at.at q.result q.ensures.from (let w = q.ensures.within in omega arith) in
+    let v = rw p at (sym c.in_err-word.ensures.word) in
+    let h = rw q.ensures.cut at c.loop-at.invariant.sofar in
+    refused_with _ c.from_residual.result _ c.from_residual.ensures.1
+    ∙ sym (h ∙ steps_stop (symbols_of c.args.n.now) (steps_of c.loop-at.body) (slice c.loop-at.at q.result s) (fields_from (q.result + 1) c.args.e s) _ v)
 
 pub loop-at-preserved : goal.loop-at-preserved
 loop-at-preserved c =
-    let a = c.args in
-    let y = symbols_of a.s.now a.n in
+    let s = c.args.s.now in
     let q = c.field_end-q in
-    let r = c.step-w in
+    let y = symbols_of c.args.n.now in
+    let w = q.ensures.within in
     let x = ap length q.ensures.cut in
-    let w = take c.loop-at.len c.loop-at.words in
-    let v = sym r.ensures.value_value ∙ answer_ok r.result.refusal r.result.value c.if-r-ne0.false in
-    let f = steps_go y w (slice c.loop-at.at q.result a.s.now) (fields_from (q.result + 1) a.e a.s.now) r.result.value v in
-    let b = c.loop-at.invariant.2 in
-    let z = b.size in
-    let t = taken_next c.loop-at.words c.loop-at.len r.result.value (omega arith) in
-    let g = c.loop-at.invariant.3 in
-    let h = rw q.ensures.cut at g in
-    (omega arith, omega arith, filled_next c.loop-at.words c.loop-at.len r.result.value b (omega arith), h ∙ f ∙ rw t)
+    let p = part_slice s c.loop-at.at q.result q.ensures.from (omega arith) in
+    let v = rw p at (sym c.in_ok-word.ensures.word) in
+    let h = rw q.ensures.cut at c.loop-at.invariant.sofar in
+    let rest = fields_from (q.result + 1) c.args.e s in
+    record {
+      within = omega arith;
+      few = let n = c.push.ensures.count in omega arith;
+      sofar = h ∙ steps_go y (steps_of c.loop-at.body) (slice c.loop-at.at q.result s) rest c.in_ok-word.word v ∙ rw c.push.ensures.more;
+    }
 
 pub returns : goal.returns
 returns c =
-    let a = c.args in
-    let y = symbols_of a.s.now a.n in
-    let g = c.loop-at.invariant.3 in
-    let h = rw (fields_gone a.s.now c.loop-at.at a.e c.loop-at-test.false) at g in
-    record { result_value = sym (h ∙ steps_end y (take c.loop-at.len c.loop-at.words)); filled = c.loop-at.invariant.2 }
+    let h = rw (fields_gone c.args.s.now c.loop-at.at c.args.e c.loop-at-test.false) at c.loop-at.invariant.sofar in
+    sym (h ∙ steps_end (symbols_of c.args.n.now) (steps_of c.loop-at.body))

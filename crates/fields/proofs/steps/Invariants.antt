@@ -1,18 +1,18 @@
--- `steps` meets its contract. The invariant: the verdict on all steps is that on the steps from `at` on, after the words so far.
--- The measure is what is left of the line. Assumes nothing.
-use mathlib.Core.Path.{◌≡◌}
-use Prim.Native.Nat.{◌≤◌, ◌-◌, ◌+◌}
-use lib.ListN.{length, take}
+-- The verdict on all steps is that on the steps from `at` on, after the words so far; what is left of the line gets less. Assumes nothing.
+use Rattle.std.proofs.Common.{◌+◌, ◌-◌, ◌≡◌, ◌≤◌, length}
 use Rattle.chars.specs.Inner.{fields_from}
 use Rattle.fields.specs.Field.{step_words}
-use Rattle.fields.specs.Held.{symbols_of, Filled}
+use Rattle.fields.specs.Held.{symbols_of, steps_of}
 use Rattle.fields.proofs.Bodies.{prefix}
 use Rattle.fields.proofs.steps.Given as goal
 
 abbrev pub invariant-loop-at : goal.invariant-loop-at
-invariant-loop-at l =
-    (l.at ≤ l.e + 1) × (l.len + length (fields_from l.at l.e l.s) ≤ 16) × Filled l.len l.words
-    × (step_words (symbols_of l.s l.n) (fields_from l.p l.e l.s) ≡ prefix (take l.len l.words) (step_words (symbols_of l.s l.n) (fields_from l.at l.e l.s)))
+invariant-loop-at l = record {
+  within : l.at ≤ l.e + 1;
+  few : l.body.len + length (fields_from l.at l.e l.s) ≤ 16;
+  sofar : step_words (symbols_of l.n) (fields_from l.p l.e l.s)
+      ≡ prefix (steps_of l.body) (step_words (symbols_of l.n) (fields_from l.at l.e l.s));
+}
 
 abbrev pub decreases-loop-at : goal.decreases-loop-at
 decreases-loop-at l = l.e + 1 - l.at

@@ -11,14 +11,14 @@ returns-then-body-eq0 c = λ e. (absurd (true_not_false e))
 pub returns-then-is_call : goal.returns-then-is_call
 returns-then-is_call c = λ e. (absurd (true_not_false e))
 
-pub returns-in-On : goal.returns-in-On
-returns-in-On c = λ e. (absurd (true_not_false e))
+pub returns-in-Some : goal.returns-in-Some
+returns-in-Some c = λ e. (absurd (true_not_false e))
 
-pub returns-in-Stuck : goal.returns-in-Stuck
+pub returns-in-None : goal.returns-in-None
 unfolding onward
-returns-in-Stuck c =
+returns-in-None c =
     λ _. record {
       some = omega (arith, c.if-body-eq0.false);
       plain = sym c.is_call.ensures ∙ c.if-is_call.false;
-      ends = sym c.elementary-next.ensures ∙ ap onward c.in-Stuck.is;
+      ends = sym c.elementary.ensures ∙ ap onward c.in-None.is;
     }

@@ -6,7 +6,4 @@ use Rattle.filling.specs.Others.{Other}
 use Rattle.filling.proofs.past_body.Given as goal
 
 abbrev pub invariant-loop-k : goal.invariant-loop-k
-invariant-loop-k l = (l.k ≤ length l.rules / rule_width + 1) × ((j : ℕ) → l.k ≤ j → j < length l.rules / rule_width + 1 → Other l.rules l.goals.first l.goals.second j l.action)
-
-abbrev pub decreases-loop-k : goal.decreases-loop-k
-decreases-loop-k l = l.k
+invariant-loop-k l = (j : ℕ) → l.k ≤ j → j < length l.rules / rule_width + 1 → Other l.rules l.goals.first l.goals.second j l.action

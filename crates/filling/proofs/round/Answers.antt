@@ -27,6 +27,7 @@ use Rattle.invariants.proofs.Going.{in_words, Going, going_start, going_on, goin
 use Rattle.invariants.proofs.Rounds.{Round, Rows, Rules, round_kept, rows_past, rows_start, rows_round, rows_passed, rules_start, rules_stopped, rules_skip, rules_next, rows_next, rows_finished, rows_gathered, rows_sooner, rules_lower}
 use borrow.Author.Rules.{rules}
 use Rattle.filling.proofs.round.Goals as goal
+use Rattle.filling.proofs.round.Goals.{After-next_walk-walk}
 
 -- words that are all 0
 zeros_at : (n i : ℕ) → ◌≡◌ {A = ℕ} (get_or (replicate n 0) i 0) 0
@@ -46,6 +47,89 @@ rules_past bodies Root number {rule = rule} R n = record { rows_closed = R.rows_
 rules_marked : {bodies : Bodies} {Root : ℕ → State → Type 0} {number : ℕ → ℕ} {first walked seen low high top old : ℕ} {warm : Bool} {round rows known row rule : ℕ} {begun : Begin} {t t' : Tables} {uses uses' : Uses} → t' ≡ t → uses' ≡ uses
     → Rules bodies Root number first walked seen low high top old warm round rows known row rule begun t uses → Rules bodies Root number first walked seen low high top old warm round rows known row rule begun t' uses'
 rules_marked p q R = rw (p, q) R
+
+-- ---- where a walk begins
+
+-- the bodies,
+abbrev over : After-next_walk-walk → Bodies
+over c = bodies_with c.args.rules.now c.args.goals.first c.args.goals.second c.args.goal.now c.args.second.now
+
+-- what the round began with,
+abbrev start : After-next_walk-walk → Begin
+start c = begin (in_words c.args.calls.now c.args.stage.calls c.args.answers.now c.args.stage.answers) (uses_in c.args.calls.now c.span_of-span.new.list)
+
+-- the tables,
+abbrev here : After-next_walk-walk → Tables
+here c = in_words c.next_walk-walk.new.calls c.loop-rule.n c.loop-rule.answers c.loop-rule.m
+
+-- and the rules done before this one.
+abbrev Done : After-next_walk-walk → List (ℕ × ℕ) → Begin → Tables → Uses → Type 0
+Done c roots begun t uses =
+    let s = c.span_of-span.result in
+    let g = c.args.stage in
+    Rules (over c) (Among roots) (number_at (length c.args.rules.now / rule_width)) c.args.first g.walked g.seen s.low s.high s.top s.old s.warm
+    g.round g.calls g.answers c.loop-row.row c.loop-rule.rule begun t uses
+
+-- The new walk's number changes marks alone.
+marked_at : (c : After-next_walk-walk) (roots : List (ℕ × ℕ)) (begun : Begin)
+    → Done c roots begun (in_words c.loop-rule.calls c.loop-rule.n c.loop-rule.answers c.loop-rule.m) (uses_in c.loop-rule.calls c.loop-rule.list)
+    → Done c roots begun (here c) (uses_in c.next_walk-walk.new.calls c.loop-rule.list)
+marked_at c roots begun R =
+    let a = c.next_walk-walk.ensures.1 in
+    rules_marked (ap (λ (z : Calls). tables z (packed_answers c.loop-rule.answers c.loop-rule.m)) (alone_calls a c.loop-rule.n)) (marked_uses a c.loop-rule.list) R
+
+rules_at : (c : After-next_walk-walk) (roots : List (ℕ × ℕ))
+    → Round (over c) (Among roots) c.args.first c.args.stage.walked c.args.stage.seen
+    (in_words c.args.calls.now c.args.stage.calls c.args.answers.now c.args.stage.answers) (uses_in c.args.calls.now c.args.list.now)
+    → Done c roots (start c) (here c) (uses_in c.next_walk-walk.new.calls c.loop-rule.list)
+rules_at c roots S =
+    let b = c.span_of-span.ensures.begun in
+    marked_at c roots _ (c.loop-rule.invariant.closed roots _ (c.loop-row.invariant.closed roots (round_kept _ _ (kept_same b.low) S) b.lit))
+
+action_at : (c : After-next_walk-walk) → (open_calls c.next_walk-walk.new.calls c.loop-rule.n).action c.loop-row.row ≡ c.action_of-action.result
+action_at c = ap (λ (z : Calls). z.action c.loop-row.row) (alone_calls c.next_walk-walk.ensures.1 c.loop-rule.n) ∙ sym c.action_of-action.ensures
+
+-- The body is that of the rule, and the rule is one of the call's action.
+words_at : (c : After-next_walk-walk)
+    → c.steps_for-body.result.now ≡ (over c).words c.number_of-number.result ((open_calls c.next_walk-walk.new.calls c.loop-rule.n).action c.loop-row.row)
+words_at c = rw (action_at c) c.steps_for-body.ensures.0
+
+fits_at : (c : After-next_walk-walk) → (over c).fits c.number_of-number.result ((open_calls c.next_walk-walk.new.calls c.loop-rule.n).action c.loop-row.row) ≡ true
+fits_at c = rw (c.number_of-number.ensures, action_at c) (sym c.is_at.ensures ∙ c.if-not-is_at.false)
+
+given_at : (c : After-next_walk-walk) (roots : List (ℕ × ℕ)) (begun : Begin) → Done c roots begun (here c) (uses_in c.next_walk-walk.new.calls c.loop-rule.list)
+    → Given (over c) (Among roots) (here c) c.args.stage.answers c.number_of-number.result c.loop-row.row
+    (before c.args.first c.span_of-span.result.old c.args.stage.seen c.span_of-span.result.warm c.args.stage.round begun) c.steps_for-body.result.now
+given_at c roots begun R =
+    let a = c.args in
+    record {
+      proper = proper_with a.rules.now a.goals.first a.goals.second a.goal.now a.second.now c.requires.accepted.2 c.requires.accepted.3;
+      valid = R.rows_closed.before.valid;
+      enough = R.rows_closed.known_in;
+      row_in = omega (arith, R.rows_closed.rows_in, c.loop-row-test.true, c.span_of-span.ensures.spans.top_in);
+      fits = fits_at c;
+      words = words_at c;
+      past = λ (h, k). past_words (words_at c) (rows_past _ _ R.rows_closed c.number_of-number.result (fits_at c) h k);
+      lower = λ j k e g w.
+          rules_lower _ _ _ R j
+          (lower_number a.rules.now a.goals.first a.goals.second a.goal.now a.second.now c.requires.accepted.2.few_rules j
+          ((open_calls c.next_walk-walk.new.calls c.loop-rule.n).action c.loop-row.row) c.loop-rule.rule e
+          (omega (arith, c.loop-rule-test.true, c.past_body-past.ensures.0)) (rw c.number_of-number.ensures at k)) e g w;
+      row_last = λ x h l. R.rows_closed.latest x (omega (arith, R.rows_closed.since.all_known)) l;
+      row_old = omega (arith, R.rows_closed.base_rows, c.loop-row-test.true, c.span_of-span.ensures.spans.top_in);
+      since = R.rows_closed.since;
+    }
+
+-- What the walk's invariant needs, for the roots for which the round stands.
+begins_at : (c : After-next_walk-walk)
+    → Given (over c) (Among c.requires.standing.roots) (here c) c.args.stage.answers c.number_of-number.result c.loop-row.row
+    (before c.args.first c.span_of-span.result.old c.args.stage.seen c.span_of-span.result.warm c.args.stage.round (start c)) c.steps_for-body.result.now
+    × UsesGrew (uses_in c.args.calls.now c.span_of-span.new.list) (uses_in c.next_walk-walk.new.calls c.loop-rule.list)
+begins_at c =
+    let R = rules_at c c.requires.standing.roots c.requires.standing.round in
+    (given_at c c.requires.standing.roots _ R, R.rows_closed.noted)
+
+-- ---- the answers
 
 pub span_of-span-requires : goal.span_of-span-requires
 span_of-span-requires c =
@@ -68,38 +152,18 @@ span_of-span-requires c =
       by_index = p.stale;
     }
 
-pub round-init : goal.round-init
-round-init c =
+pub loop-row-init : goal.loop-row-init
+loop-row-init c =
     let p = c.requires.standing in
     let a = c.span_of-span.ensures.looks_alone in
     record {
       words = record { calls_long = refl; list_long = refl; answers_long = refl; kept = looked_kept a p.kept; indexed = looked_indexed a p.indexed; uses_more = uses_refl _ };
       stamped = p.stamped;
-      calls_same = refl;
-      answers_same = refl;
-      rows_all = refl;
-      known_all = refl;
-      spans = c.span_of-span.ensures.spans;
-      closed = λ roots S W. (S, W);
-    }
-
-pub loop-row-init : goal.loop-row-init
-loop-row-init c =
-    let r = c.round.invariant in
-    record {
-      words = record { calls_long = refl; list_long = refl; answers_long = refl; kept = r.words.kept; indexed = r.words.indexed; uses_more = uses_refl _ };
-      stamped = r.stamped;
       row_in = c.span_of-span.ensures.spans.low_in;
-      rows_in = omega (arith, r.rows_all);
-      known_in = omega (arith, r.known_all);
-      closed = λ roots S W. rw (← r.rows_all, ← r.known_all) (rows_start _ _ _ S (rw (r.answers_same, r.known_all) c.requires.standing.sooner) r.spans (rw (← r.known_all) at W));
+      rows_in = omega arith;
+      known_in = omega arith;
+      closed = λ roots S W. rows_start _ _ _ S p.sooner c.span_of-span.ensures.spans W;
     }
-
-pub overflow_step-row : goal.overflow_step-row
-overflow_step-row c = omega (arith, c.loop-row-test.true)
-
-pub loop-row-smaller-then-row-walked : goal.loop-row-smaller-then-row-walked
-loop-row-smaller-then-row-walked c = omega (arith, c.loop-row-test.true)
 
 pub loop-row-preserved-then-row-walked : goal.loop-row-preserved-then-row-walked
 loop-row-preserved-then-row-walked c =
@@ -140,12 +204,6 @@ action_of-action-requires c = omega (arith, c.loop-rule.invariant.words.kept.cal
 pub is_at-requires : goal.is_at-requires
 is_at-requires c = omega (arith, c.requires.accepted.2.few_rules)
 
-pub overflow_step-rule : goal.overflow_step-rule
-overflow_step-rule c = omega (arith, c.loop-rule-test.true, c.loop-rule.invariant.rule_in, c.requires.accepted.2.few_rules)
-
-pub loop-rule-smaller-then-not-is_at : goal.loop-rule-smaller-then-not-is_at
-loop-rule-smaller-then-not-is_at c = omega (arith, c.loop-rule-test.true)
-
 pub loop-rule-preserved-then-not-is_at : goal.loop-rule-preserved-then-not-is_at
 loop-rule-preserved-then-not-is_at c =
     let l = c.loop-rule.invariant in
@@ -155,20 +213,14 @@ loop-rule-preserved-then-not-is_at c =
       rule_in = omega (arith, c.loop-rule-test.true, c.past_body-past.ensures.0);
       rows_in = l.rows_in;
       known_in = l.known_in;
-      closed = λ roots begun R. rules_skip _ _ _ (l.closed roots begun R) (λ e. true_not_false (sym (rw (← c.action_of-action.ensures) at e) ∙ sym c.is_at.ensures ∙ not-true _ c.if-not-is_at.true-raw));
+      closed = λ roots begun R. rules_skip _ _ _ (l.closed roots begun R) (λ e. true_not_false (sym (rw (← c.action_of-action.ensures) at e) ∙ sym c.is_at.ensures ∙ c.if-not-is_at.true));
     }
 
 pub steps_for-body-requires : goal.steps_for-body-requires
-steps_for-body-requires c = (short_of _ _ c.requires.accepted.2, short_of _ _ c.requires.accepted.3, (c.action_of-action.result, rw c.number_of-number.ensures (sym c.is_at.ensures ∙ not-false _ c.if-not-is_at.false-raw)))
+steps_for-body-requires c = (short_of _ _ c.requires.accepted.2, short_of _ _ c.requires.accepted.3, (c.action_of-action.result, rw c.number_of-number.ensures (sym c.is_at.ensures ∙ c.if-not-is_at.false)))
 
 pub state_of-requires : goal.state_of-requires
 state_of-requires c = omega (arith, c.loop-rule.invariant.words.kept.calls_open.stored.fits, c.loop-rule.invariant.rows_in, c.loop-row-test.true, c.span_of-span.ensures.spans.top_in)
-
-pub overflow_step-rule-then-not-goes_on : goal.overflow_step-rule-then-not-goes_on
-overflow_step-rule-then-not-goes_on c = omega (arith, c.loop-rule-test.true, c.loop-rule.invariant.rule_in, c.requires.accepted.2.few_rules)
-
-pub loop-rule-smaller-then-not-goes_on : goal.loop-rule-smaller-then-not-goes_on
-loop-rule-smaller-then-not-goes_on c = omega (arith, c.loop-rule-test.true)
 
 pub loop-rule-preserved-then-not-goes_on : goal.loop-rule-preserved-then-not-goes_on
 loop-rule-preserved-then-not-goes_on c =
@@ -179,7 +231,7 @@ loop-rule-preserved-then-not-goes_on c =
       rule_in = omega (arith, c.loop-rule-test.true, c.past_body-past.ensures.0);
       rows_in = l.rows_in;
       known_in = l.known_in;
-      closed = λ roots begun R. rules_stopped _ _ _ (l.closed roots begun R) (λ _. rw (c.steps_for-body.ensures.0, c.number_of-number.ensures, c.action_of-action.ensures, c.state_of.ensures) at (c.goes_on.ensures (not-true _ c.if-not-goes_on.true-raw)));
+      closed = λ roots begun R. rules_stopped _ _ _ (l.closed roots begun R) (λ _. rw (c.steps_for-body.ensures.0, c.number_of-number.ensures, c.action_of-action.ensures, c.state_of.ensures) at (c.goes_on.ensures c.if-not-goes_on.true));
     }
 
 pub next_walk-walk-requires : goal.next_walk-walk-requires
@@ -200,315 +252,39 @@ loop-after-init c =
 
 pub turn-turn-requires : goal.turn-turn-requires
 turn-turn-requires c =
+    let B = begins_at (goal.at.turn-turn-requires c).After-next_walk-walk in
+    let G = c.loop-after.invariant.going _ _ B.0 B.1 in
     record {
       kept = (c.loop-after.invariant.words.kept, c.loop-after.invariant.words.indexed, c.requires.standing.early);
-      by_index = (
-        _,
-        c.requires.standing.roots,
-        _,
-        _,
-        (let going_at : Going ((let over : Bodies = bodies_with c.args.rules.now c.args.goals.first c.args.goals.second c.args.goal.now c.args.second.now in over)) (Among c.requires.standing.roots) (in_words c.next_walk-walk.new.calls c.loop-rule.n c.loop-rule.answers c.loop-rule.m)
-            c.args.stage.answers c.number_of-number.result c.loop-row.row c.next_walk-walk.result (before c.args.first c.span_of-span.result.old c.args.stage.seen c.span_of-span.result.warm c.args.stage.round (begin (in_words c.round.calls c.round.n c.round.answers c.round.m) (uses_in c.round.calls c.round.list))) c.steps_for-body.result.now
-            (in_words c.loop-after.calls c.loop-after.n c.loop-after.answers c.loop-after.m) (mark_words c.loop-after.calls) (uses_in c.loop-after.calls c.loop-after.list) c.loop-after.chosen c.loop-after.rest.now (spot_of c.loop-after.spot) = let R = (let rules_at : (rs : List (ℕ × ℕ)) → (let First : List (ℕ × ℕ) → Type 0 = (λ roots. Round ((let over : Bodies = bodies_with c.args.rules.now c.args.goals.first c.args.goals.second c.args.goal.now c.args.second.now in over)) (Among roots) c.args.first c.args.stage.walked c.args.stage.seen
-            (in_words c.args.calls.now c.args.stage.calls c.args.answers.now c.args.stage.answers) (uses_in c.args.calls.now c.args.list.now)) in First) rs
-            → Rules ((let over : Bodies = bodies_with c.args.rules.now c.args.goals.first c.args.goals.second c.args.goal.now c.args.second.now in over)) (Among rs) (number_at (length c.args.rules.now / rule_width)) c.args.first c.args.stage.walked c.args.stage.seen c.span_of-span.result.low c.span_of-span.result.high c.span_of-span.result.top c.span_of-span.result.old c.span_of-span.result.warm
-            c.args.stage.round c.args.stage.calls c.args.stage.answers c.loop-row.row c.loop-rule.rule (begin (in_words c.round.calls c.round.n c.round.answers c.round.m) (uses_in c.round.calls c.round.list)) (in_words c.next_walk-walk.new.calls c.loop-rule.n c.loop-rule.answers c.loop-rule.m) (uses_in c.next_walk-walk.new.calls c.loop-rule.list) = (λ rs S. (let marked_at : (rs : List (ℕ × ℕ)) (begun : Begin) → Rules ((let over : Bodies = bodies_with c.args.rules.now c.args.goals.first c.args.goals.second c.args.goal.now c.args.second.now in over)) (Among rs) (number_at (length c.args.rules.now / rule_width)) c.args.first c.args.stage.walked c.args.stage.seen c.span_of-span.result.low c.span_of-span.result.high c.span_of-span.result.top c.span_of-span.result.old c.span_of-span.result.warm
-            c.args.stage.round c.args.stage.calls c.args.stage.answers c.loop-row.row c.loop-rule.rule begun (in_words c.loop-rule.calls c.loop-rule.n c.loop-rule.answers c.loop-rule.m) (uses_in c.loop-rule.calls c.loop-rule.list)
-            → Rules ((let over : Bodies = bodies_with c.args.rules.now c.args.goals.first c.args.goals.second c.args.goal.now c.args.second.now in over)) (Among rs) (number_at (length c.args.rules.now / rule_width)) c.args.first c.args.stage.walked c.args.stage.seen c.span_of-span.result.low c.span_of-span.result.high c.span_of-span.result.top c.span_of-span.result.old c.span_of-span.result.warm
-            c.args.stage.round c.args.stage.calls c.args.stage.answers c.loop-row.row c.loop-rule.rule begun (in_words c.next_walk-walk.new.calls c.loop-rule.n c.loop-rule.answers c.loop-rule.m) (uses_in c.next_walk-walk.new.calls c.loop-rule.list) = (λ rs begun R. rules_marked (ap (λ (z : Calls). tables z (packed_answers c.loop-rule.answers c.loop-rule.m)) (alone_calls c.next_walk-walk.ensures.1 c.loop-rule.n)) (marked_uses c.next_walk-walk.ensures.1 c.loop-rule.list) R) in marked_at) rs _ (c.loop-rule.invariant.closed rs _ ((let rows_at : (rs : List (ℕ × ℕ)) → (let First : List (ℕ × ℕ) → Type 0 = (λ roots. Round ((let over : Bodies = bodies_with c.args.rules.now c.args.goals.first c.args.goals.second c.args.goal.now c.args.second.now in over)) (Among roots) c.args.first c.args.stage.walked c.args.stage.seen
-            (in_words c.args.calls.now c.args.stage.calls c.args.answers.now c.args.stage.answers) (uses_in c.args.calls.now c.args.list.now)) in First) rs
-            → Rows ((let over : Bodies = bodies_with c.args.rules.now c.args.goals.first c.args.goals.second c.args.goal.now c.args.second.now in over)) (Among rs) c.args.first c.args.stage.walked c.args.stage.seen c.span_of-span.result.low c.span_of-span.result.high c.span_of-span.result.top c.span_of-span.result.old c.span_of-span.result.warm
-            c.args.stage.round c.args.stage.calls c.args.stage.answers c.loop-row.row (begin (in_words c.round.calls c.round.n c.round.answers c.round.m) (uses_in c.round.calls c.round.list)) (in_words c.loop-row.calls c.loop-row.n c.loop-row.answers c.loop-row.m) (uses_in c.loop-row.calls c.loop-row.list) = (λ rs S. let r = c.round.invariant in
-            let b = c.span_of-span.ensures.begun in
-            let (S', W) = r.closed rs (round_kept _ _ (kept_same b.low) S) b.lit in
-            c.loop-row.invariant.closed rs S' (subst (λ (k : ℕ). (x : ℕ) → x < c.span_of-span.result.old → (x < c.args.stage.walked) × Lit (in_words c.round.calls c.round.n c.round.answers c.round.m).answers (uses_in c.round.calls c.round.list) c.args.stage.seen k c.span_of-span.result.warm) r.known_all W)) in rows_at) rs S))) in rules_at) c.requires.standing.roots c.requires.standing.round in
-            c.loop-after.invariant.going c.requires.standing.roots _ ((let given_at : (rs : List (ℕ × ℕ)) (begun : Begin) → Rules ((let over : Bodies = bodies_with c.args.rules.now c.args.goals.first c.args.goals.second c.args.goal.now c.args.second.now in over)) (Among rs) (number_at (length c.args.rules.now / rule_width)) c.args.first c.args.stage.walked c.args.stage.seen c.span_of-span.result.low c.span_of-span.result.high c.span_of-span.result.top c.span_of-span.result.old c.span_of-span.result.warm
-            c.args.stage.round c.args.stage.calls c.args.stage.answers c.loop-row.row c.loop-rule.rule begun (in_words c.next_walk-walk.new.calls c.loop-rule.n c.loop-rule.answers c.loop-rule.m) (uses_in c.next_walk-walk.new.calls c.loop-rule.list)
-            → Given ((let over : Bodies = bodies_with c.args.rules.now c.args.goals.first c.args.goals.second c.args.goal.now c.args.second.now in over)) (Among rs) (in_words c.next_walk-walk.new.calls c.loop-rule.n c.loop-rule.answers c.loop-rule.m)
-            c.args.stage.answers c.number_of-number.result c.loop-row.row (before c.args.first c.span_of-span.result.old c.args.stage.seen c.span_of-span.result.warm c.args.stage.round begun) c.steps_for-body.result.now = (λ rs begun R. record {
-              proper = proper_with c.args.rules.now c.args.goals.first c.args.goals.second c.args.goal.now c.args.second.now c.requires.accepted.2 c.requires.accepted.3;
-              valid = R.rows_closed.before.valid;
-              enough = R.rows_closed.known_in;
-              row_in = omega (arith, R.rows_closed.rows_in, c.loop-row-test.true, c.span_of-span.ensures.spans.top_in);
-              fits = rw (c.number_of-number.ensures, (let action_at : (open_calls c.next_walk-walk.new.calls c.loop-rule.n).action c.loop-row.row ≡ c.action_of-action.result = ap (λ (z : Calls). z.action c.loop-row.row) (alone_calls c.next_walk-walk.ensures.1 c.loop-rule.n) ∙ sym c.action_of-action.ensures in action_at)) (sym c.is_at.ensures ∙ not-false _ c.if-not-is_at.false-raw);
-              words = (let words_at : c.steps_for-body.result.now ≡ ((let over : Bodies = bodies_with c.args.rules.now c.args.goals.first c.args.goals.second c.args.goal.now c.args.second.now in over)).words c.number_of-number.result ((open_calls c.next_walk-walk.new.calls c.loop-rule.n).action c.loop-row.row) = rw ((let action_at : (open_calls c.next_walk-walk.new.calls c.loop-rule.n).action c.loop-row.row ≡ c.action_of-action.result = ap (λ (z : Calls). z.action c.loop-row.row) (alone_calls c.next_walk-walk.ensures.1 c.loop-rule.n) ∙ sym c.action_of-action.ensures in action_at)) c.steps_for-body.ensures.0 in words_at);
-              past = λ (h, k). past_words ((let words_at : c.steps_for-body.result.now ≡ ((let over : Bodies = bodies_with c.args.rules.now c.args.goals.first c.args.goals.second c.args.goal.now c.args.second.now in over)).words c.number_of-number.result ((open_calls c.next_walk-walk.new.calls c.loop-rule.n).action c.loop-row.row) = rw ((let action_at : (open_calls c.next_walk-walk.new.calls c.loop-rule.n).action c.loop-row.row ≡ c.action_of-action.result = ap (λ (z : Calls). z.action c.loop-row.row) (alone_calls c.next_walk-walk.ensures.1 c.loop-rule.n) ∙ sym c.action_of-action.ensures in action_at)) c.steps_for-body.ensures.0 in words_at)) (rows_past _ _ R.rows_closed c.number_of-number.result (rw (c.number_of-number.ensures, (let action_at : (open_calls c.next_walk-walk.new.calls c.loop-rule.n).action c.loop-row.row ≡ c.action_of-action.result = ap (λ (z : Calls). z.action c.loop-row.row) (alone_calls c.next_walk-walk.ensures.1 c.loop-rule.n) ∙ sym c.action_of-action.ensures in action_at)) (sym c.is_at.ensures ∙ not-false _ c.if-not-is_at.false-raw)) h k);
-              lower = λ j k e g w. rules_lower _ _ _ R j (lower_number c.args.rules.now c.args.goals.first c.args.goals.second c.args.goal.now c.args.second.now c.requires.accepted.2.few_rules j ((open_calls c.next_walk-walk.new.calls c.loop-rule.n).action c.loop-row.row) c.loop-rule.rule e (omega (arith, c.loop-rule-test.true, c.past_body-past.ensures.0)) (rw c.number_of-number.ensures at k)) e g w;
-              row_last = λ x h l. R.rows_closed.latest x (omega (arith, R.rows_closed.since.all_known)) l;
-              row_old = omega (arith, R.rows_closed.base_rows, c.loop-row-test.true, c.span_of-span.ensures.spans.top_in);
-              since = R.rows_closed.since;
-            }) in given_at) c.requires.standing.roots _ R) R.rows_closed.noted in going_at),
-      );
+      by_index = (_, c.requires.standing.roots, _, _, G);
     }
 
 pub slice_bounds-rest-count : goal.slice_bounds-rest-count
 slice_bounds-rest-count c =
+    let B = begins_at (goal.at.slice_bounds-rest-count c).After-next_walk-walk in
+    let G = c.loop-after.invariant.going _ _ B.0 B.1 in
     omega (
       arith,
-      (rw c.in-On.is at (c.turn-turn.ensures.leaving _ _ _ _ ((let going_at : Going ((let over : Bodies = bodies_with c.args.rules.now c.args.goals.first c.args.goals.second c.args.goal.now c.args.second.now in over)) (Among c.requires.standing.roots) (in_words c.next_walk-walk.new.calls c.loop-rule.n c.loop-rule.answers c.loop-rule.m)
-          c.args.stage.answers c.number_of-number.result c.loop-row.row c.next_walk-walk.result (before c.args.first c.span_of-span.result.old c.args.stage.seen c.span_of-span.result.warm c.args.stage.round (begin (in_words c.round.calls c.round.n c.round.answers c.round.m) (uses_in c.round.calls c.round.list))) c.steps_for-body.result.now
-          (in_words c.loop-after.calls c.loop-after.n c.loop-after.answers c.loop-after.m) (mark_words c.loop-after.calls) (uses_in c.loop-after.calls c.loop-after.list) c.loop-after.chosen c.loop-after.rest.now (spot_of c.loop-after.spot) = let R = (let rules_at : (rs : List (ℕ × ℕ)) → (let First : List (ℕ × ℕ) → Type 0 = (λ roots. Round ((let over : Bodies = bodies_with c.args.rules.now c.args.goals.first c.args.goals.second c.args.goal.now c.args.second.now in over)) (Among roots) c.args.first c.args.stage.walked c.args.stage.seen
-          (in_words c.args.calls.now c.args.stage.calls c.args.answers.now c.args.stage.answers) (uses_in c.args.calls.now c.args.list.now)) in First) rs
-          → Rules ((let over : Bodies = bodies_with c.args.rules.now c.args.goals.first c.args.goals.second c.args.goal.now c.args.second.now in over)) (Among rs) (number_at (length c.args.rules.now / rule_width)) c.args.first c.args.stage.walked c.args.stage.seen c.span_of-span.result.low c.span_of-span.result.high c.span_of-span.result.top c.span_of-span.result.old c.span_of-span.result.warm
-          c.args.stage.round c.args.stage.calls c.args.stage.answers c.loop-row.row c.loop-rule.rule (begin (in_words c.round.calls c.round.n c.round.answers c.round.m) (uses_in c.round.calls c.round.list)) (in_words c.next_walk-walk.new.calls c.loop-rule.n c.loop-rule.answers c.loop-rule.m) (uses_in c.next_walk-walk.new.calls c.loop-rule.list) = (λ rs S. (let marked_at : (rs : List (ℕ × ℕ)) (begun : Begin) → Rules ((let over : Bodies = bodies_with c.args.rules.now c.args.goals.first c.args.goals.second c.args.goal.now c.args.second.now in over)) (Among rs) (number_at (length c.args.rules.now / rule_width)) c.args.first c.args.stage.walked c.args.stage.seen c.span_of-span.result.low c.span_of-span.result.high c.span_of-span.result.top c.span_of-span.result.old c.span_of-span.result.warm
-          c.args.stage.round c.args.stage.calls c.args.stage.answers c.loop-row.row c.loop-rule.rule begun (in_words c.loop-rule.calls c.loop-rule.n c.loop-rule.answers c.loop-rule.m) (uses_in c.loop-rule.calls c.loop-rule.list)
-          → Rules ((let over : Bodies = bodies_with c.args.rules.now c.args.goals.first c.args.goals.second c.args.goal.now c.args.second.now in over)) (Among rs) (number_at (length c.args.rules.now / rule_width)) c.args.first c.args.stage.walked c.args.stage.seen c.span_of-span.result.low c.span_of-span.result.high c.span_of-span.result.top c.span_of-span.result.old c.span_of-span.result.warm
-          c.args.stage.round c.args.stage.calls c.args.stage.answers c.loop-row.row c.loop-rule.rule begun (in_words c.next_walk-walk.new.calls c.loop-rule.n c.loop-rule.answers c.loop-rule.m) (uses_in c.next_walk-walk.new.calls c.loop-rule.list) = (λ rs begun R. rules_marked (ap (λ (z : Calls). tables z (packed_answers c.loop-rule.answers c.loop-rule.m)) (alone_calls c.next_walk-walk.ensures.1 c.loop-rule.n)) (marked_uses c.next_walk-walk.ensures.1 c.loop-rule.list) R) in marked_at) rs _ (c.loop-rule.invariant.closed rs _ ((let rows_at : (rs : List (ℕ × ℕ)) → (let First : List (ℕ × ℕ) → Type 0 = (λ roots. Round ((let over : Bodies = bodies_with c.args.rules.now c.args.goals.first c.args.goals.second c.args.goal.now c.args.second.now in over)) (Among roots) c.args.first c.args.stage.walked c.args.stage.seen
-          (in_words c.args.calls.now c.args.stage.calls c.args.answers.now c.args.stage.answers) (uses_in c.args.calls.now c.args.list.now)) in First) rs
-          → Rows ((let over : Bodies = bodies_with c.args.rules.now c.args.goals.first c.args.goals.second c.args.goal.now c.args.second.now in over)) (Among rs) c.args.first c.args.stage.walked c.args.stage.seen c.span_of-span.result.low c.span_of-span.result.high c.span_of-span.result.top c.span_of-span.result.old c.span_of-span.result.warm
-          c.args.stage.round c.args.stage.calls c.args.stage.answers c.loop-row.row (begin (in_words c.round.calls c.round.n c.round.answers c.round.m) (uses_in c.round.calls c.round.list)) (in_words c.loop-row.calls c.loop-row.n c.loop-row.answers c.loop-row.m) (uses_in c.loop-row.calls c.loop-row.list) = (λ rs S. let r = c.round.invariant in
-          let b = c.span_of-span.ensures.begun in
-          let (S', W) = r.closed rs (round_kept _ _ (kept_same b.low) S) b.lit in
-          c.loop-row.invariant.closed rs S' (subst (λ (k : ℕ). (x : ℕ) → x < c.span_of-span.result.old → (x < c.args.stage.walked) × Lit (in_words c.round.calls c.round.n c.round.answers c.round.m).answers (uses_in c.round.calls c.round.list) c.args.stage.seen k c.span_of-span.result.warm) r.known_all W)) in rows_at) rs S))) in rules_at) c.requires.standing.roots c.requires.standing.round in
-          c.loop-after.invariant.going c.requires.standing.roots _ ((let given_at : (rs : List (ℕ × ℕ)) (begun : Begin) → Rules ((let over : Bodies = bodies_with c.args.rules.now c.args.goals.first c.args.goals.second c.args.goal.now c.args.second.now in over)) (Among rs) (number_at (length c.args.rules.now / rule_width)) c.args.first c.args.stage.walked c.args.stage.seen c.span_of-span.result.low c.span_of-span.result.high c.span_of-span.result.top c.span_of-span.result.old c.span_of-span.result.warm
-          c.args.stage.round c.args.stage.calls c.args.stage.answers c.loop-row.row c.loop-rule.rule begun (in_words c.next_walk-walk.new.calls c.loop-rule.n c.loop-rule.answers c.loop-rule.m) (uses_in c.next_walk-walk.new.calls c.loop-rule.list)
-          → Given ((let over : Bodies = bodies_with c.args.rules.now c.args.goals.first c.args.goals.second c.args.goal.now c.args.second.now in over)) (Among rs) (in_words c.next_walk-walk.new.calls c.loop-rule.n c.loop-rule.answers c.loop-rule.m)
-          c.args.stage.answers c.number_of-number.result c.loop-row.row (before c.args.first c.span_of-span.result.old c.args.stage.seen c.span_of-span.result.warm c.args.stage.round begun) c.steps_for-body.result.now = (λ rs begun R. record {
-            proper = proper_with c.args.rules.now c.args.goals.first c.args.goals.second c.args.goal.now c.args.second.now c.requires.accepted.2 c.requires.accepted.3;
-            valid = R.rows_closed.before.valid;
-            enough = R.rows_closed.known_in;
-            row_in = omega (arith, R.rows_closed.rows_in, c.loop-row-test.true, c.span_of-span.ensures.spans.top_in);
-            fits = rw (c.number_of-number.ensures, (let action_at : (open_calls c.next_walk-walk.new.calls c.loop-rule.n).action c.loop-row.row ≡ c.action_of-action.result = ap (λ (z : Calls). z.action c.loop-row.row) (alone_calls c.next_walk-walk.ensures.1 c.loop-rule.n) ∙ sym c.action_of-action.ensures in action_at)) (sym c.is_at.ensures ∙ not-false _ c.if-not-is_at.false-raw);
-            words = (let words_at : c.steps_for-body.result.now ≡ ((let over : Bodies = bodies_with c.args.rules.now c.args.goals.first c.args.goals.second c.args.goal.now c.args.second.now in over)).words c.number_of-number.result ((open_calls c.next_walk-walk.new.calls c.loop-rule.n).action c.loop-row.row) = rw ((let action_at : (open_calls c.next_walk-walk.new.calls c.loop-rule.n).action c.loop-row.row ≡ c.action_of-action.result = ap (λ (z : Calls). z.action c.loop-row.row) (alone_calls c.next_walk-walk.ensures.1 c.loop-rule.n) ∙ sym c.action_of-action.ensures in action_at)) c.steps_for-body.ensures.0 in words_at);
-            past = λ (h, k). past_words ((let words_at : c.steps_for-body.result.now ≡ ((let over : Bodies = bodies_with c.args.rules.now c.args.goals.first c.args.goals.second c.args.goal.now c.args.second.now in over)).words c.number_of-number.result ((open_calls c.next_walk-walk.new.calls c.loop-rule.n).action c.loop-row.row) = rw ((let action_at : (open_calls c.next_walk-walk.new.calls c.loop-rule.n).action c.loop-row.row ≡ c.action_of-action.result = ap (λ (z : Calls). z.action c.loop-row.row) (alone_calls c.next_walk-walk.ensures.1 c.loop-rule.n) ∙ sym c.action_of-action.ensures in action_at)) c.steps_for-body.ensures.0 in words_at)) (rows_past _ _ R.rows_closed c.number_of-number.result (rw (c.number_of-number.ensures, (let action_at : (open_calls c.next_walk-walk.new.calls c.loop-rule.n).action c.loop-row.row ≡ c.action_of-action.result = ap (λ (z : Calls). z.action c.loop-row.row) (alone_calls c.next_walk-walk.ensures.1 c.loop-rule.n) ∙ sym c.action_of-action.ensures in action_at)) (sym c.is_at.ensures ∙ not-false _ c.if-not-is_at.false-raw)) h k);
-            lower = λ j k e g w. rules_lower _ _ _ R j (lower_number c.args.rules.now c.args.goals.first c.args.goals.second c.args.goal.now c.args.second.now c.requires.accepted.2.few_rules j ((open_calls c.next_walk-walk.new.calls c.loop-rule.n).action c.loop-row.row) c.loop-rule.rule e (omega (arith, c.loop-rule-test.true, c.past_body-past.ensures.0)) (rw c.number_of-number.ensures at k)) e g w;
-            row_last = λ x h l. R.rows_closed.latest x (omega (arith, R.rows_closed.since.all_known)) l;
-            row_old = omega (arith, R.rows_closed.base_rows, c.loop-row-test.true, c.span_of-span.ensures.spans.top_in);
-            since = R.rows_closed.since;
-          }) in given_at) c.requires.standing.roots _ R) R.rows_closed.noted in going_at)))).0.walking.inside,
-      going_fits _ _ _ _ _ _ _ _ _ ((let going_at : Going ((let over : Bodies = bodies_with c.args.rules.now c.args.goals.first c.args.goals.second c.args.goal.now c.args.second.now in over)) (Among c.requires.standing.roots) (in_words c.next_walk-walk.new.calls c.loop-rule.n c.loop-rule.answers c.loop-rule.m)
-          c.args.stage.answers c.number_of-number.result c.loop-row.row c.next_walk-walk.result (before c.args.first c.span_of-span.result.old c.args.stage.seen c.span_of-span.result.warm c.args.stage.round (begin (in_words c.round.calls c.round.n c.round.answers c.round.m) (uses_in c.round.calls c.round.list))) c.steps_for-body.result.now
-          (in_words c.loop-after.calls c.loop-after.n c.loop-after.answers c.loop-after.m) (mark_words c.loop-after.calls) (uses_in c.loop-after.calls c.loop-after.list) c.loop-after.chosen c.loop-after.rest.now (spot_of c.loop-after.spot) = let R = (let rules_at : (rs : List (ℕ × ℕ)) → (let First : List (ℕ × ℕ) → Type 0 = (λ roots. Round ((let over : Bodies = bodies_with c.args.rules.now c.args.goals.first c.args.goals.second c.args.goal.now c.args.second.now in over)) (Among roots) c.args.first c.args.stage.walked c.args.stage.seen
-          (in_words c.args.calls.now c.args.stage.calls c.args.answers.now c.args.stage.answers) (uses_in c.args.calls.now c.args.list.now)) in First) rs
-          → Rules ((let over : Bodies = bodies_with c.args.rules.now c.args.goals.first c.args.goals.second c.args.goal.now c.args.second.now in over)) (Among rs) (number_at (length c.args.rules.now / rule_width)) c.args.first c.args.stage.walked c.args.stage.seen c.span_of-span.result.low c.span_of-span.result.high c.span_of-span.result.top c.span_of-span.result.old c.span_of-span.result.warm
-          c.args.stage.round c.args.stage.calls c.args.stage.answers c.loop-row.row c.loop-rule.rule (begin (in_words c.round.calls c.round.n c.round.answers c.round.m) (uses_in c.round.calls c.round.list)) (in_words c.next_walk-walk.new.calls c.loop-rule.n c.loop-rule.answers c.loop-rule.m) (uses_in c.next_walk-walk.new.calls c.loop-rule.list) = (λ rs S. (let marked_at : (rs : List (ℕ × ℕ)) (begun : Begin) → Rules ((let over : Bodies = bodies_with c.args.rules.now c.args.goals.first c.args.goals.second c.args.goal.now c.args.second.now in over)) (Among rs) (number_at (length c.args.rules.now / rule_width)) c.args.first c.args.stage.walked c.args.stage.seen c.span_of-span.result.low c.span_of-span.result.high c.span_of-span.result.top c.span_of-span.result.old c.span_of-span.result.warm
-          c.args.stage.round c.args.stage.calls c.args.stage.answers c.loop-row.row c.loop-rule.rule begun (in_words c.loop-rule.calls c.loop-rule.n c.loop-rule.answers c.loop-rule.m) (uses_in c.loop-rule.calls c.loop-rule.list)
-          → Rules ((let over : Bodies = bodies_with c.args.rules.now c.args.goals.first c.args.goals.second c.args.goal.now c.args.second.now in over)) (Among rs) (number_at (length c.args.rules.now / rule_width)) c.args.first c.args.stage.walked c.args.stage.seen c.span_of-span.result.low c.span_of-span.result.high c.span_of-span.result.top c.span_of-span.result.old c.span_of-span.result.warm
-          c.args.stage.round c.args.stage.calls c.args.stage.answers c.loop-row.row c.loop-rule.rule begun (in_words c.next_walk-walk.new.calls c.loop-rule.n c.loop-rule.answers c.loop-rule.m) (uses_in c.next_walk-walk.new.calls c.loop-rule.list) = (λ rs begun R. rules_marked (ap (λ (z : Calls). tables z (packed_answers c.loop-rule.answers c.loop-rule.m)) (alone_calls c.next_walk-walk.ensures.1 c.loop-rule.n)) (marked_uses c.next_walk-walk.ensures.1 c.loop-rule.list) R) in marked_at) rs _ (c.loop-rule.invariant.closed rs _ ((let rows_at : (rs : List (ℕ × ℕ)) → (let First : List (ℕ × ℕ) → Type 0 = (λ roots. Round ((let over : Bodies = bodies_with c.args.rules.now c.args.goals.first c.args.goals.second c.args.goal.now c.args.second.now in over)) (Among roots) c.args.first c.args.stage.walked c.args.stage.seen
-          (in_words c.args.calls.now c.args.stage.calls c.args.answers.now c.args.stage.answers) (uses_in c.args.calls.now c.args.list.now)) in First) rs
-          → Rows ((let over : Bodies = bodies_with c.args.rules.now c.args.goals.first c.args.goals.second c.args.goal.now c.args.second.now in over)) (Among rs) c.args.first c.args.stage.walked c.args.stage.seen c.span_of-span.result.low c.span_of-span.result.high c.span_of-span.result.top c.span_of-span.result.old c.span_of-span.result.warm
-          c.args.stage.round c.args.stage.calls c.args.stage.answers c.loop-row.row (begin (in_words c.round.calls c.round.n c.round.answers c.round.m) (uses_in c.round.calls c.round.list)) (in_words c.loop-row.calls c.loop-row.n c.loop-row.answers c.loop-row.m) (uses_in c.loop-row.calls c.loop-row.list) = (λ rs S. let r = c.round.invariant in
-          let b = c.span_of-span.ensures.begun in
-          let (S', W) = r.closed rs (round_kept _ _ (kept_same b.low) S) b.lit in
-          c.loop-row.invariant.closed rs S' (subst (λ (k : ℕ). (x : ℕ) → x < c.span_of-span.result.old → (x < c.args.stage.walked) × Lit (in_words c.round.calls c.round.n c.round.answers c.round.m).answers (uses_in c.round.calls c.round.list) c.args.stage.seen k c.span_of-span.result.warm) r.known_all W)) in rows_at) rs S))) in rules_at) c.requires.standing.roots c.requires.standing.round in
-          c.loop-after.invariant.going c.requires.standing.roots _ ((let given_at : (rs : List (ℕ × ℕ)) (begun : Begin) → Rules ((let over : Bodies = bodies_with c.args.rules.now c.args.goals.first c.args.goals.second c.args.goal.now c.args.second.now in over)) (Among rs) (number_at (length c.args.rules.now / rule_width)) c.args.first c.args.stage.walked c.args.stage.seen c.span_of-span.result.low c.span_of-span.result.high c.span_of-span.result.top c.span_of-span.result.old c.span_of-span.result.warm
-          c.args.stage.round c.args.stage.calls c.args.stage.answers c.loop-row.row c.loop-rule.rule begun (in_words c.next_walk-walk.new.calls c.loop-rule.n c.loop-rule.answers c.loop-rule.m) (uses_in c.next_walk-walk.new.calls c.loop-rule.list)
-          → Given ((let over : Bodies = bodies_with c.args.rules.now c.args.goals.first c.args.goals.second c.args.goal.now c.args.second.now in over)) (Among rs) (in_words c.next_walk-walk.new.calls c.loop-rule.n c.loop-rule.answers c.loop-rule.m)
-          c.args.stage.answers c.number_of-number.result c.loop-row.row (before c.args.first c.span_of-span.result.old c.args.stage.seen c.span_of-span.result.warm c.args.stage.round begun) c.steps_for-body.result.now = (λ rs begun R. record {
-            proper = proper_with c.args.rules.now c.args.goals.first c.args.goals.second c.args.goal.now c.args.second.now c.requires.accepted.2 c.requires.accepted.3;
-            valid = R.rows_closed.before.valid;
-            enough = R.rows_closed.known_in;
-            row_in = omega (arith, R.rows_closed.rows_in, c.loop-row-test.true, c.span_of-span.ensures.spans.top_in);
-            fits = rw (c.number_of-number.ensures, (let action_at : (open_calls c.next_walk-walk.new.calls c.loop-rule.n).action c.loop-row.row ≡ c.action_of-action.result = ap (λ (z : Calls). z.action c.loop-row.row) (alone_calls c.next_walk-walk.ensures.1 c.loop-rule.n) ∙ sym c.action_of-action.ensures in action_at)) (sym c.is_at.ensures ∙ not-false _ c.if-not-is_at.false-raw);
-            words = (let words_at : c.steps_for-body.result.now ≡ ((let over : Bodies = bodies_with c.args.rules.now c.args.goals.first c.args.goals.second c.args.goal.now c.args.second.now in over)).words c.number_of-number.result ((open_calls c.next_walk-walk.new.calls c.loop-rule.n).action c.loop-row.row) = rw ((let action_at : (open_calls c.next_walk-walk.new.calls c.loop-rule.n).action c.loop-row.row ≡ c.action_of-action.result = ap (λ (z : Calls). z.action c.loop-row.row) (alone_calls c.next_walk-walk.ensures.1 c.loop-rule.n) ∙ sym c.action_of-action.ensures in action_at)) c.steps_for-body.ensures.0 in words_at);
-            past = λ (h, k). past_words ((let words_at : c.steps_for-body.result.now ≡ ((let over : Bodies = bodies_with c.args.rules.now c.args.goals.first c.args.goals.second c.args.goal.now c.args.second.now in over)).words c.number_of-number.result ((open_calls c.next_walk-walk.new.calls c.loop-rule.n).action c.loop-row.row) = rw ((let action_at : (open_calls c.next_walk-walk.new.calls c.loop-rule.n).action c.loop-row.row ≡ c.action_of-action.result = ap (λ (z : Calls). z.action c.loop-row.row) (alone_calls c.next_walk-walk.ensures.1 c.loop-rule.n) ∙ sym c.action_of-action.ensures in action_at)) c.steps_for-body.ensures.0 in words_at)) (rows_past _ _ R.rows_closed c.number_of-number.result (rw (c.number_of-number.ensures, (let action_at : (open_calls c.next_walk-walk.new.calls c.loop-rule.n).action c.loop-row.row ≡ c.action_of-action.result = ap (λ (z : Calls). z.action c.loop-row.row) (alone_calls c.next_walk-walk.ensures.1 c.loop-rule.n) ∙ sym c.action_of-action.ensures in action_at)) (sym c.is_at.ensures ∙ not-false _ c.if-not-is_at.false-raw)) h k);
-            lower = λ j k e g w. rules_lower _ _ _ R j (lower_number c.args.rules.now c.args.goals.first c.args.goals.second c.args.goal.now c.args.second.now c.requires.accepted.2.few_rules j ((open_calls c.next_walk-walk.new.calls c.loop-rule.n).action c.loop-row.row) c.loop-rule.rule e (omega (arith, c.loop-rule-test.true, c.past_body-past.ensures.0)) (rw c.number_of-number.ensures at k)) e g w;
-            row_last = λ x h l. R.rows_closed.latest x (omega (arith, R.rows_closed.since.all_known)) l;
-            row_old = omega (arith, R.rows_closed.base_rows, c.loop-row-test.true, c.span_of-span.ensures.spans.top_in);
-            since = R.rows_closed.since;
-          }) in given_at) c.requires.standing.roots _ R) R.rows_closed.noted in going_at)),
+      (rw c.in-On.is at (c.turn-turn.ensures.leaving _ _ _ _ G)).0.walking.inside,
+      going_fits _ _ _ _ _ _ _ _ _ G,
     )
 
 pub slice_bounds-rest-start : goal.slice_bounds-rest-start
 slice_bounds-rest-start c =
+    let B = begins_at (goal.at.slice_bounds-rest-start c).After-next_walk-walk in
+    let G = c.loop-after.invariant.going _ _ B.0 B.1 in
     omega (
       arith,
-      (rw c.in-On.is at (c.turn-turn.ensures.leaving _ _ _ _ ((let going_at : Going ((let over : Bodies = bodies_with c.args.rules.now c.args.goals.first c.args.goals.second c.args.goal.now c.args.second.now in over)) (Among c.requires.standing.roots) (in_words c.next_walk-walk.new.calls c.loop-rule.n c.loop-rule.answers c.loop-rule.m)
-          c.args.stage.answers c.number_of-number.result c.loop-row.row c.next_walk-walk.result (before c.args.first c.span_of-span.result.old c.args.stage.seen c.span_of-span.result.warm c.args.stage.round (begin (in_words c.round.calls c.round.n c.round.answers c.round.m) (uses_in c.round.calls c.round.list))) c.steps_for-body.result.now
-          (in_words c.loop-after.calls c.loop-after.n c.loop-after.answers c.loop-after.m) (mark_words c.loop-after.calls) (uses_in c.loop-after.calls c.loop-after.list) c.loop-after.chosen c.loop-after.rest.now (spot_of c.loop-after.spot) = let R = (let rules_at : (rs : List (ℕ × ℕ)) → (let First : List (ℕ × ℕ) → Type 0 = (λ roots. Round ((let over : Bodies = bodies_with c.args.rules.now c.args.goals.first c.args.goals.second c.args.goal.now c.args.second.now in over)) (Among roots) c.args.first c.args.stage.walked c.args.stage.seen
-          (in_words c.args.calls.now c.args.stage.calls c.args.answers.now c.args.stage.answers) (uses_in c.args.calls.now c.args.list.now)) in First) rs
-          → Rules ((let over : Bodies = bodies_with c.args.rules.now c.args.goals.first c.args.goals.second c.args.goal.now c.args.second.now in over)) (Among rs) (number_at (length c.args.rules.now / rule_width)) c.args.first c.args.stage.walked c.args.stage.seen c.span_of-span.result.low c.span_of-span.result.high c.span_of-span.result.top c.span_of-span.result.old c.span_of-span.result.warm
-          c.args.stage.round c.args.stage.calls c.args.stage.answers c.loop-row.row c.loop-rule.rule (begin (in_words c.round.calls c.round.n c.round.answers c.round.m) (uses_in c.round.calls c.round.list)) (in_words c.next_walk-walk.new.calls c.loop-rule.n c.loop-rule.answers c.loop-rule.m) (uses_in c.next_walk-walk.new.calls c.loop-rule.list) = (λ rs S. (let marked_at : (rs : List (ℕ × ℕ)) (begun : Begin) → Rules ((let over : Bodies = bodies_with c.args.rules.now c.args.goals.first c.args.goals.second c.args.goal.now c.args.second.now in over)) (Among rs) (number_at (length c.args.rules.now / rule_width)) c.args.first c.args.stage.walked c.args.stage.seen c.span_of-span.result.low c.span_of-span.result.high c.span_of-span.result.top c.span_of-span.result.old c.span_of-span.result.warm
-          c.args.stage.round c.args.stage.calls c.args.stage.answers c.loop-row.row c.loop-rule.rule begun (in_words c.loop-rule.calls c.loop-rule.n c.loop-rule.answers c.loop-rule.m) (uses_in c.loop-rule.calls c.loop-rule.list)
-          → Rules ((let over : Bodies = bodies_with c.args.rules.now c.args.goals.first c.args.goals.second c.args.goal.now c.args.second.now in over)) (Among rs) (number_at (length c.args.rules.now / rule_width)) c.args.first c.args.stage.walked c.args.stage.seen c.span_of-span.result.low c.span_of-span.result.high c.span_of-span.result.top c.span_of-span.result.old c.span_of-span.result.warm
-          c.args.stage.round c.args.stage.calls c.args.stage.answers c.loop-row.row c.loop-rule.rule begun (in_words c.next_walk-walk.new.calls c.loop-rule.n c.loop-rule.answers c.loop-rule.m) (uses_in c.next_walk-walk.new.calls c.loop-rule.list) = (λ rs begun R. rules_marked (ap (λ (z : Calls). tables z (packed_answers c.loop-rule.answers c.loop-rule.m)) (alone_calls c.next_walk-walk.ensures.1 c.loop-rule.n)) (marked_uses c.next_walk-walk.ensures.1 c.loop-rule.list) R) in marked_at) rs _ (c.loop-rule.invariant.closed rs _ ((let rows_at : (rs : List (ℕ × ℕ)) → (let First : List (ℕ × ℕ) → Type 0 = (λ roots. Round ((let over : Bodies = bodies_with c.args.rules.now c.args.goals.first c.args.goals.second c.args.goal.now c.args.second.now in over)) (Among roots) c.args.first c.args.stage.walked c.args.stage.seen
-          (in_words c.args.calls.now c.args.stage.calls c.args.answers.now c.args.stage.answers) (uses_in c.args.calls.now c.args.list.now)) in First) rs
-          → Rows ((let over : Bodies = bodies_with c.args.rules.now c.args.goals.first c.args.goals.second c.args.goal.now c.args.second.now in over)) (Among rs) c.args.first c.args.stage.walked c.args.stage.seen c.span_of-span.result.low c.span_of-span.result.high c.span_of-span.result.top c.span_of-span.result.old c.span_of-span.result.warm
-          c.args.stage.round c.args.stage.calls c.args.stage.answers c.loop-row.row (begin (in_words c.round.calls c.round.n c.round.answers c.round.m) (uses_in c.round.calls c.round.list)) (in_words c.loop-row.calls c.loop-row.n c.loop-row.answers c.loop-row.m) (uses_in c.loop-row.calls c.loop-row.list) = (λ rs S. let r = c.round.invariant in
-          let b = c.span_of-span.ensures.begun in
-          let (S', W) = r.closed rs (round_kept _ _ (kept_same b.low) S) b.lit in
-          c.loop-row.invariant.closed rs S' (subst (λ (k : ℕ). (x : ℕ) → x < c.span_of-span.result.old → (x < c.args.stage.walked) × Lit (in_words c.round.calls c.round.n c.round.answers c.round.m).answers (uses_in c.round.calls c.round.list) c.args.stage.seen k c.span_of-span.result.warm) r.known_all W)) in rows_at) rs S))) in rules_at) c.requires.standing.roots c.requires.standing.round in
-          c.loop-after.invariant.going c.requires.standing.roots _ ((let given_at : (rs : List (ℕ × ℕ)) (begun : Begin) → Rules ((let over : Bodies = bodies_with c.args.rules.now c.args.goals.first c.args.goals.second c.args.goal.now c.args.second.now in over)) (Among rs) (number_at (length c.args.rules.now / rule_width)) c.args.first c.args.stage.walked c.args.stage.seen c.span_of-span.result.low c.span_of-span.result.high c.span_of-span.result.top c.span_of-span.result.old c.span_of-span.result.warm
-          c.args.stage.round c.args.stage.calls c.args.stage.answers c.loop-row.row c.loop-rule.rule begun (in_words c.next_walk-walk.new.calls c.loop-rule.n c.loop-rule.answers c.loop-rule.m) (uses_in c.next_walk-walk.new.calls c.loop-rule.list)
-          → Given ((let over : Bodies = bodies_with c.args.rules.now c.args.goals.first c.args.goals.second c.args.goal.now c.args.second.now in over)) (Among rs) (in_words c.next_walk-walk.new.calls c.loop-rule.n c.loop-rule.answers c.loop-rule.m)
-          c.args.stage.answers c.number_of-number.result c.loop-row.row (before c.args.first c.span_of-span.result.old c.args.stage.seen c.span_of-span.result.warm c.args.stage.round begun) c.steps_for-body.result.now = (λ rs begun R. record {
-            proper = proper_with c.args.rules.now c.args.goals.first c.args.goals.second c.args.goal.now c.args.second.now c.requires.accepted.2 c.requires.accepted.3;
-            valid = R.rows_closed.before.valid;
-            enough = R.rows_closed.known_in;
-            row_in = omega (arith, R.rows_closed.rows_in, c.loop-row-test.true, c.span_of-span.ensures.spans.top_in);
-            fits = rw (c.number_of-number.ensures, (let action_at : (open_calls c.next_walk-walk.new.calls c.loop-rule.n).action c.loop-row.row ≡ c.action_of-action.result = ap (λ (z : Calls). z.action c.loop-row.row) (alone_calls c.next_walk-walk.ensures.1 c.loop-rule.n) ∙ sym c.action_of-action.ensures in action_at)) (sym c.is_at.ensures ∙ not-false _ c.if-not-is_at.false-raw);
-            words = (let words_at : c.steps_for-body.result.now ≡ ((let over : Bodies = bodies_with c.args.rules.now c.args.goals.first c.args.goals.second c.args.goal.now c.args.second.now in over)).words c.number_of-number.result ((open_calls c.next_walk-walk.new.calls c.loop-rule.n).action c.loop-row.row) = rw ((let action_at : (open_calls c.next_walk-walk.new.calls c.loop-rule.n).action c.loop-row.row ≡ c.action_of-action.result = ap (λ (z : Calls). z.action c.loop-row.row) (alone_calls c.next_walk-walk.ensures.1 c.loop-rule.n) ∙ sym c.action_of-action.ensures in action_at)) c.steps_for-body.ensures.0 in words_at);
-            past = λ (h, k). past_words ((let words_at : c.steps_for-body.result.now ≡ ((let over : Bodies = bodies_with c.args.rules.now c.args.goals.first c.args.goals.second c.args.goal.now c.args.second.now in over)).words c.number_of-number.result ((open_calls c.next_walk-walk.new.calls c.loop-rule.n).action c.loop-row.row) = rw ((let action_at : (open_calls c.next_walk-walk.new.calls c.loop-rule.n).action c.loop-row.row ≡ c.action_of-action.result = ap (λ (z : Calls). z.action c.loop-row.row) (alone_calls c.next_walk-walk.ensures.1 c.loop-rule.n) ∙ sym c.action_of-action.ensures in action_at)) c.steps_for-body.ensures.0 in words_at)) (rows_past _ _ R.rows_closed c.number_of-number.result (rw (c.number_of-number.ensures, (let action_at : (open_calls c.next_walk-walk.new.calls c.loop-rule.n).action c.loop-row.row ≡ c.action_of-action.result = ap (λ (z : Calls). z.action c.loop-row.row) (alone_calls c.next_walk-walk.ensures.1 c.loop-rule.n) ∙ sym c.action_of-action.ensures in action_at)) (sym c.is_at.ensures ∙ not-false _ c.if-not-is_at.false-raw)) h k);
-            lower = λ j k e g w. rules_lower _ _ _ R j (lower_number c.args.rules.now c.args.goals.first c.args.goals.second c.args.goal.now c.args.second.now c.requires.accepted.2.few_rules j ((open_calls c.next_walk-walk.new.calls c.loop-rule.n).action c.loop-row.row) c.loop-rule.rule e (omega (arith, c.loop-rule-test.true, c.past_body-past.ensures.0)) (rw c.number_of-number.ensures at k)) e g w;
-            row_last = λ x h l. R.rows_closed.latest x (omega (arith, R.rows_closed.since.all_known)) l;
-            row_old = omega (arith, R.rows_closed.base_rows, c.loop-row-test.true, c.span_of-span.ensures.spans.top_in);
-            since = R.rows_closed.since;
-          }) in given_at) c.requires.standing.roots _ R) R.rows_closed.noted in going_at)))).0.walking.inside,
-      going_fits _ _ _ _ _ _ _ _ _ ((let going_at : Going ((let over : Bodies = bodies_with c.args.rules.now c.args.goals.first c.args.goals.second c.args.goal.now c.args.second.now in over)) (Among c.requires.standing.roots) (in_words c.next_walk-walk.new.calls c.loop-rule.n c.loop-rule.answers c.loop-rule.m)
-          c.args.stage.answers c.number_of-number.result c.loop-row.row c.next_walk-walk.result (before c.args.first c.span_of-span.result.old c.args.stage.seen c.span_of-span.result.warm c.args.stage.round (begin (in_words c.round.calls c.round.n c.round.answers c.round.m) (uses_in c.round.calls c.round.list))) c.steps_for-body.result.now
-          (in_words c.loop-after.calls c.loop-after.n c.loop-after.answers c.loop-after.m) (mark_words c.loop-after.calls) (uses_in c.loop-after.calls c.loop-after.list) c.loop-after.chosen c.loop-after.rest.now (spot_of c.loop-after.spot) = let R = (let rules_at : (rs : List (ℕ × ℕ)) → (let First : List (ℕ × ℕ) → Type 0 = (λ roots. Round ((let over : Bodies = bodies_with c.args.rules.now c.args.goals.first c.args.goals.second c.args.goal.now c.args.second.now in over)) (Among roots) c.args.first c.args.stage.walked c.args.stage.seen
-          (in_words c.args.calls.now c.args.stage.calls c.args.answers.now c.args.stage.answers) (uses_in c.args.calls.now c.args.list.now)) in First) rs
-          → Rules ((let over : Bodies = bodies_with c.args.rules.now c.args.goals.first c.args.goals.second c.args.goal.now c.args.second.now in over)) (Among rs) (number_at (length c.args.rules.now / rule_width)) c.args.first c.args.stage.walked c.args.stage.seen c.span_of-span.result.low c.span_of-span.result.high c.span_of-span.result.top c.span_of-span.result.old c.span_of-span.result.warm
-          c.args.stage.round c.args.stage.calls c.args.stage.answers c.loop-row.row c.loop-rule.rule (begin (in_words c.round.calls c.round.n c.round.answers c.round.m) (uses_in c.round.calls c.round.list)) (in_words c.next_walk-walk.new.calls c.loop-rule.n c.loop-rule.answers c.loop-rule.m) (uses_in c.next_walk-walk.new.calls c.loop-rule.list) = (λ rs S. (let marked_at : (rs : List (ℕ × ℕ)) (begun : Begin) → Rules ((let over : Bodies = bodies_with c.args.rules.now c.args.goals.first c.args.goals.second c.args.goal.now c.args.second.now in over)) (Among rs) (number_at (length c.args.rules.now / rule_width)) c.args.first c.args.stage.walked c.args.stage.seen c.span_of-span.result.low c.span_of-span.result.high c.span_of-span.result.top c.span_of-span.result.old c.span_of-span.result.warm
-          c.args.stage.round c.args.stage.calls c.args.stage.answers c.loop-row.row c.loop-rule.rule begun (in_words c.loop-rule.calls c.loop-rule.n c.loop-rule.answers c.loop-rule.m) (uses_in c.loop-rule.calls c.loop-rule.list)
-          → Rules ((let over : Bodies = bodies_with c.args.rules.now c.args.goals.first c.args.goals.second c.args.goal.now c.args.second.now in over)) (Among rs) (number_at (length c.args.rules.now / rule_width)) c.args.first c.args.stage.walked c.args.stage.seen c.span_of-span.result.low c.span_of-span.result.high c.span_of-span.result.top c.span_of-span.result.old c.span_of-span.result.warm
-          c.args.stage.round c.args.stage.calls c.args.stage.answers c.loop-row.row c.loop-rule.rule begun (in_words c.next_walk-walk.new.calls c.loop-rule.n c.loop-rule.answers c.loop-rule.m) (uses_in c.next_walk-walk.new.calls c.loop-rule.list) = (λ rs begun R. rules_marked (ap (λ (z : Calls). tables z (packed_answers c.loop-rule.answers c.loop-rule.m)) (alone_calls c.next_walk-walk.ensures.1 c.loop-rule.n)) (marked_uses c.next_walk-walk.ensures.1 c.loop-rule.list) R) in marked_at) rs _ (c.loop-rule.invariant.closed rs _ ((let rows_at : (rs : List (ℕ × ℕ)) → (let First : List (ℕ × ℕ) → Type 0 = (λ roots. Round ((let over : Bodies = bodies_with c.args.rules.now c.args.goals.first c.args.goals.second c.args.goal.now c.args.second.now in over)) (Among roots) c.args.first c.args.stage.walked c.args.stage.seen
-          (in_words c.args.calls.now c.args.stage.calls c.args.answers.now c.args.stage.answers) (uses_in c.args.calls.now c.args.list.now)) in First) rs
-          → Rows ((let over : Bodies = bodies_with c.args.rules.now c.args.goals.first c.args.goals.second c.args.goal.now c.args.second.now in over)) (Among rs) c.args.first c.args.stage.walked c.args.stage.seen c.span_of-span.result.low c.span_of-span.result.high c.span_of-span.result.top c.span_of-span.result.old c.span_of-span.result.warm
-          c.args.stage.round c.args.stage.calls c.args.stage.answers c.loop-row.row (begin (in_words c.round.calls c.round.n c.round.answers c.round.m) (uses_in c.round.calls c.round.list)) (in_words c.loop-row.calls c.loop-row.n c.loop-row.answers c.loop-row.m) (uses_in c.loop-row.calls c.loop-row.list) = (λ rs S. let r = c.round.invariant in
-          let b = c.span_of-span.ensures.begun in
-          let (S', W) = r.closed rs (round_kept _ _ (kept_same b.low) S) b.lit in
-          c.loop-row.invariant.closed rs S' (subst (λ (k : ℕ). (x : ℕ) → x < c.span_of-span.result.old → (x < c.args.stage.walked) × Lit (in_words c.round.calls c.round.n c.round.answers c.round.m).answers (uses_in c.round.calls c.round.list) c.args.stage.seen k c.span_of-span.result.warm) r.known_all W)) in rows_at) rs S))) in rules_at) c.requires.standing.roots c.requires.standing.round in
-          c.loop-after.invariant.going c.requires.standing.roots _ ((let given_at : (rs : List (ℕ × ℕ)) (begun : Begin) → Rules ((let over : Bodies = bodies_with c.args.rules.now c.args.goals.first c.args.goals.second c.args.goal.now c.args.second.now in over)) (Among rs) (number_at (length c.args.rules.now / rule_width)) c.args.first c.args.stage.walked c.args.stage.seen c.span_of-span.result.low c.span_of-span.result.high c.span_of-span.result.top c.span_of-span.result.old c.span_of-span.result.warm
-          c.args.stage.round c.args.stage.calls c.args.stage.answers c.loop-row.row c.loop-rule.rule begun (in_words c.next_walk-walk.new.calls c.loop-rule.n c.loop-rule.answers c.loop-rule.m) (uses_in c.next_walk-walk.new.calls c.loop-rule.list)
-          → Given ((let over : Bodies = bodies_with c.args.rules.now c.args.goals.first c.args.goals.second c.args.goal.now c.args.second.now in over)) (Among rs) (in_words c.next_walk-walk.new.calls c.loop-rule.n c.loop-rule.answers c.loop-rule.m)
-          c.args.stage.answers c.number_of-number.result c.loop-row.row (before c.args.first c.span_of-span.result.old c.args.stage.seen c.span_of-span.result.warm c.args.stage.round begun) c.steps_for-body.result.now = (λ rs begun R. record {
-            proper = proper_with c.args.rules.now c.args.goals.first c.args.goals.second c.args.goal.now c.args.second.now c.requires.accepted.2 c.requires.accepted.3;
-            valid = R.rows_closed.before.valid;
-            enough = R.rows_closed.known_in;
-            row_in = omega (arith, R.rows_closed.rows_in, c.loop-row-test.true, c.span_of-span.ensures.spans.top_in);
-            fits = rw (c.number_of-number.ensures, (let action_at : (open_calls c.next_walk-walk.new.calls c.loop-rule.n).action c.loop-row.row ≡ c.action_of-action.result = ap (λ (z : Calls). z.action c.loop-row.row) (alone_calls c.next_walk-walk.ensures.1 c.loop-rule.n) ∙ sym c.action_of-action.ensures in action_at)) (sym c.is_at.ensures ∙ not-false _ c.if-not-is_at.false-raw);
-            words = (let words_at : c.steps_for-body.result.now ≡ ((let over : Bodies = bodies_with c.args.rules.now c.args.goals.first c.args.goals.second c.args.goal.now c.args.second.now in over)).words c.number_of-number.result ((open_calls c.next_walk-walk.new.calls c.loop-rule.n).action c.loop-row.row) = rw ((let action_at : (open_calls c.next_walk-walk.new.calls c.loop-rule.n).action c.loop-row.row ≡ c.action_of-action.result = ap (λ (z : Calls). z.action c.loop-row.row) (alone_calls c.next_walk-walk.ensures.1 c.loop-rule.n) ∙ sym c.action_of-action.ensures in action_at)) c.steps_for-body.ensures.0 in words_at);
-            past = λ (h, k). past_words ((let words_at : c.steps_for-body.result.now ≡ ((let over : Bodies = bodies_with c.args.rules.now c.args.goals.first c.args.goals.second c.args.goal.now c.args.second.now in over)).words c.number_of-number.result ((open_calls c.next_walk-walk.new.calls c.loop-rule.n).action c.loop-row.row) = rw ((let action_at : (open_calls c.next_walk-walk.new.calls c.loop-rule.n).action c.loop-row.row ≡ c.action_of-action.result = ap (λ (z : Calls). z.action c.loop-row.row) (alone_calls c.next_walk-walk.ensures.1 c.loop-rule.n) ∙ sym c.action_of-action.ensures in action_at)) c.steps_for-body.ensures.0 in words_at)) (rows_past _ _ R.rows_closed c.number_of-number.result (rw (c.number_of-number.ensures, (let action_at : (open_calls c.next_walk-walk.new.calls c.loop-rule.n).action c.loop-row.row ≡ c.action_of-action.result = ap (λ (z : Calls). z.action c.loop-row.row) (alone_calls c.next_walk-walk.ensures.1 c.loop-rule.n) ∙ sym c.action_of-action.ensures in action_at)) (sym c.is_at.ensures ∙ not-false _ c.if-not-is_at.false-raw)) h k);
-            lower = λ j k e g w. rules_lower _ _ _ R j (lower_number c.args.rules.now c.args.goals.first c.args.goals.second c.args.goal.now c.args.second.now c.requires.accepted.2.few_rules j ((open_calls c.next_walk-walk.new.calls c.loop-rule.n).action c.loop-row.row) c.loop-rule.rule e (omega (arith, c.loop-rule-test.true, c.past_body-past.ensures.0)) (rw c.number_of-number.ensures at k)) e g w;
-            row_last = λ x h l. R.rows_closed.latest x (omega (arith, R.rows_closed.since.all_known)) l;
-            row_old = omega (arith, R.rows_closed.base_rows, c.loop-row-test.true, c.span_of-span.ensures.spans.top_in);
-            since = R.rows_closed.since;
-          }) in given_at) c.requires.standing.roots _ R) R.rows_closed.noted in going_at)),
-    )
-
-pub slice_bounds-rest-end : goal.slice_bounds-rest-end
-slice_bounds-rest-end c =
-    omega (
-      arith,
-      (rw c.in-On.is at (c.turn-turn.ensures.leaving _ _ _ _ ((let going_at : Going ((let over : Bodies = bodies_with c.args.rules.now c.args.goals.first c.args.goals.second c.args.goal.now c.args.second.now in over)) (Among c.requires.standing.roots) (in_words c.next_walk-walk.new.calls c.loop-rule.n c.loop-rule.answers c.loop-rule.m)
-          c.args.stage.answers c.number_of-number.result c.loop-row.row c.next_walk-walk.result (before c.args.first c.span_of-span.result.old c.args.stage.seen c.span_of-span.result.warm c.args.stage.round (begin (in_words c.round.calls c.round.n c.round.answers c.round.m) (uses_in c.round.calls c.round.list))) c.steps_for-body.result.now
-          (in_words c.loop-after.calls c.loop-after.n c.loop-after.answers c.loop-after.m) (mark_words c.loop-after.calls) (uses_in c.loop-after.calls c.loop-after.list) c.loop-after.chosen c.loop-after.rest.now (spot_of c.loop-after.spot) = let R = (let rules_at : (rs : List (ℕ × ℕ)) → (let First : List (ℕ × ℕ) → Type 0 = (λ roots. Round ((let over : Bodies = bodies_with c.args.rules.now c.args.goals.first c.args.goals.second c.args.goal.now c.args.second.now in over)) (Among roots) c.args.first c.args.stage.walked c.args.stage.seen
-          (in_words c.args.calls.now c.args.stage.calls c.args.answers.now c.args.stage.answers) (uses_in c.args.calls.now c.args.list.now)) in First) rs
-          → Rules ((let over : Bodies = bodies_with c.args.rules.now c.args.goals.first c.args.goals.second c.args.goal.now c.args.second.now in over)) (Among rs) (number_at (length c.args.rules.now / rule_width)) c.args.first c.args.stage.walked c.args.stage.seen c.span_of-span.result.low c.span_of-span.result.high c.span_of-span.result.top c.span_of-span.result.old c.span_of-span.result.warm
-          c.args.stage.round c.args.stage.calls c.args.stage.answers c.loop-row.row c.loop-rule.rule (begin (in_words c.round.calls c.round.n c.round.answers c.round.m) (uses_in c.round.calls c.round.list)) (in_words c.next_walk-walk.new.calls c.loop-rule.n c.loop-rule.answers c.loop-rule.m) (uses_in c.next_walk-walk.new.calls c.loop-rule.list) = (λ rs S. (let marked_at : (rs : List (ℕ × ℕ)) (begun : Begin) → Rules ((let over : Bodies = bodies_with c.args.rules.now c.args.goals.first c.args.goals.second c.args.goal.now c.args.second.now in over)) (Among rs) (number_at (length c.args.rules.now / rule_width)) c.args.first c.args.stage.walked c.args.stage.seen c.span_of-span.result.low c.span_of-span.result.high c.span_of-span.result.top c.span_of-span.result.old c.span_of-span.result.warm
-          c.args.stage.round c.args.stage.calls c.args.stage.answers c.loop-row.row c.loop-rule.rule begun (in_words c.loop-rule.calls c.loop-rule.n c.loop-rule.answers c.loop-rule.m) (uses_in c.loop-rule.calls c.loop-rule.list)
-          → Rules ((let over : Bodies = bodies_with c.args.rules.now c.args.goals.first c.args.goals.second c.args.goal.now c.args.second.now in over)) (Among rs) (number_at (length c.args.rules.now / rule_width)) c.args.first c.args.stage.walked c.args.stage.seen c.span_of-span.result.low c.span_of-span.result.high c.span_of-span.result.top c.span_of-span.result.old c.span_of-span.result.warm
-          c.args.stage.round c.args.stage.calls c.args.stage.answers c.loop-row.row c.loop-rule.rule begun (in_words c.next_walk-walk.new.calls c.loop-rule.n c.loop-rule.answers c.loop-rule.m) (uses_in c.next_walk-walk.new.calls c.loop-rule.list) = (λ rs begun R. rules_marked (ap (λ (z : Calls). tables z (packed_answers c.loop-rule.answers c.loop-rule.m)) (alone_calls c.next_walk-walk.ensures.1 c.loop-rule.n)) (marked_uses c.next_walk-walk.ensures.1 c.loop-rule.list) R) in marked_at) rs _ (c.loop-rule.invariant.closed rs _ ((let rows_at : (rs : List (ℕ × ℕ)) → (let First : List (ℕ × ℕ) → Type 0 = (λ roots. Round ((let over : Bodies = bodies_with c.args.rules.now c.args.goals.first c.args.goals.second c.args.goal.now c.args.second.now in over)) (Among roots) c.args.first c.args.stage.walked c.args.stage.seen
-          (in_words c.args.calls.now c.args.stage.calls c.args.answers.now c.args.stage.answers) (uses_in c.args.calls.now c.args.list.now)) in First) rs
-          → Rows ((let over : Bodies = bodies_with c.args.rules.now c.args.goals.first c.args.goals.second c.args.goal.now c.args.second.now in over)) (Among rs) c.args.first c.args.stage.walked c.args.stage.seen c.span_of-span.result.low c.span_of-span.result.high c.span_of-span.result.top c.span_of-span.result.old c.span_of-span.result.warm
-          c.args.stage.round c.args.stage.calls c.args.stage.answers c.loop-row.row (begin (in_words c.round.calls c.round.n c.round.answers c.round.m) (uses_in c.round.calls c.round.list)) (in_words c.loop-row.calls c.loop-row.n c.loop-row.answers c.loop-row.m) (uses_in c.loop-row.calls c.loop-row.list) = (λ rs S. let r = c.round.invariant in
-          let b = c.span_of-span.ensures.begun in
-          let (S', W) = r.closed rs (round_kept _ _ (kept_same b.low) S) b.lit in
-          c.loop-row.invariant.closed rs S' (subst (λ (k : ℕ). (x : ℕ) → x < c.span_of-span.result.old → (x < c.args.stage.walked) × Lit (in_words c.round.calls c.round.n c.round.answers c.round.m).answers (uses_in c.round.calls c.round.list) c.args.stage.seen k c.span_of-span.result.warm) r.known_all W)) in rows_at) rs S))) in rules_at) c.requires.standing.roots c.requires.standing.round in
-          c.loop-after.invariant.going c.requires.standing.roots _ ((let given_at : (rs : List (ℕ × ℕ)) (begun : Begin) → Rules ((let over : Bodies = bodies_with c.args.rules.now c.args.goals.first c.args.goals.second c.args.goal.now c.args.second.now in over)) (Among rs) (number_at (length c.args.rules.now / rule_width)) c.args.first c.args.stage.walked c.args.stage.seen c.span_of-span.result.low c.span_of-span.result.high c.span_of-span.result.top c.span_of-span.result.old c.span_of-span.result.warm
-          c.args.stage.round c.args.stage.calls c.args.stage.answers c.loop-row.row c.loop-rule.rule begun (in_words c.next_walk-walk.new.calls c.loop-rule.n c.loop-rule.answers c.loop-rule.m) (uses_in c.next_walk-walk.new.calls c.loop-rule.list)
-          → Given ((let over : Bodies = bodies_with c.args.rules.now c.args.goals.first c.args.goals.second c.args.goal.now c.args.second.now in over)) (Among rs) (in_words c.next_walk-walk.new.calls c.loop-rule.n c.loop-rule.answers c.loop-rule.m)
-          c.args.stage.answers c.number_of-number.result c.loop-row.row (before c.args.first c.span_of-span.result.old c.args.stage.seen c.span_of-span.result.warm c.args.stage.round begun) c.steps_for-body.result.now = (λ rs begun R. record {
-            proper = proper_with c.args.rules.now c.args.goals.first c.args.goals.second c.args.goal.now c.args.second.now c.requires.accepted.2 c.requires.accepted.3;
-            valid = R.rows_closed.before.valid;
-            enough = R.rows_closed.known_in;
-            row_in = omega (arith, R.rows_closed.rows_in, c.loop-row-test.true, c.span_of-span.ensures.spans.top_in);
-            fits = rw (c.number_of-number.ensures, (let action_at : (open_calls c.next_walk-walk.new.calls c.loop-rule.n).action c.loop-row.row ≡ c.action_of-action.result = ap (λ (z : Calls). z.action c.loop-row.row) (alone_calls c.next_walk-walk.ensures.1 c.loop-rule.n) ∙ sym c.action_of-action.ensures in action_at)) (sym c.is_at.ensures ∙ not-false _ c.if-not-is_at.false-raw);
-            words = (let words_at : c.steps_for-body.result.now ≡ ((let over : Bodies = bodies_with c.args.rules.now c.args.goals.first c.args.goals.second c.args.goal.now c.args.second.now in over)).words c.number_of-number.result ((open_calls c.next_walk-walk.new.calls c.loop-rule.n).action c.loop-row.row) = rw ((let action_at : (open_calls c.next_walk-walk.new.calls c.loop-rule.n).action c.loop-row.row ≡ c.action_of-action.result = ap (λ (z : Calls). z.action c.loop-row.row) (alone_calls c.next_walk-walk.ensures.1 c.loop-rule.n) ∙ sym c.action_of-action.ensures in action_at)) c.steps_for-body.ensures.0 in words_at);
-            past = λ (h, k). past_words ((let words_at : c.steps_for-body.result.now ≡ ((let over : Bodies = bodies_with c.args.rules.now c.args.goals.first c.args.goals.second c.args.goal.now c.args.second.now in over)).words c.number_of-number.result ((open_calls c.next_walk-walk.new.calls c.loop-rule.n).action c.loop-row.row) = rw ((let action_at : (open_calls c.next_walk-walk.new.calls c.loop-rule.n).action c.loop-row.row ≡ c.action_of-action.result = ap (λ (z : Calls). z.action c.loop-row.row) (alone_calls c.next_walk-walk.ensures.1 c.loop-rule.n) ∙ sym c.action_of-action.ensures in action_at)) c.steps_for-body.ensures.0 in words_at)) (rows_past _ _ R.rows_closed c.number_of-number.result (rw (c.number_of-number.ensures, (let action_at : (open_calls c.next_walk-walk.new.calls c.loop-rule.n).action c.loop-row.row ≡ c.action_of-action.result = ap (λ (z : Calls). z.action c.loop-row.row) (alone_calls c.next_walk-walk.ensures.1 c.loop-rule.n) ∙ sym c.action_of-action.ensures in action_at)) (sym c.is_at.ensures ∙ not-false _ c.if-not-is_at.false-raw)) h k);
-            lower = λ j k e g w. rules_lower _ _ _ R j (lower_number c.args.rules.now c.args.goals.first c.args.goals.second c.args.goal.now c.args.second.now c.requires.accepted.2.few_rules j ((open_calls c.next_walk-walk.new.calls c.loop-rule.n).action c.loop-row.row) c.loop-rule.rule e (omega (arith, c.loop-rule-test.true, c.past_body-past.ensures.0)) (rw c.number_of-number.ensures at k)) e g w;
-            row_last = λ x h l. R.rows_closed.latest x (omega (arith, R.rows_closed.since.all_known)) l;
-            row_old = omega (arith, R.rows_closed.base_rows, c.loop-row-test.true, c.span_of-span.ensures.spans.top_in);
-            since = R.rows_closed.since;
-          }) in given_at) c.requires.standing.roots _ R) R.rows_closed.noted in going_at)))).0.walking.inside,
-      going_fits _ _ _ _ _ _ _ _ _ ((let going_at : Going ((let over : Bodies = bodies_with c.args.rules.now c.args.goals.first c.args.goals.second c.args.goal.now c.args.second.now in over)) (Among c.requires.standing.roots) (in_words c.next_walk-walk.new.calls c.loop-rule.n c.loop-rule.answers c.loop-rule.m)
-          c.args.stage.answers c.number_of-number.result c.loop-row.row c.next_walk-walk.result (before c.args.first c.span_of-span.result.old c.args.stage.seen c.span_of-span.result.warm c.args.stage.round (begin (in_words c.round.calls c.round.n c.round.answers c.round.m) (uses_in c.round.calls c.round.list))) c.steps_for-body.result.now
-          (in_words c.loop-after.calls c.loop-after.n c.loop-after.answers c.loop-after.m) (mark_words c.loop-after.calls) (uses_in c.loop-after.calls c.loop-after.list) c.loop-after.chosen c.loop-after.rest.now (spot_of c.loop-after.spot) = let R = (let rules_at : (rs : List (ℕ × ℕ)) → (let First : List (ℕ × ℕ) → Type 0 = (λ roots. Round ((let over : Bodies = bodies_with c.args.rules.now c.args.goals.first c.args.goals.second c.args.goal.now c.args.second.now in over)) (Among roots) c.args.first c.args.stage.walked c.args.stage.seen
-          (in_words c.args.calls.now c.args.stage.calls c.args.answers.now c.args.stage.answers) (uses_in c.args.calls.now c.args.list.now)) in First) rs
-          → Rules ((let over : Bodies = bodies_with c.args.rules.now c.args.goals.first c.args.goals.second c.args.goal.now c.args.second.now in over)) (Among rs) (number_at (length c.args.rules.now / rule_width)) c.args.first c.args.stage.walked c.args.stage.seen c.span_of-span.result.low c.span_of-span.result.high c.span_of-span.result.top c.span_of-span.result.old c.span_of-span.result.warm
-          c.args.stage.round c.args.stage.calls c.args.stage.answers c.loop-row.row c.loop-rule.rule (begin (in_words c.round.calls c.round.n c.round.answers c.round.m) (uses_in c.round.calls c.round.list)) (in_words c.next_walk-walk.new.calls c.loop-rule.n c.loop-rule.answers c.loop-rule.m) (uses_in c.next_walk-walk.new.calls c.loop-rule.list) = (λ rs S. (let marked_at : (rs : List (ℕ × ℕ)) (begun : Begin) → Rules ((let over : Bodies = bodies_with c.args.rules.now c.args.goals.first c.args.goals.second c.args.goal.now c.args.second.now in over)) (Among rs) (number_at (length c.args.rules.now / rule_width)) c.args.first c.args.stage.walked c.args.stage.seen c.span_of-span.result.low c.span_of-span.result.high c.span_of-span.result.top c.span_of-span.result.old c.span_of-span.result.warm
-          c.args.stage.round c.args.stage.calls c.args.stage.answers c.loop-row.row c.loop-rule.rule begun (in_words c.loop-rule.calls c.loop-rule.n c.loop-rule.answers c.loop-rule.m) (uses_in c.loop-rule.calls c.loop-rule.list)
-          → Rules ((let over : Bodies = bodies_with c.args.rules.now c.args.goals.first c.args.goals.second c.args.goal.now c.args.second.now in over)) (Among rs) (number_at (length c.args.rules.now / rule_width)) c.args.first c.args.stage.walked c.args.stage.seen c.span_of-span.result.low c.span_of-span.result.high c.span_of-span.result.top c.span_of-span.result.old c.span_of-span.result.warm
-          c.args.stage.round c.args.stage.calls c.args.stage.answers c.loop-row.row c.loop-rule.rule begun (in_words c.next_walk-walk.new.calls c.loop-rule.n c.loop-rule.answers c.loop-rule.m) (uses_in c.next_walk-walk.new.calls c.loop-rule.list) = (λ rs begun R. rules_marked (ap (λ (z : Calls). tables z (packed_answers c.loop-rule.answers c.loop-rule.m)) (alone_calls c.next_walk-walk.ensures.1 c.loop-rule.n)) (marked_uses c.next_walk-walk.ensures.1 c.loop-rule.list) R) in marked_at) rs _ (c.loop-rule.invariant.closed rs _ ((let rows_at : (rs : List (ℕ × ℕ)) → (let First : List (ℕ × ℕ) → Type 0 = (λ roots. Round ((let over : Bodies = bodies_with c.args.rules.now c.args.goals.first c.args.goals.second c.args.goal.now c.args.second.now in over)) (Among roots) c.args.first c.args.stage.walked c.args.stage.seen
-          (in_words c.args.calls.now c.args.stage.calls c.args.answers.now c.args.stage.answers) (uses_in c.args.calls.now c.args.list.now)) in First) rs
-          → Rows ((let over : Bodies = bodies_with c.args.rules.now c.args.goals.first c.args.goals.second c.args.goal.now c.args.second.now in over)) (Among rs) c.args.first c.args.stage.walked c.args.stage.seen c.span_of-span.result.low c.span_of-span.result.high c.span_of-span.result.top c.span_of-span.result.old c.span_of-span.result.warm
-          c.args.stage.round c.args.stage.calls c.args.stage.answers c.loop-row.row (begin (in_words c.round.calls c.round.n c.round.answers c.round.m) (uses_in c.round.calls c.round.list)) (in_words c.loop-row.calls c.loop-row.n c.loop-row.answers c.loop-row.m) (uses_in c.loop-row.calls c.loop-row.list) = (λ rs S. let r = c.round.invariant in
-          let b = c.span_of-span.ensures.begun in
-          let (S', W) = r.closed rs (round_kept _ _ (kept_same b.low) S) b.lit in
-          c.loop-row.invariant.closed rs S' (subst (λ (k : ℕ). (x : ℕ) → x < c.span_of-span.result.old → (x < c.args.stage.walked) × Lit (in_words c.round.calls c.round.n c.round.answers c.round.m).answers (uses_in c.round.calls c.round.list) c.args.stage.seen k c.span_of-span.result.warm) r.known_all W)) in rows_at) rs S))) in rules_at) c.requires.standing.roots c.requires.standing.round in
-          c.loop-after.invariant.going c.requires.standing.roots _ ((let given_at : (rs : List (ℕ × ℕ)) (begun : Begin) → Rules ((let over : Bodies = bodies_with c.args.rules.now c.args.goals.first c.args.goals.second c.args.goal.now c.args.second.now in over)) (Among rs) (number_at (length c.args.rules.now / rule_width)) c.args.first c.args.stage.walked c.args.stage.seen c.span_of-span.result.low c.span_of-span.result.high c.span_of-span.result.top c.span_of-span.result.old c.span_of-span.result.warm
-          c.args.stage.round c.args.stage.calls c.args.stage.answers c.loop-row.row c.loop-rule.rule begun (in_words c.next_walk-walk.new.calls c.loop-rule.n c.loop-rule.answers c.loop-rule.m) (uses_in c.next_walk-walk.new.calls c.loop-rule.list)
-          → Given ((let over : Bodies = bodies_with c.args.rules.now c.args.goals.first c.args.goals.second c.args.goal.now c.args.second.now in over)) (Among rs) (in_words c.next_walk-walk.new.calls c.loop-rule.n c.loop-rule.answers c.loop-rule.m)
-          c.args.stage.answers c.number_of-number.result c.loop-row.row (before c.args.first c.span_of-span.result.old c.args.stage.seen c.span_of-span.result.warm c.args.stage.round begun) c.steps_for-body.result.now = (λ rs begun R. record {
-            proper = proper_with c.args.rules.now c.args.goals.first c.args.goals.second c.args.goal.now c.args.second.now c.requires.accepted.2 c.requires.accepted.3;
-            valid = R.rows_closed.before.valid;
-            enough = R.rows_closed.known_in;
-            row_in = omega (arith, R.rows_closed.rows_in, c.loop-row-test.true, c.span_of-span.ensures.spans.top_in);
-            fits = rw (c.number_of-number.ensures, (let action_at : (open_calls c.next_walk-walk.new.calls c.loop-rule.n).action c.loop-row.row ≡ c.action_of-action.result = ap (λ (z : Calls). z.action c.loop-row.row) (alone_calls c.next_walk-walk.ensures.1 c.loop-rule.n) ∙ sym c.action_of-action.ensures in action_at)) (sym c.is_at.ensures ∙ not-false _ c.if-not-is_at.false-raw);
-            words = (let words_at : c.steps_for-body.result.now ≡ ((let over : Bodies = bodies_with c.args.rules.now c.args.goals.first c.args.goals.second c.args.goal.now c.args.second.now in over)).words c.number_of-number.result ((open_calls c.next_walk-walk.new.calls c.loop-rule.n).action c.loop-row.row) = rw ((let action_at : (open_calls c.next_walk-walk.new.calls c.loop-rule.n).action c.loop-row.row ≡ c.action_of-action.result = ap (λ (z : Calls). z.action c.loop-row.row) (alone_calls c.next_walk-walk.ensures.1 c.loop-rule.n) ∙ sym c.action_of-action.ensures in action_at)) c.steps_for-body.ensures.0 in words_at);
-            past = λ (h, k). past_words ((let words_at : c.steps_for-body.result.now ≡ ((let over : Bodies = bodies_with c.args.rules.now c.args.goals.first c.args.goals.second c.args.goal.now c.args.second.now in over)).words c.number_of-number.result ((open_calls c.next_walk-walk.new.calls c.loop-rule.n).action c.loop-row.row) = rw ((let action_at : (open_calls c.next_walk-walk.new.calls c.loop-rule.n).action c.loop-row.row ≡ c.action_of-action.result = ap (λ (z : Calls). z.action c.loop-row.row) (alone_calls c.next_walk-walk.ensures.1 c.loop-rule.n) ∙ sym c.action_of-action.ensures in action_at)) c.steps_for-body.ensures.0 in words_at)) (rows_past _ _ R.rows_closed c.number_of-number.result (rw (c.number_of-number.ensures, (let action_at : (open_calls c.next_walk-walk.new.calls c.loop-rule.n).action c.loop-row.row ≡ c.action_of-action.result = ap (λ (z : Calls). z.action c.loop-row.row) (alone_calls c.next_walk-walk.ensures.1 c.loop-rule.n) ∙ sym c.action_of-action.ensures in action_at)) (sym c.is_at.ensures ∙ not-false _ c.if-not-is_at.false-raw)) h k);
-            lower = λ j k e g w. rules_lower _ _ _ R j (lower_number c.args.rules.now c.args.goals.first c.args.goals.second c.args.goal.now c.args.second.now c.requires.accepted.2.few_rules j ((open_calls c.next_walk-walk.new.calls c.loop-rule.n).action c.loop-row.row) c.loop-rule.rule e (omega (arith, c.loop-rule-test.true, c.past_body-past.ensures.0)) (rw c.number_of-number.ensures at k)) e g w;
-            row_last = λ x h l. R.rows_closed.latest x (omega (arith, R.rows_closed.since.all_known)) l;
-            row_old = omega (arith, R.rows_closed.base_rows, c.loop-row-test.true, c.span_of-span.ensures.spans.top_in);
-            since = R.rows_closed.since;
-          }) in given_at) c.requires.standing.roots _ R) R.rows_closed.noted in going_at)),
+      (rw c.in-On.is at (c.turn-turn.ensures.leaving _ _ _ _ G)).0.walking.inside,
+      going_fits _ _ _ _ _ _ _ _ _ G,
     )
 
 pub loop-after-smaller-in-On : goal.loop-after-smaller-in-On
 loop-after-smaller-in-On c =
-    let O = (rw c.in-On.is at (c.turn-turn.ensures.leaving _ _ _ _ ((let going_at : Going ((let over : Bodies = bodies_with c.args.rules.now c.args.goals.first c.args.goals.second c.args.goal.now c.args.second.now in over)) (Among c.requires.standing.roots) (in_words c.next_walk-walk.new.calls c.loop-rule.n c.loop-rule.answers c.loop-rule.m)
-    c.args.stage.answers c.number_of-number.result c.loop-row.row c.next_walk-walk.result (before c.args.first c.span_of-span.result.old c.args.stage.seen c.span_of-span.result.warm c.args.stage.round (begin (in_words c.round.calls c.round.n c.round.answers c.round.m) (uses_in c.round.calls c.round.list))) c.steps_for-body.result.now
-    (in_words c.loop-after.calls c.loop-after.n c.loop-after.answers c.loop-after.m) (mark_words c.loop-after.calls) (uses_in c.loop-after.calls c.loop-after.list) c.loop-after.chosen c.loop-after.rest.now (spot_of c.loop-after.spot) = let R = (let rules_at : (rs : List (ℕ × ℕ)) → (let First : List (ℕ × ℕ) → Type 0 = (λ roots. Round ((let over : Bodies = bodies_with c.args.rules.now c.args.goals.first c.args.goals.second c.args.goal.now c.args.second.now in over)) (Among roots) c.args.first c.args.stage.walked c.args.stage.seen
-    (in_words c.args.calls.now c.args.stage.calls c.args.answers.now c.args.stage.answers) (uses_in c.args.calls.now c.args.list.now)) in First) rs
-    → Rules ((let over : Bodies = bodies_with c.args.rules.now c.args.goals.first c.args.goals.second c.args.goal.now c.args.second.now in over)) (Among rs) (number_at (length c.args.rules.now / rule_width)) c.args.first c.args.stage.walked c.args.stage.seen c.span_of-span.result.low c.span_of-span.result.high c.span_of-span.result.top c.span_of-span.result.old c.span_of-span.result.warm
-    c.args.stage.round c.args.stage.calls c.args.stage.answers c.loop-row.row c.loop-rule.rule (begin (in_words c.round.calls c.round.n c.round.answers c.round.m) (uses_in c.round.calls c.round.list)) (in_words c.next_walk-walk.new.calls c.loop-rule.n c.loop-rule.answers c.loop-rule.m) (uses_in c.next_walk-walk.new.calls c.loop-rule.list) = (λ rs S. (let marked_at : (rs : List (ℕ × ℕ)) (begun : Begin) → Rules ((let over : Bodies = bodies_with c.args.rules.now c.args.goals.first c.args.goals.second c.args.goal.now c.args.second.now in over)) (Among rs) (number_at (length c.args.rules.now / rule_width)) c.args.first c.args.stage.walked c.args.stage.seen c.span_of-span.result.low c.span_of-span.result.high c.span_of-span.result.top c.span_of-span.result.old c.span_of-span.result.warm
-    c.args.stage.round c.args.stage.calls c.args.stage.answers c.loop-row.row c.loop-rule.rule begun (in_words c.loop-rule.calls c.loop-rule.n c.loop-rule.answers c.loop-rule.m) (uses_in c.loop-rule.calls c.loop-rule.list)
-    → Rules ((let over : Bodies = bodies_with c.args.rules.now c.args.goals.first c.args.goals.second c.args.goal.now c.args.second.now in over)) (Among rs) (number_at (length c.args.rules.now / rule_width)) c.args.first c.args.stage.walked c.args.stage.seen c.span_of-span.result.low c.span_of-span.result.high c.span_of-span.result.top c.span_of-span.result.old c.span_of-span.result.warm
-    c.args.stage.round c.args.stage.calls c.args.stage.answers c.loop-row.row c.loop-rule.rule begun (in_words c.next_walk-walk.new.calls c.loop-rule.n c.loop-rule.answers c.loop-rule.m) (uses_in c.next_walk-walk.new.calls c.loop-rule.list) = (λ rs begun R. rules_marked (ap (λ (z : Calls). tables z (packed_answers c.loop-rule.answers c.loop-rule.m)) (alone_calls c.next_walk-walk.ensures.1 c.loop-rule.n)) (marked_uses c.next_walk-walk.ensures.1 c.loop-rule.list) R) in marked_at) rs _ (c.loop-rule.invariant.closed rs _ ((let rows_at : (rs : List (ℕ × ℕ)) → (let First : List (ℕ × ℕ) → Type 0 = (λ roots. Round ((let over : Bodies = bodies_with c.args.rules.now c.args.goals.first c.args.goals.second c.args.goal.now c.args.second.now in over)) (Among roots) c.args.first c.args.stage.walked c.args.stage.seen
-    (in_words c.args.calls.now c.args.stage.calls c.args.answers.now c.args.stage.answers) (uses_in c.args.calls.now c.args.list.now)) in First) rs
-    → Rows ((let over : Bodies = bodies_with c.args.rules.now c.args.goals.first c.args.goals.second c.args.goal.now c.args.second.now in over)) (Among rs) c.args.first c.args.stage.walked c.args.stage.seen c.span_of-span.result.low c.span_of-span.result.high c.span_of-span.result.top c.span_of-span.result.old c.span_of-span.result.warm
-    c.args.stage.round c.args.stage.calls c.args.stage.answers c.loop-row.row (begin (in_words c.round.calls c.round.n c.round.answers c.round.m) (uses_in c.round.calls c.round.list)) (in_words c.loop-row.calls c.loop-row.n c.loop-row.answers c.loop-row.m) (uses_in c.loop-row.calls c.loop-row.list) = (λ rs S. let r = c.round.invariant in
-    let b = c.span_of-span.ensures.begun in
-    let (S', W) = r.closed rs (round_kept _ _ (kept_same b.low) S) b.lit in
-    c.loop-row.invariant.closed rs S' (subst (λ (k : ℕ). (x : ℕ) → x < c.span_of-span.result.old → (x < c.args.stage.walked) × Lit (in_words c.round.calls c.round.n c.round.answers c.round.m).answers (uses_in c.round.calls c.round.list) c.args.stage.seen k c.span_of-span.result.warm) r.known_all W)) in rows_at) rs S))) in rules_at) c.requires.standing.roots c.requires.standing.round in
-    c.loop-after.invariant.going c.requires.standing.roots _ ((let given_at : (rs : List (ℕ × ℕ)) (begun : Begin) → Rules ((let over : Bodies = bodies_with c.args.rules.now c.args.goals.first c.args.goals.second c.args.goal.now c.args.second.now in over)) (Among rs) (number_at (length c.args.rules.now / rule_width)) c.args.first c.args.stage.walked c.args.stage.seen c.span_of-span.result.low c.span_of-span.result.high c.span_of-span.result.top c.span_of-span.result.old c.span_of-span.result.warm
-    c.args.stage.round c.args.stage.calls c.args.stage.answers c.loop-row.row c.loop-rule.rule begun (in_words c.next_walk-walk.new.calls c.loop-rule.n c.loop-rule.answers c.loop-rule.m) (uses_in c.next_walk-walk.new.calls c.loop-rule.list)
-    → Given ((let over : Bodies = bodies_with c.args.rules.now c.args.goals.first c.args.goals.second c.args.goal.now c.args.second.now in over)) (Among rs) (in_words c.next_walk-walk.new.calls c.loop-rule.n c.loop-rule.answers c.loop-rule.m)
-    c.args.stage.answers c.number_of-number.result c.loop-row.row (before c.args.first c.span_of-span.result.old c.args.stage.seen c.span_of-span.result.warm c.args.stage.round begun) c.steps_for-body.result.now = (λ rs begun R. record {
-      proper = proper_with c.args.rules.now c.args.goals.first c.args.goals.second c.args.goal.now c.args.second.now c.requires.accepted.2 c.requires.accepted.3;
-      valid = R.rows_closed.before.valid;
-      enough = R.rows_closed.known_in;
-      row_in = omega (arith, R.rows_closed.rows_in, c.loop-row-test.true, c.span_of-span.ensures.spans.top_in);
-      fits = rw (c.number_of-number.ensures, (let action_at : (open_calls c.next_walk-walk.new.calls c.loop-rule.n).action c.loop-row.row ≡ c.action_of-action.result = ap (λ (z : Calls). z.action c.loop-row.row) (alone_calls c.next_walk-walk.ensures.1 c.loop-rule.n) ∙ sym c.action_of-action.ensures in action_at)) (sym c.is_at.ensures ∙ not-false _ c.if-not-is_at.false-raw);
-      words = (let words_at : c.steps_for-body.result.now ≡ ((let over : Bodies = bodies_with c.args.rules.now c.args.goals.first c.args.goals.second c.args.goal.now c.args.second.now in over)).words c.number_of-number.result ((open_calls c.next_walk-walk.new.calls c.loop-rule.n).action c.loop-row.row) = rw ((let action_at : (open_calls c.next_walk-walk.new.calls c.loop-rule.n).action c.loop-row.row ≡ c.action_of-action.result = ap (λ (z : Calls). z.action c.loop-row.row) (alone_calls c.next_walk-walk.ensures.1 c.loop-rule.n) ∙ sym c.action_of-action.ensures in action_at)) c.steps_for-body.ensures.0 in words_at);
-      past = λ (h, k). past_words ((let words_at : c.steps_for-body.result.now ≡ ((let over : Bodies = bodies_with c.args.rules.now c.args.goals.first c.args.goals.second c.args.goal.now c.args.second.now in over)).words c.number_of-number.result ((open_calls c.next_walk-walk.new.calls c.loop-rule.n).action c.loop-row.row) = rw ((let action_at : (open_calls c.next_walk-walk.new.calls c.loop-rule.n).action c.loop-row.row ≡ c.action_of-action.result = ap (λ (z : Calls). z.action c.loop-row.row) (alone_calls c.next_walk-walk.ensures.1 c.loop-rule.n) ∙ sym c.action_of-action.ensures in action_at)) c.steps_for-body.ensures.0 in words_at)) (rows_past _ _ R.rows_closed c.number_of-number.result (rw (c.number_of-number.ensures, (let action_at : (open_calls c.next_walk-walk.new.calls c.loop-rule.n).action c.loop-row.row ≡ c.action_of-action.result = ap (λ (z : Calls). z.action c.loop-row.row) (alone_calls c.next_walk-walk.ensures.1 c.loop-rule.n) ∙ sym c.action_of-action.ensures in action_at)) (sym c.is_at.ensures ∙ not-false _ c.if-not-is_at.false-raw)) h k);
-      lower = λ j k e g w. rules_lower _ _ _ R j (lower_number c.args.rules.now c.args.goals.first c.args.goals.second c.args.goal.now c.args.second.now c.requires.accepted.2.few_rules j ((open_calls c.next_walk-walk.new.calls c.loop-rule.n).action c.loop-row.row) c.loop-rule.rule e (omega (arith, c.loop-rule-test.true, c.past_body-past.ensures.0)) (rw c.number_of-number.ensures at k)) e g w;
-      row_last = λ x h l. R.rows_closed.latest x (omega (arith, R.rows_closed.since.all_known)) l;
-      row_old = omega (arith, R.rows_closed.base_rows, c.loop-row-test.true, c.span_of-span.ensures.spans.top_in);
-      since = R.rows_closed.since;
-    }) in given_at) c.requires.standing.roots _ R) R.rows_closed.noted in going_at)))) in
-    on_less _ _ _ _ _ _ _ _ _ ((let going_at : Going ((let over : Bodies = bodies_with c.args.rules.now c.args.goals.first c.args.goals.second c.args.goal.now c.args.second.now in over)) (Among c.requires.standing.roots) (in_words c.next_walk-walk.new.calls c.loop-rule.n c.loop-rule.answers c.loop-rule.m)
-    c.args.stage.answers c.number_of-number.result c.loop-row.row c.next_walk-walk.result (before c.args.first c.span_of-span.result.old c.args.stage.seen c.span_of-span.result.warm c.args.stage.round (begin (in_words c.round.calls c.round.n c.round.answers c.round.m) (uses_in c.round.calls c.round.list))) c.steps_for-body.result.now
-    (in_words c.loop-after.calls c.loop-after.n c.loop-after.answers c.loop-after.m) (mark_words c.loop-after.calls) (uses_in c.loop-after.calls c.loop-after.list) c.loop-after.chosen c.loop-after.rest.now (spot_of c.loop-after.spot) = let R = (let rules_at : (rs : List (ℕ × ℕ)) → (let First : List (ℕ × ℕ) → Type 0 = (λ roots. Round ((let over : Bodies = bodies_with c.args.rules.now c.args.goals.first c.args.goals.second c.args.goal.now c.args.second.now in over)) (Among roots) c.args.first c.args.stage.walked c.args.stage.seen
-    (in_words c.args.calls.now c.args.stage.calls c.args.answers.now c.args.stage.answers) (uses_in c.args.calls.now c.args.list.now)) in First) rs
-    → Rules ((let over : Bodies = bodies_with c.args.rules.now c.args.goals.first c.args.goals.second c.args.goal.now c.args.second.now in over)) (Among rs) (number_at (length c.args.rules.now / rule_width)) c.args.first c.args.stage.walked c.args.stage.seen c.span_of-span.result.low c.span_of-span.result.high c.span_of-span.result.top c.span_of-span.result.old c.span_of-span.result.warm
-    c.args.stage.round c.args.stage.calls c.args.stage.answers c.loop-row.row c.loop-rule.rule (begin (in_words c.round.calls c.round.n c.round.answers c.round.m) (uses_in c.round.calls c.round.list)) (in_words c.next_walk-walk.new.calls c.loop-rule.n c.loop-rule.answers c.loop-rule.m) (uses_in c.next_walk-walk.new.calls c.loop-rule.list) = (λ rs S. (let marked_at : (rs : List (ℕ × ℕ)) (begun : Begin) → Rules ((let over : Bodies = bodies_with c.args.rules.now c.args.goals.first c.args.goals.second c.args.goal.now c.args.second.now in over)) (Among rs) (number_at (length c.args.rules.now / rule_width)) c.args.first c.args.stage.walked c.args.stage.seen c.span_of-span.result.low c.span_of-span.result.high c.span_of-span.result.top c.span_of-span.result.old c.span_of-span.result.warm
-    c.args.stage.round c.args.stage.calls c.args.stage.answers c.loop-row.row c.loop-rule.rule begun (in_words c.loop-rule.calls c.loop-rule.n c.loop-rule.answers c.loop-rule.m) (uses_in c.loop-rule.calls c.loop-rule.list)
-    → Rules ((let over : Bodies = bodies_with c.args.rules.now c.args.goals.first c.args.goals.second c.args.goal.now c.args.second.now in over)) (Among rs) (number_at (length c.args.rules.now / rule_width)) c.args.first c.args.stage.walked c.args.stage.seen c.span_of-span.result.low c.span_of-span.result.high c.span_of-span.result.top c.span_of-span.result.old c.span_of-span.result.warm
-    c.args.stage.round c.args.stage.calls c.args.stage.answers c.loop-row.row c.loop-rule.rule begun (in_words c.next_walk-walk.new.calls c.loop-rule.n c.loop-rule.answers c.loop-rule.m) (uses_in c.next_walk-walk.new.calls c.loop-rule.list) = (λ rs begun R. rules_marked (ap (λ (z : Calls). tables z (packed_answers c.loop-rule.answers c.loop-rule.m)) (alone_calls c.next_walk-walk.ensures.1 c.loop-rule.n)) (marked_uses c.next_walk-walk.ensures.1 c.loop-rule.list) R) in marked_at) rs _ (c.loop-rule.invariant.closed rs _ ((let rows_at : (rs : List (ℕ × ℕ)) → (let First : List (ℕ × ℕ) → Type 0 = (λ roots. Round ((let over : Bodies = bodies_with c.args.rules.now c.args.goals.first c.args.goals.second c.args.goal.now c.args.second.now in over)) (Among roots) c.args.first c.args.stage.walked c.args.stage.seen
-    (in_words c.args.calls.now c.args.stage.calls c.args.answers.now c.args.stage.answers) (uses_in c.args.calls.now c.args.list.now)) in First) rs
-    → Rows ((let over : Bodies = bodies_with c.args.rules.now c.args.goals.first c.args.goals.second c.args.goal.now c.args.second.now in over)) (Among rs) c.args.first c.args.stage.walked c.args.stage.seen c.span_of-span.result.low c.span_of-span.result.high c.span_of-span.result.top c.span_of-span.result.old c.span_of-span.result.warm
-    c.args.stage.round c.args.stage.calls c.args.stage.answers c.loop-row.row (begin (in_words c.round.calls c.round.n c.round.answers c.round.m) (uses_in c.round.calls c.round.list)) (in_words c.loop-row.calls c.loop-row.n c.loop-row.answers c.loop-row.m) (uses_in c.loop-row.calls c.loop-row.list) = (λ rs S. let r = c.round.invariant in
-    let b = c.span_of-span.ensures.begun in
-    let (S', W) = r.closed rs (round_kept _ _ (kept_same b.low) S) b.lit in
-    c.loop-row.invariant.closed rs S' (subst (λ (k : ℕ). (x : ℕ) → x < c.span_of-span.result.old → (x < c.args.stage.walked) × Lit (in_words c.round.calls c.round.n c.round.answers c.round.m).answers (uses_in c.round.calls c.round.list) c.args.stage.seen k c.span_of-span.result.warm) r.known_all W)) in rows_at) rs S))) in rules_at) c.requires.standing.roots c.requires.standing.round in
-    c.loop-after.invariant.going c.requires.standing.roots _ ((let given_at : (rs : List (ℕ × ℕ)) (begun : Begin) → Rules ((let over : Bodies = bodies_with c.args.rules.now c.args.goals.first c.args.goals.second c.args.goal.now c.args.second.now in over)) (Among rs) (number_at (length c.args.rules.now / rule_width)) c.args.first c.args.stage.walked c.args.stage.seen c.span_of-span.result.low c.span_of-span.result.high c.span_of-span.result.top c.span_of-span.result.old c.span_of-span.result.warm
-    c.args.stage.round c.args.stage.calls c.args.stage.answers c.loop-row.row c.loop-rule.rule begun (in_words c.next_walk-walk.new.calls c.loop-rule.n c.loop-rule.answers c.loop-rule.m) (uses_in c.next_walk-walk.new.calls c.loop-rule.list)
-    → Given ((let over : Bodies = bodies_with c.args.rules.now c.args.goals.first c.args.goals.second c.args.goal.now c.args.second.now in over)) (Among rs) (in_words c.next_walk-walk.new.calls c.loop-rule.n c.loop-rule.answers c.loop-rule.m)
-    c.args.stage.answers c.number_of-number.result c.loop-row.row (before c.args.first c.span_of-span.result.old c.args.stage.seen c.span_of-span.result.warm c.args.stage.round begun) c.steps_for-body.result.now = (λ rs begun R. record {
-      proper = proper_with c.args.rules.now c.args.goals.first c.args.goals.second c.args.goal.now c.args.second.now c.requires.accepted.2 c.requires.accepted.3;
-      valid = R.rows_closed.before.valid;
-      enough = R.rows_closed.known_in;
-      row_in = omega (arith, R.rows_closed.rows_in, c.loop-row-test.true, c.span_of-span.ensures.spans.top_in);
-      fits = rw (c.number_of-number.ensures, (let action_at : (open_calls c.next_walk-walk.new.calls c.loop-rule.n).action c.loop-row.row ≡ c.action_of-action.result = ap (λ (z : Calls). z.action c.loop-row.row) (alone_calls c.next_walk-walk.ensures.1 c.loop-rule.n) ∙ sym c.action_of-action.ensures in action_at)) (sym c.is_at.ensures ∙ not-false _ c.if-not-is_at.false-raw);
-      words = (let words_at : c.steps_for-body.result.now ≡ ((let over : Bodies = bodies_with c.args.rules.now c.args.goals.first c.args.goals.second c.args.goal.now c.args.second.now in over)).words c.number_of-number.result ((open_calls c.next_walk-walk.new.calls c.loop-rule.n).action c.loop-row.row) = rw ((let action_at : (open_calls c.next_walk-walk.new.calls c.loop-rule.n).action c.loop-row.row ≡ c.action_of-action.result = ap (λ (z : Calls). z.action c.loop-row.row) (alone_calls c.next_walk-walk.ensures.1 c.loop-rule.n) ∙ sym c.action_of-action.ensures in action_at)) c.steps_for-body.ensures.0 in words_at);
-      past = λ (h, k). past_words ((let words_at : c.steps_for-body.result.now ≡ ((let over : Bodies = bodies_with c.args.rules.now c.args.goals.first c.args.goals.second c.args.goal.now c.args.second.now in over)).words c.number_of-number.result ((open_calls c.next_walk-walk.new.calls c.loop-rule.n).action c.loop-row.row) = rw ((let action_at : (open_calls c.next_walk-walk.new.calls c.loop-rule.n).action c.loop-row.row ≡ c.action_of-action.result = ap (λ (z : Calls). z.action c.loop-row.row) (alone_calls c.next_walk-walk.ensures.1 c.loop-rule.n) ∙ sym c.action_of-action.ensures in action_at)) c.steps_for-body.ensures.0 in words_at)) (rows_past _ _ R.rows_closed c.number_of-number.result (rw (c.number_of-number.ensures, (let action_at : (open_calls c.next_walk-walk.new.calls c.loop-rule.n).action c.loop-row.row ≡ c.action_of-action.result = ap (λ (z : Calls). z.action c.loop-row.row) (alone_calls c.next_walk-walk.ensures.1 c.loop-rule.n) ∙ sym c.action_of-action.ensures in action_at)) (sym c.is_at.ensures ∙ not-false _ c.if-not-is_at.false-raw)) h k);
-      lower = λ j k e g w. rules_lower _ _ _ R j (lower_number c.args.rules.now c.args.goals.first c.args.goals.second c.args.goal.now c.args.second.now c.requires.accepted.2.few_rules j ((open_calls c.next_walk-walk.new.calls c.loop-rule.n).action c.loop-row.row) c.loop-rule.rule e (omega (arith, c.loop-rule-test.true, c.past_body-past.ensures.0)) (rw c.number_of-number.ensures at k)) e g w;
-      row_last = λ x h l. R.rows_closed.latest x (omega (arith, R.rows_closed.since.all_known)) l;
-      row_old = omega (arith, R.rows_closed.base_rows, c.loop-row-test.true, c.span_of-span.ensures.spans.top_in);
-      since = R.rows_closed.since;
-    }) in given_at) c.requires.standing.roots _ R) R.rows_closed.noted in going_at)) O.0 refl O.1
+    let B = begins_at (goal.at.loop-after-smaller-in-On c).After-next_walk-walk in
+    let G = c.loop-after.invariant.going _ _ B.0 B.1 in
+    let O = (rw c.in-On.is at (c.turn-turn.ensures.leaving _ _ _ _ G)) in
+    on_less _ _ _ _ _ _ _ _ _ G O.0 refl O.1
 
 pub loop-after-preserved-in-On : goal.loop-after-preserved-in-On
 loop-after-preserved-in-On c =
@@ -521,216 +297,37 @@ loop-after-preserved-in-On c =
 
 pub offset_bounds-body-place : goal.offset_bounds-body-place
 offset_bounds-body-place c =
+    let B = begins_at (goal.at.offset_bounds-body-place c).After-next_walk-walk in
+    let G = c.loop-after.invariant.going _ _ B.0 B.1 in
     omega (
       arith,
-      (rw c.in-Back.is at (c.turn-turn.ensures.leaving _ _ _ _ ((let going_at : Going ((let over : Bodies = bodies_with c.args.rules.now c.args.goals.first c.args.goals.second c.args.goal.now c.args.second.now in over)) (Among c.requires.standing.roots) (in_words c.next_walk-walk.new.calls c.loop-rule.n c.loop-rule.answers c.loop-rule.m)
-          c.args.stage.answers c.number_of-number.result c.loop-row.row c.next_walk-walk.result (before c.args.first c.span_of-span.result.old c.args.stage.seen c.span_of-span.result.warm c.args.stage.round (begin (in_words c.round.calls c.round.n c.round.answers c.round.m) (uses_in c.round.calls c.round.list))) c.steps_for-body.result.now
-          (in_words c.loop-after.calls c.loop-after.n c.loop-after.answers c.loop-after.m) (mark_words c.loop-after.calls) (uses_in c.loop-after.calls c.loop-after.list) c.loop-after.chosen c.loop-after.rest.now (spot_of c.loop-after.spot) = let R = (let rules_at : (rs : List (ℕ × ℕ)) → (let First : List (ℕ × ℕ) → Type 0 = (λ roots. Round ((let over : Bodies = bodies_with c.args.rules.now c.args.goals.first c.args.goals.second c.args.goal.now c.args.second.now in over)) (Among roots) c.args.first c.args.stage.walked c.args.stage.seen
-          (in_words c.args.calls.now c.args.stage.calls c.args.answers.now c.args.stage.answers) (uses_in c.args.calls.now c.args.list.now)) in First) rs
-          → Rules ((let over : Bodies = bodies_with c.args.rules.now c.args.goals.first c.args.goals.second c.args.goal.now c.args.second.now in over)) (Among rs) (number_at (length c.args.rules.now / rule_width)) c.args.first c.args.stage.walked c.args.stage.seen c.span_of-span.result.low c.span_of-span.result.high c.span_of-span.result.top c.span_of-span.result.old c.span_of-span.result.warm
-          c.args.stage.round c.args.stage.calls c.args.stage.answers c.loop-row.row c.loop-rule.rule (begin (in_words c.round.calls c.round.n c.round.answers c.round.m) (uses_in c.round.calls c.round.list)) (in_words c.next_walk-walk.new.calls c.loop-rule.n c.loop-rule.answers c.loop-rule.m) (uses_in c.next_walk-walk.new.calls c.loop-rule.list) = (λ rs S. (let marked_at : (rs : List (ℕ × ℕ)) (begun : Begin) → Rules ((let over : Bodies = bodies_with c.args.rules.now c.args.goals.first c.args.goals.second c.args.goal.now c.args.second.now in over)) (Among rs) (number_at (length c.args.rules.now / rule_width)) c.args.first c.args.stage.walked c.args.stage.seen c.span_of-span.result.low c.span_of-span.result.high c.span_of-span.result.top c.span_of-span.result.old c.span_of-span.result.warm
-          c.args.stage.round c.args.stage.calls c.args.stage.answers c.loop-row.row c.loop-rule.rule begun (in_words c.loop-rule.calls c.loop-rule.n c.loop-rule.answers c.loop-rule.m) (uses_in c.loop-rule.calls c.loop-rule.list)
-          → Rules ((let over : Bodies = bodies_with c.args.rules.now c.args.goals.first c.args.goals.second c.args.goal.now c.args.second.now in over)) (Among rs) (number_at (length c.args.rules.now / rule_width)) c.args.first c.args.stage.walked c.args.stage.seen c.span_of-span.result.low c.span_of-span.result.high c.span_of-span.result.top c.span_of-span.result.old c.span_of-span.result.warm
-          c.args.stage.round c.args.stage.calls c.args.stage.answers c.loop-row.row c.loop-rule.rule begun (in_words c.next_walk-walk.new.calls c.loop-rule.n c.loop-rule.answers c.loop-rule.m) (uses_in c.next_walk-walk.new.calls c.loop-rule.list) = (λ rs begun R. rules_marked (ap (λ (z : Calls). tables z (packed_answers c.loop-rule.answers c.loop-rule.m)) (alone_calls c.next_walk-walk.ensures.1 c.loop-rule.n)) (marked_uses c.next_walk-walk.ensures.1 c.loop-rule.list) R) in marked_at) rs _ (c.loop-rule.invariant.closed rs _ ((let rows_at : (rs : List (ℕ × ℕ)) → (let First : List (ℕ × ℕ) → Type 0 = (λ roots. Round ((let over : Bodies = bodies_with c.args.rules.now c.args.goals.first c.args.goals.second c.args.goal.now c.args.second.now in over)) (Among roots) c.args.first c.args.stage.walked c.args.stage.seen
-          (in_words c.args.calls.now c.args.stage.calls c.args.answers.now c.args.stage.answers) (uses_in c.args.calls.now c.args.list.now)) in First) rs
-          → Rows ((let over : Bodies = bodies_with c.args.rules.now c.args.goals.first c.args.goals.second c.args.goal.now c.args.second.now in over)) (Among rs) c.args.first c.args.stage.walked c.args.stage.seen c.span_of-span.result.low c.span_of-span.result.high c.span_of-span.result.top c.span_of-span.result.old c.span_of-span.result.warm
-          c.args.stage.round c.args.stage.calls c.args.stage.answers c.loop-row.row (begin (in_words c.round.calls c.round.n c.round.answers c.round.m) (uses_in c.round.calls c.round.list)) (in_words c.loop-row.calls c.loop-row.n c.loop-row.answers c.loop-row.m) (uses_in c.loop-row.calls c.loop-row.list) = (λ rs S. let r = c.round.invariant in
-          let b = c.span_of-span.ensures.begun in
-          let (S', W) = r.closed rs (round_kept _ _ (kept_same b.low) S) b.lit in
-          c.loop-row.invariant.closed rs S' (subst (λ (k : ℕ). (x : ℕ) → x < c.span_of-span.result.old → (x < c.args.stage.walked) × Lit (in_words c.round.calls c.round.n c.round.answers c.round.m).answers (uses_in c.round.calls c.round.list) c.args.stage.seen k c.span_of-span.result.warm) r.known_all W)) in rows_at) rs S))) in rules_at) c.requires.standing.roots c.requires.standing.round in
-          c.loop-after.invariant.going c.requires.standing.roots _ ((let given_at : (rs : List (ℕ × ℕ)) (begun : Begin) → Rules ((let over : Bodies = bodies_with c.args.rules.now c.args.goals.first c.args.goals.second c.args.goal.now c.args.second.now in over)) (Among rs) (number_at (length c.args.rules.now / rule_width)) c.args.first c.args.stage.walked c.args.stage.seen c.span_of-span.result.low c.span_of-span.result.high c.span_of-span.result.top c.span_of-span.result.old c.span_of-span.result.warm
-          c.args.stage.round c.args.stage.calls c.args.stage.answers c.loop-row.row c.loop-rule.rule begun (in_words c.next_walk-walk.new.calls c.loop-rule.n c.loop-rule.answers c.loop-rule.m) (uses_in c.next_walk-walk.new.calls c.loop-rule.list)
-          → Given ((let over : Bodies = bodies_with c.args.rules.now c.args.goals.first c.args.goals.second c.args.goal.now c.args.second.now in over)) (Among rs) (in_words c.next_walk-walk.new.calls c.loop-rule.n c.loop-rule.answers c.loop-rule.m)
-          c.args.stage.answers c.number_of-number.result c.loop-row.row (before c.args.first c.span_of-span.result.old c.args.stage.seen c.span_of-span.result.warm c.args.stage.round begun) c.steps_for-body.result.now = (λ rs begun R. record {
-            proper = proper_with c.args.rules.now c.args.goals.first c.args.goals.second c.args.goal.now c.args.second.now c.requires.accepted.2 c.requires.accepted.3;
-            valid = R.rows_closed.before.valid;
-            enough = R.rows_closed.known_in;
-            row_in = omega (arith, R.rows_closed.rows_in, c.loop-row-test.true, c.span_of-span.ensures.spans.top_in);
-            fits = rw (c.number_of-number.ensures, (let action_at : (open_calls c.next_walk-walk.new.calls c.loop-rule.n).action c.loop-row.row ≡ c.action_of-action.result = ap (λ (z : Calls). z.action c.loop-row.row) (alone_calls c.next_walk-walk.ensures.1 c.loop-rule.n) ∙ sym c.action_of-action.ensures in action_at)) (sym c.is_at.ensures ∙ not-false _ c.if-not-is_at.false-raw);
-            words = (let words_at : c.steps_for-body.result.now ≡ ((let over : Bodies = bodies_with c.args.rules.now c.args.goals.first c.args.goals.second c.args.goal.now c.args.second.now in over)).words c.number_of-number.result ((open_calls c.next_walk-walk.new.calls c.loop-rule.n).action c.loop-row.row) = rw ((let action_at : (open_calls c.next_walk-walk.new.calls c.loop-rule.n).action c.loop-row.row ≡ c.action_of-action.result = ap (λ (z : Calls). z.action c.loop-row.row) (alone_calls c.next_walk-walk.ensures.1 c.loop-rule.n) ∙ sym c.action_of-action.ensures in action_at)) c.steps_for-body.ensures.0 in words_at);
-            past = λ (h, k). past_words ((let words_at : c.steps_for-body.result.now ≡ ((let over : Bodies = bodies_with c.args.rules.now c.args.goals.first c.args.goals.second c.args.goal.now c.args.second.now in over)).words c.number_of-number.result ((open_calls c.next_walk-walk.new.calls c.loop-rule.n).action c.loop-row.row) = rw ((let action_at : (open_calls c.next_walk-walk.new.calls c.loop-rule.n).action c.loop-row.row ≡ c.action_of-action.result = ap (λ (z : Calls). z.action c.loop-row.row) (alone_calls c.next_walk-walk.ensures.1 c.loop-rule.n) ∙ sym c.action_of-action.ensures in action_at)) c.steps_for-body.ensures.0 in words_at)) (rows_past _ _ R.rows_closed c.number_of-number.result (rw (c.number_of-number.ensures, (let action_at : (open_calls c.next_walk-walk.new.calls c.loop-rule.n).action c.loop-row.row ≡ c.action_of-action.result = ap (λ (z : Calls). z.action c.loop-row.row) (alone_calls c.next_walk-walk.ensures.1 c.loop-rule.n) ∙ sym c.action_of-action.ensures in action_at)) (sym c.is_at.ensures ∙ not-false _ c.if-not-is_at.false-raw)) h k);
-            lower = λ j k e g w. rules_lower _ _ _ R j (lower_number c.args.rules.now c.args.goals.first c.args.goals.second c.args.goal.now c.args.second.now c.requires.accepted.2.few_rules j ((open_calls c.next_walk-walk.new.calls c.loop-rule.n).action c.loop-row.row) c.loop-rule.rule e (omega (arith, c.loop-rule-test.true, c.past_body-past.ensures.0)) (rw c.number_of-number.ensures at k)) e g w;
-            row_last = λ x h l. R.rows_closed.latest x (omega (arith, R.rows_closed.since.all_known)) l;
-            row_old = omega (arith, R.rows_closed.base_rows, c.loop-row-test.true, c.span_of-span.ensures.spans.top_in);
-            since = R.rows_closed.since;
-          }) in given_at) c.requires.standing.roots _ R) R.rows_closed.noted in going_at)))).0.walking.inside,
-      body_short _ _ _ _ _ _ c.next_walk-walk.result _ _ ((let going_at : Going ((let over : Bodies = bodies_with c.args.rules.now c.args.goals.first c.args.goals.second c.args.goal.now c.args.second.now in over)) (Among c.requires.standing.roots) (in_words c.next_walk-walk.new.calls c.loop-rule.n c.loop-rule.answers c.loop-rule.m)
-          c.args.stage.answers c.number_of-number.result c.loop-row.row c.next_walk-walk.result (before c.args.first c.span_of-span.result.old c.args.stage.seen c.span_of-span.result.warm c.args.stage.round (begin (in_words c.round.calls c.round.n c.round.answers c.round.m) (uses_in c.round.calls c.round.list))) c.steps_for-body.result.now
-          (in_words c.loop-after.calls c.loop-after.n c.loop-after.answers c.loop-after.m) (mark_words c.loop-after.calls) (uses_in c.loop-after.calls c.loop-after.list) c.loop-after.chosen c.loop-after.rest.now (spot_of c.loop-after.spot) = let R = (let rules_at : (rs : List (ℕ × ℕ)) → (let First : List (ℕ × ℕ) → Type 0 = (λ roots. Round ((let over : Bodies = bodies_with c.args.rules.now c.args.goals.first c.args.goals.second c.args.goal.now c.args.second.now in over)) (Among roots) c.args.first c.args.stage.walked c.args.stage.seen
-          (in_words c.args.calls.now c.args.stage.calls c.args.answers.now c.args.stage.answers) (uses_in c.args.calls.now c.args.list.now)) in First) rs
-          → Rules ((let over : Bodies = bodies_with c.args.rules.now c.args.goals.first c.args.goals.second c.args.goal.now c.args.second.now in over)) (Among rs) (number_at (length c.args.rules.now / rule_width)) c.args.first c.args.stage.walked c.args.stage.seen c.span_of-span.result.low c.span_of-span.result.high c.span_of-span.result.top c.span_of-span.result.old c.span_of-span.result.warm
-          c.args.stage.round c.args.stage.calls c.args.stage.answers c.loop-row.row c.loop-rule.rule (begin (in_words c.round.calls c.round.n c.round.answers c.round.m) (uses_in c.round.calls c.round.list)) (in_words c.next_walk-walk.new.calls c.loop-rule.n c.loop-rule.answers c.loop-rule.m) (uses_in c.next_walk-walk.new.calls c.loop-rule.list) = (λ rs S. (let marked_at : (rs : List (ℕ × ℕ)) (begun : Begin) → Rules ((let over : Bodies = bodies_with c.args.rules.now c.args.goals.first c.args.goals.second c.args.goal.now c.args.second.now in over)) (Among rs) (number_at (length c.args.rules.now / rule_width)) c.args.first c.args.stage.walked c.args.stage.seen c.span_of-span.result.low c.span_of-span.result.high c.span_of-span.result.top c.span_of-span.result.old c.span_of-span.result.warm
-          c.args.stage.round c.args.stage.calls c.args.stage.answers c.loop-row.row c.loop-rule.rule begun (in_words c.loop-rule.calls c.loop-rule.n c.loop-rule.answers c.loop-rule.m) (uses_in c.loop-rule.calls c.loop-rule.list)
-          → Rules ((let over : Bodies = bodies_with c.args.rules.now c.args.goals.first c.args.goals.second c.args.goal.now c.args.second.now in over)) (Among rs) (number_at (length c.args.rules.now / rule_width)) c.args.first c.args.stage.walked c.args.stage.seen c.span_of-span.result.low c.span_of-span.result.high c.span_of-span.result.top c.span_of-span.result.old c.span_of-span.result.warm
-          c.args.stage.round c.args.stage.calls c.args.stage.answers c.loop-row.row c.loop-rule.rule begun (in_words c.next_walk-walk.new.calls c.loop-rule.n c.loop-rule.answers c.loop-rule.m) (uses_in c.next_walk-walk.new.calls c.loop-rule.list) = (λ rs begun R. rules_marked (ap (λ (z : Calls). tables z (packed_answers c.loop-rule.answers c.loop-rule.m)) (alone_calls c.next_walk-walk.ensures.1 c.loop-rule.n)) (marked_uses c.next_walk-walk.ensures.1 c.loop-rule.list) R) in marked_at) rs _ (c.loop-rule.invariant.closed rs _ ((let rows_at : (rs : List (ℕ × ℕ)) → (let First : List (ℕ × ℕ) → Type 0 = (λ roots. Round ((let over : Bodies = bodies_with c.args.rules.now c.args.goals.first c.args.goals.second c.args.goal.now c.args.second.now in over)) (Among roots) c.args.first c.args.stage.walked c.args.stage.seen
-          (in_words c.args.calls.now c.args.stage.calls c.args.answers.now c.args.stage.answers) (uses_in c.args.calls.now c.args.list.now)) in First) rs
-          → Rows ((let over : Bodies = bodies_with c.args.rules.now c.args.goals.first c.args.goals.second c.args.goal.now c.args.second.now in over)) (Among rs) c.args.first c.args.stage.walked c.args.stage.seen c.span_of-span.result.low c.span_of-span.result.high c.span_of-span.result.top c.span_of-span.result.old c.span_of-span.result.warm
-          c.args.stage.round c.args.stage.calls c.args.stage.answers c.loop-row.row (begin (in_words c.round.calls c.round.n c.round.answers c.round.m) (uses_in c.round.calls c.round.list)) (in_words c.loop-row.calls c.loop-row.n c.loop-row.answers c.loop-row.m) (uses_in c.loop-row.calls c.loop-row.list) = (λ rs S. let r = c.round.invariant in
-          let b = c.span_of-span.ensures.begun in
-          let (S', W) = r.closed rs (round_kept _ _ (kept_same b.low) S) b.lit in
-          c.loop-row.invariant.closed rs S' (subst (λ (k : ℕ). (x : ℕ) → x < c.span_of-span.result.old → (x < c.args.stage.walked) × Lit (in_words c.round.calls c.round.n c.round.answers c.round.m).answers (uses_in c.round.calls c.round.list) c.args.stage.seen k c.span_of-span.result.warm) r.known_all W)) in rows_at) rs S))) in rules_at) c.requires.standing.roots c.requires.standing.round in
-          c.loop-after.invariant.going c.requires.standing.roots _ ((let given_at : (rs : List (ℕ × ℕ)) (begun : Begin) → Rules ((let over : Bodies = bodies_with c.args.rules.now c.args.goals.first c.args.goals.second c.args.goal.now c.args.second.now in over)) (Among rs) (number_at (length c.args.rules.now / rule_width)) c.args.first c.args.stage.walked c.args.stage.seen c.span_of-span.result.low c.span_of-span.result.high c.span_of-span.result.top c.span_of-span.result.old c.span_of-span.result.warm
-          c.args.stage.round c.args.stage.calls c.args.stage.answers c.loop-row.row c.loop-rule.rule begun (in_words c.next_walk-walk.new.calls c.loop-rule.n c.loop-rule.answers c.loop-rule.m) (uses_in c.next_walk-walk.new.calls c.loop-rule.list)
-          → Given ((let over : Bodies = bodies_with c.args.rules.now c.args.goals.first c.args.goals.second c.args.goal.now c.args.second.now in over)) (Among rs) (in_words c.next_walk-walk.new.calls c.loop-rule.n c.loop-rule.answers c.loop-rule.m)
-          c.args.stage.answers c.number_of-number.result c.loop-row.row (before c.args.first c.span_of-span.result.old c.args.stage.seen c.span_of-span.result.warm c.args.stage.round begun) c.steps_for-body.result.now = (λ rs begun R. record {
-            proper = proper_with c.args.rules.now c.args.goals.first c.args.goals.second c.args.goal.now c.args.second.now c.requires.accepted.2 c.requires.accepted.3;
-            valid = R.rows_closed.before.valid;
-            enough = R.rows_closed.known_in;
-            row_in = omega (arith, R.rows_closed.rows_in, c.loop-row-test.true, c.span_of-span.ensures.spans.top_in);
-            fits = rw (c.number_of-number.ensures, (let action_at : (open_calls c.next_walk-walk.new.calls c.loop-rule.n).action c.loop-row.row ≡ c.action_of-action.result = ap (λ (z : Calls). z.action c.loop-row.row) (alone_calls c.next_walk-walk.ensures.1 c.loop-rule.n) ∙ sym c.action_of-action.ensures in action_at)) (sym c.is_at.ensures ∙ not-false _ c.if-not-is_at.false-raw);
-            words = (let words_at : c.steps_for-body.result.now ≡ ((let over : Bodies = bodies_with c.args.rules.now c.args.goals.first c.args.goals.second c.args.goal.now c.args.second.now in over)).words c.number_of-number.result ((open_calls c.next_walk-walk.new.calls c.loop-rule.n).action c.loop-row.row) = rw ((let action_at : (open_calls c.next_walk-walk.new.calls c.loop-rule.n).action c.loop-row.row ≡ c.action_of-action.result = ap (λ (z : Calls). z.action c.loop-row.row) (alone_calls c.next_walk-walk.ensures.1 c.loop-rule.n) ∙ sym c.action_of-action.ensures in action_at)) c.steps_for-body.ensures.0 in words_at);
-            past = λ (h, k). past_words ((let words_at : c.steps_for-body.result.now ≡ ((let over : Bodies = bodies_with c.args.rules.now c.args.goals.first c.args.goals.second c.args.goal.now c.args.second.now in over)).words c.number_of-number.result ((open_calls c.next_walk-walk.new.calls c.loop-rule.n).action c.loop-row.row) = rw ((let action_at : (open_calls c.next_walk-walk.new.calls c.loop-rule.n).action c.loop-row.row ≡ c.action_of-action.result = ap (λ (z : Calls). z.action c.loop-row.row) (alone_calls c.next_walk-walk.ensures.1 c.loop-rule.n) ∙ sym c.action_of-action.ensures in action_at)) c.steps_for-body.ensures.0 in words_at)) (rows_past _ _ R.rows_closed c.number_of-number.result (rw (c.number_of-number.ensures, (let action_at : (open_calls c.next_walk-walk.new.calls c.loop-rule.n).action c.loop-row.row ≡ c.action_of-action.result = ap (λ (z : Calls). z.action c.loop-row.row) (alone_calls c.next_walk-walk.ensures.1 c.loop-rule.n) ∙ sym c.action_of-action.ensures in action_at)) (sym c.is_at.ensures ∙ not-false _ c.if-not-is_at.false-raw)) h k);
-            lower = λ j k e g w. rules_lower _ _ _ R j (lower_number c.args.rules.now c.args.goals.first c.args.goals.second c.args.goal.now c.args.second.now c.requires.accepted.2.few_rules j ((open_calls c.next_walk-walk.new.calls c.loop-rule.n).action c.loop-row.row) c.loop-rule.rule e (omega (arith, c.loop-rule-test.true, c.past_body-past.ensures.0)) (rw c.number_of-number.ensures at k)) e g w;
-            row_last = λ x h l. R.rows_closed.latest x (omega (arith, R.rows_closed.since.all_known)) l;
-            row_old = omega (arith, R.rows_closed.base_rows, c.loop-row-test.true, c.span_of-span.ensures.spans.top_in);
-            since = R.rows_closed.since;
-          }) in given_at) c.requires.standing.roots _ R) R.rows_closed.noted in going_at)).turning.given,
+      (rw c.in-Back.is at (c.turn-turn.ensures.leaving _ _ _ _ G)).0.walking.inside,
+      body_short _ _ _ _ _ _ c.next_walk-walk.result _ _ G.turning.given,
     )
 
 pub slice_bounds-rest-count-in-Back : goal.slice_bounds-rest-count-in-Back
 slice_bounds-rest-count-in-Back c =
+    let B = begins_at (goal.at.slice_bounds-rest-count-in-Back c).After-next_walk-walk in
+    let G = c.loop-after.invariant.going _ _ B.0 B.1 in
     omega (
       arith,
-      (rw c.in-Back.is at (c.turn-turn.ensures.leaving _ _ _ _ ((let going_at : Going ((let over : Bodies = bodies_with c.args.rules.now c.args.goals.first c.args.goals.second c.args.goal.now c.args.second.now in over)) (Among c.requires.standing.roots) (in_words c.next_walk-walk.new.calls c.loop-rule.n c.loop-rule.answers c.loop-rule.m)
-          c.args.stage.answers c.number_of-number.result c.loop-row.row c.next_walk-walk.result (before c.args.first c.span_of-span.result.old c.args.stage.seen c.span_of-span.result.warm c.args.stage.round (begin (in_words c.round.calls c.round.n c.round.answers c.round.m) (uses_in c.round.calls c.round.list))) c.steps_for-body.result.now
-          (in_words c.loop-after.calls c.loop-after.n c.loop-after.answers c.loop-after.m) (mark_words c.loop-after.calls) (uses_in c.loop-after.calls c.loop-after.list) c.loop-after.chosen c.loop-after.rest.now (spot_of c.loop-after.spot) = let R = (let rules_at : (rs : List (ℕ × ℕ)) → (let First : List (ℕ × ℕ) → Type 0 = (λ roots. Round ((let over : Bodies = bodies_with c.args.rules.now c.args.goals.first c.args.goals.second c.args.goal.now c.args.second.now in over)) (Among roots) c.args.first c.args.stage.walked c.args.stage.seen
-          (in_words c.args.calls.now c.args.stage.calls c.args.answers.now c.args.stage.answers) (uses_in c.args.calls.now c.args.list.now)) in First) rs
-          → Rules ((let over : Bodies = bodies_with c.args.rules.now c.args.goals.first c.args.goals.second c.args.goal.now c.args.second.now in over)) (Among rs) (number_at (length c.args.rules.now / rule_width)) c.args.first c.args.stage.walked c.args.stage.seen c.span_of-span.result.low c.span_of-span.result.high c.span_of-span.result.top c.span_of-span.result.old c.span_of-span.result.warm
-          c.args.stage.round c.args.stage.calls c.args.stage.answers c.loop-row.row c.loop-rule.rule (begin (in_words c.round.calls c.round.n c.round.answers c.round.m) (uses_in c.round.calls c.round.list)) (in_words c.next_walk-walk.new.calls c.loop-rule.n c.loop-rule.answers c.loop-rule.m) (uses_in c.next_walk-walk.new.calls c.loop-rule.list) = (λ rs S. (let marked_at : (rs : List (ℕ × ℕ)) (begun : Begin) → Rules ((let over : Bodies = bodies_with c.args.rules.now c.args.goals.first c.args.goals.second c.args.goal.now c.args.second.now in over)) (Among rs) (number_at (length c.args.rules.now / rule_width)) c.args.first c.args.stage.walked c.args.stage.seen c.span_of-span.result.low c.span_of-span.result.high c.span_of-span.result.top c.span_of-span.result.old c.span_of-span.result.warm
-          c.args.stage.round c.args.stage.calls c.args.stage.answers c.loop-row.row c.loop-rule.rule begun (in_words c.loop-rule.calls c.loop-rule.n c.loop-rule.answers c.loop-rule.m) (uses_in c.loop-rule.calls c.loop-rule.list)
-          → Rules ((let over : Bodies = bodies_with c.args.rules.now c.args.goals.first c.args.goals.second c.args.goal.now c.args.second.now in over)) (Among rs) (number_at (length c.args.rules.now / rule_width)) c.args.first c.args.stage.walked c.args.stage.seen c.span_of-span.result.low c.span_of-span.result.high c.span_of-span.result.top c.span_of-span.result.old c.span_of-span.result.warm
-          c.args.stage.round c.args.stage.calls c.args.stage.answers c.loop-row.row c.loop-rule.rule begun (in_words c.next_walk-walk.new.calls c.loop-rule.n c.loop-rule.answers c.loop-rule.m) (uses_in c.next_walk-walk.new.calls c.loop-rule.list) = (λ rs begun R. rules_marked (ap (λ (z : Calls). tables z (packed_answers c.loop-rule.answers c.loop-rule.m)) (alone_calls c.next_walk-walk.ensures.1 c.loop-rule.n)) (marked_uses c.next_walk-walk.ensures.1 c.loop-rule.list) R) in marked_at) rs _ (c.loop-rule.invariant.closed rs _ ((let rows_at : (rs : List (ℕ × ℕ)) → (let First : List (ℕ × ℕ) → Type 0 = (λ roots. Round ((let over : Bodies = bodies_with c.args.rules.now c.args.goals.first c.args.goals.second c.args.goal.now c.args.second.now in over)) (Among roots) c.args.first c.args.stage.walked c.args.stage.seen
-          (in_words c.args.calls.now c.args.stage.calls c.args.answers.now c.args.stage.answers) (uses_in c.args.calls.now c.args.list.now)) in First) rs
-          → Rows ((let over : Bodies = bodies_with c.args.rules.now c.args.goals.first c.args.goals.second c.args.goal.now c.args.second.now in over)) (Among rs) c.args.first c.args.stage.walked c.args.stage.seen c.span_of-span.result.low c.span_of-span.result.high c.span_of-span.result.top c.span_of-span.result.old c.span_of-span.result.warm
-          c.args.stage.round c.args.stage.calls c.args.stage.answers c.loop-row.row (begin (in_words c.round.calls c.round.n c.round.answers c.round.m) (uses_in c.round.calls c.round.list)) (in_words c.loop-row.calls c.loop-row.n c.loop-row.answers c.loop-row.m) (uses_in c.loop-row.calls c.loop-row.list) = (λ rs S. let r = c.round.invariant in
-          let b = c.span_of-span.ensures.begun in
-          let (S', W) = r.closed rs (round_kept _ _ (kept_same b.low) S) b.lit in
-          c.loop-row.invariant.closed rs S' (subst (λ (k : ℕ). (x : ℕ) → x < c.span_of-span.result.old → (x < c.args.stage.walked) × Lit (in_words c.round.calls c.round.n c.round.answers c.round.m).answers (uses_in c.round.calls c.round.list) c.args.stage.seen k c.span_of-span.result.warm) r.known_all W)) in rows_at) rs S))) in rules_at) c.requires.standing.roots c.requires.standing.round in
-          c.loop-after.invariant.going c.requires.standing.roots _ ((let given_at : (rs : List (ℕ × ℕ)) (begun : Begin) → Rules ((let over : Bodies = bodies_with c.args.rules.now c.args.goals.first c.args.goals.second c.args.goal.now c.args.second.now in over)) (Among rs) (number_at (length c.args.rules.now / rule_width)) c.args.first c.args.stage.walked c.args.stage.seen c.span_of-span.result.low c.span_of-span.result.high c.span_of-span.result.top c.span_of-span.result.old c.span_of-span.result.warm
-          c.args.stage.round c.args.stage.calls c.args.stage.answers c.loop-row.row c.loop-rule.rule begun (in_words c.next_walk-walk.new.calls c.loop-rule.n c.loop-rule.answers c.loop-rule.m) (uses_in c.next_walk-walk.new.calls c.loop-rule.list)
-          → Given ((let over : Bodies = bodies_with c.args.rules.now c.args.goals.first c.args.goals.second c.args.goal.now c.args.second.now in over)) (Among rs) (in_words c.next_walk-walk.new.calls c.loop-rule.n c.loop-rule.answers c.loop-rule.m)
-          c.args.stage.answers c.number_of-number.result c.loop-row.row (before c.args.first c.span_of-span.result.old c.args.stage.seen c.span_of-span.result.warm c.args.stage.round begun) c.steps_for-body.result.now = (λ rs begun R. record {
-            proper = proper_with c.args.rules.now c.args.goals.first c.args.goals.second c.args.goal.now c.args.second.now c.requires.accepted.2 c.requires.accepted.3;
-            valid = R.rows_closed.before.valid;
-            enough = R.rows_closed.known_in;
-            row_in = omega (arith, R.rows_closed.rows_in, c.loop-row-test.true, c.span_of-span.ensures.spans.top_in);
-            fits = rw (c.number_of-number.ensures, (let action_at : (open_calls c.next_walk-walk.new.calls c.loop-rule.n).action c.loop-row.row ≡ c.action_of-action.result = ap (λ (z : Calls). z.action c.loop-row.row) (alone_calls c.next_walk-walk.ensures.1 c.loop-rule.n) ∙ sym c.action_of-action.ensures in action_at)) (sym c.is_at.ensures ∙ not-false _ c.if-not-is_at.false-raw);
-            words = (let words_at : c.steps_for-body.result.now ≡ ((let over : Bodies = bodies_with c.args.rules.now c.args.goals.first c.args.goals.second c.args.goal.now c.args.second.now in over)).words c.number_of-number.result ((open_calls c.next_walk-walk.new.calls c.loop-rule.n).action c.loop-row.row) = rw ((let action_at : (open_calls c.next_walk-walk.new.calls c.loop-rule.n).action c.loop-row.row ≡ c.action_of-action.result = ap (λ (z : Calls). z.action c.loop-row.row) (alone_calls c.next_walk-walk.ensures.1 c.loop-rule.n) ∙ sym c.action_of-action.ensures in action_at)) c.steps_for-body.ensures.0 in words_at);
-            past = λ (h, k). past_words ((let words_at : c.steps_for-body.result.now ≡ ((let over : Bodies = bodies_with c.args.rules.now c.args.goals.first c.args.goals.second c.args.goal.now c.args.second.now in over)).words c.number_of-number.result ((open_calls c.next_walk-walk.new.calls c.loop-rule.n).action c.loop-row.row) = rw ((let action_at : (open_calls c.next_walk-walk.new.calls c.loop-rule.n).action c.loop-row.row ≡ c.action_of-action.result = ap (λ (z : Calls). z.action c.loop-row.row) (alone_calls c.next_walk-walk.ensures.1 c.loop-rule.n) ∙ sym c.action_of-action.ensures in action_at)) c.steps_for-body.ensures.0 in words_at)) (rows_past _ _ R.rows_closed c.number_of-number.result (rw (c.number_of-number.ensures, (let action_at : (open_calls c.next_walk-walk.new.calls c.loop-rule.n).action c.loop-row.row ≡ c.action_of-action.result = ap (λ (z : Calls). z.action c.loop-row.row) (alone_calls c.next_walk-walk.ensures.1 c.loop-rule.n) ∙ sym c.action_of-action.ensures in action_at)) (sym c.is_at.ensures ∙ not-false _ c.if-not-is_at.false-raw)) h k);
-            lower = λ j k e g w. rules_lower _ _ _ R j (lower_number c.args.rules.now c.args.goals.first c.args.goals.second c.args.goal.now c.args.second.now c.requires.accepted.2.few_rules j ((open_calls c.next_walk-walk.new.calls c.loop-rule.n).action c.loop-row.row) c.loop-rule.rule e (omega (arith, c.loop-rule-test.true, c.past_body-past.ensures.0)) (rw c.number_of-number.ensures at k)) e g w;
-            row_last = λ x h l. R.rows_closed.latest x (omega (arith, R.rows_closed.since.all_known)) l;
-            row_old = omega (arith, R.rows_closed.base_rows, c.loop-row-test.true, c.span_of-span.ensures.spans.top_in);
-            since = R.rows_closed.since;
-          }) in given_at) c.requires.standing.roots _ R) R.rows_closed.noted in going_at)))).0.walking.inside,
+      (rw c.in-Back.is at (c.turn-turn.ensures.leaving _ _ _ _ G)).0.walking.inside,
     )
 
 pub slice_bounds-rest-start-in-Back : goal.slice_bounds-rest-start-in-Back
 slice_bounds-rest-start-in-Back c =
+    let B = begins_at (goal.at.slice_bounds-rest-start-in-Back c).After-next_walk-walk in
+    let G = c.loop-after.invariant.going _ _ B.0 B.1 in
     omega (
       arith,
-      (rw c.in-Back.is at (c.turn-turn.ensures.leaving _ _ _ _ ((let going_at : Going ((let over : Bodies = bodies_with c.args.rules.now c.args.goals.first c.args.goals.second c.args.goal.now c.args.second.now in over)) (Among c.requires.standing.roots) (in_words c.next_walk-walk.new.calls c.loop-rule.n c.loop-rule.answers c.loop-rule.m)
-          c.args.stage.answers c.number_of-number.result c.loop-row.row c.next_walk-walk.result (before c.args.first c.span_of-span.result.old c.args.stage.seen c.span_of-span.result.warm c.args.stage.round (begin (in_words c.round.calls c.round.n c.round.answers c.round.m) (uses_in c.round.calls c.round.list))) c.steps_for-body.result.now
-          (in_words c.loop-after.calls c.loop-after.n c.loop-after.answers c.loop-after.m) (mark_words c.loop-after.calls) (uses_in c.loop-after.calls c.loop-after.list) c.loop-after.chosen c.loop-after.rest.now (spot_of c.loop-after.spot) = let R = (let rules_at : (rs : List (ℕ × ℕ)) → (let First : List (ℕ × ℕ) → Type 0 = (λ roots. Round ((let over : Bodies = bodies_with c.args.rules.now c.args.goals.first c.args.goals.second c.args.goal.now c.args.second.now in over)) (Among roots) c.args.first c.args.stage.walked c.args.stage.seen
-          (in_words c.args.calls.now c.args.stage.calls c.args.answers.now c.args.stage.answers) (uses_in c.args.calls.now c.args.list.now)) in First) rs
-          → Rules ((let over : Bodies = bodies_with c.args.rules.now c.args.goals.first c.args.goals.second c.args.goal.now c.args.second.now in over)) (Among rs) (number_at (length c.args.rules.now / rule_width)) c.args.first c.args.stage.walked c.args.stage.seen c.span_of-span.result.low c.span_of-span.result.high c.span_of-span.result.top c.span_of-span.result.old c.span_of-span.result.warm
-          c.args.stage.round c.args.stage.calls c.args.stage.answers c.loop-row.row c.loop-rule.rule (begin (in_words c.round.calls c.round.n c.round.answers c.round.m) (uses_in c.round.calls c.round.list)) (in_words c.next_walk-walk.new.calls c.loop-rule.n c.loop-rule.answers c.loop-rule.m) (uses_in c.next_walk-walk.new.calls c.loop-rule.list) = (λ rs S. (let marked_at : (rs : List (ℕ × ℕ)) (begun : Begin) → Rules ((let over : Bodies = bodies_with c.args.rules.now c.args.goals.first c.args.goals.second c.args.goal.now c.args.second.now in over)) (Among rs) (number_at (length c.args.rules.now / rule_width)) c.args.first c.args.stage.walked c.args.stage.seen c.span_of-span.result.low c.span_of-span.result.high c.span_of-span.result.top c.span_of-span.result.old c.span_of-span.result.warm
-          c.args.stage.round c.args.stage.calls c.args.stage.answers c.loop-row.row c.loop-rule.rule begun (in_words c.loop-rule.calls c.loop-rule.n c.loop-rule.answers c.loop-rule.m) (uses_in c.loop-rule.calls c.loop-rule.list)
-          → Rules ((let over : Bodies = bodies_with c.args.rules.now c.args.goals.first c.args.goals.second c.args.goal.now c.args.second.now in over)) (Among rs) (number_at (length c.args.rules.now / rule_width)) c.args.first c.args.stage.walked c.args.stage.seen c.span_of-span.result.low c.span_of-span.result.high c.span_of-span.result.top c.span_of-span.result.old c.span_of-span.result.warm
-          c.args.stage.round c.args.stage.calls c.args.stage.answers c.loop-row.row c.loop-rule.rule begun (in_words c.next_walk-walk.new.calls c.loop-rule.n c.loop-rule.answers c.loop-rule.m) (uses_in c.next_walk-walk.new.calls c.loop-rule.list) = (λ rs begun R. rules_marked (ap (λ (z : Calls). tables z (packed_answers c.loop-rule.answers c.loop-rule.m)) (alone_calls c.next_walk-walk.ensures.1 c.loop-rule.n)) (marked_uses c.next_walk-walk.ensures.1 c.loop-rule.list) R) in marked_at) rs _ (c.loop-rule.invariant.closed rs _ ((let rows_at : (rs : List (ℕ × ℕ)) → (let First : List (ℕ × ℕ) → Type 0 = (λ roots. Round ((let over : Bodies = bodies_with c.args.rules.now c.args.goals.first c.args.goals.second c.args.goal.now c.args.second.now in over)) (Among roots) c.args.first c.args.stage.walked c.args.stage.seen
-          (in_words c.args.calls.now c.args.stage.calls c.args.answers.now c.args.stage.answers) (uses_in c.args.calls.now c.args.list.now)) in First) rs
-          → Rows ((let over : Bodies = bodies_with c.args.rules.now c.args.goals.first c.args.goals.second c.args.goal.now c.args.second.now in over)) (Among rs) c.args.first c.args.stage.walked c.args.stage.seen c.span_of-span.result.low c.span_of-span.result.high c.span_of-span.result.top c.span_of-span.result.old c.span_of-span.result.warm
-          c.args.stage.round c.args.stage.calls c.args.stage.answers c.loop-row.row (begin (in_words c.round.calls c.round.n c.round.answers c.round.m) (uses_in c.round.calls c.round.list)) (in_words c.loop-row.calls c.loop-row.n c.loop-row.answers c.loop-row.m) (uses_in c.loop-row.calls c.loop-row.list) = (λ rs S. let r = c.round.invariant in
-          let b = c.span_of-span.ensures.begun in
-          let (S', W) = r.closed rs (round_kept _ _ (kept_same b.low) S) b.lit in
-          c.loop-row.invariant.closed rs S' (subst (λ (k : ℕ). (x : ℕ) → x < c.span_of-span.result.old → (x < c.args.stage.walked) × Lit (in_words c.round.calls c.round.n c.round.answers c.round.m).answers (uses_in c.round.calls c.round.list) c.args.stage.seen k c.span_of-span.result.warm) r.known_all W)) in rows_at) rs S))) in rules_at) c.requires.standing.roots c.requires.standing.round in
-          c.loop-after.invariant.going c.requires.standing.roots _ ((let given_at : (rs : List (ℕ × ℕ)) (begun : Begin) → Rules ((let over : Bodies = bodies_with c.args.rules.now c.args.goals.first c.args.goals.second c.args.goal.now c.args.second.now in over)) (Among rs) (number_at (length c.args.rules.now / rule_width)) c.args.first c.args.stage.walked c.args.stage.seen c.span_of-span.result.low c.span_of-span.result.high c.span_of-span.result.top c.span_of-span.result.old c.span_of-span.result.warm
-          c.args.stage.round c.args.stage.calls c.args.stage.answers c.loop-row.row c.loop-rule.rule begun (in_words c.next_walk-walk.new.calls c.loop-rule.n c.loop-rule.answers c.loop-rule.m) (uses_in c.next_walk-walk.new.calls c.loop-rule.list)
-          → Given ((let over : Bodies = bodies_with c.args.rules.now c.args.goals.first c.args.goals.second c.args.goal.now c.args.second.now in over)) (Among rs) (in_words c.next_walk-walk.new.calls c.loop-rule.n c.loop-rule.answers c.loop-rule.m)
-          c.args.stage.answers c.number_of-number.result c.loop-row.row (before c.args.first c.span_of-span.result.old c.args.stage.seen c.span_of-span.result.warm c.args.stage.round begun) c.steps_for-body.result.now = (λ rs begun R. record {
-            proper = proper_with c.args.rules.now c.args.goals.first c.args.goals.second c.args.goal.now c.args.second.now c.requires.accepted.2 c.requires.accepted.3;
-            valid = R.rows_closed.before.valid;
-            enough = R.rows_closed.known_in;
-            row_in = omega (arith, R.rows_closed.rows_in, c.loop-row-test.true, c.span_of-span.ensures.spans.top_in);
-            fits = rw (c.number_of-number.ensures, (let action_at : (open_calls c.next_walk-walk.new.calls c.loop-rule.n).action c.loop-row.row ≡ c.action_of-action.result = ap (λ (z : Calls). z.action c.loop-row.row) (alone_calls c.next_walk-walk.ensures.1 c.loop-rule.n) ∙ sym c.action_of-action.ensures in action_at)) (sym c.is_at.ensures ∙ not-false _ c.if-not-is_at.false-raw);
-            words = (let words_at : c.steps_for-body.result.now ≡ ((let over : Bodies = bodies_with c.args.rules.now c.args.goals.first c.args.goals.second c.args.goal.now c.args.second.now in over)).words c.number_of-number.result ((open_calls c.next_walk-walk.new.calls c.loop-rule.n).action c.loop-row.row) = rw ((let action_at : (open_calls c.next_walk-walk.new.calls c.loop-rule.n).action c.loop-row.row ≡ c.action_of-action.result = ap (λ (z : Calls). z.action c.loop-row.row) (alone_calls c.next_walk-walk.ensures.1 c.loop-rule.n) ∙ sym c.action_of-action.ensures in action_at)) c.steps_for-body.ensures.0 in words_at);
-            past = λ (h, k). past_words ((let words_at : c.steps_for-body.result.now ≡ ((let over : Bodies = bodies_with c.args.rules.now c.args.goals.first c.args.goals.second c.args.goal.now c.args.second.now in over)).words c.number_of-number.result ((open_calls c.next_walk-walk.new.calls c.loop-rule.n).action c.loop-row.row) = rw ((let action_at : (open_calls c.next_walk-walk.new.calls c.loop-rule.n).action c.loop-row.row ≡ c.action_of-action.result = ap (λ (z : Calls). z.action c.loop-row.row) (alone_calls c.next_walk-walk.ensures.1 c.loop-rule.n) ∙ sym c.action_of-action.ensures in action_at)) c.steps_for-body.ensures.0 in words_at)) (rows_past _ _ R.rows_closed c.number_of-number.result (rw (c.number_of-number.ensures, (let action_at : (open_calls c.next_walk-walk.new.calls c.loop-rule.n).action c.loop-row.row ≡ c.action_of-action.result = ap (λ (z : Calls). z.action c.loop-row.row) (alone_calls c.next_walk-walk.ensures.1 c.loop-rule.n) ∙ sym c.action_of-action.ensures in action_at)) (sym c.is_at.ensures ∙ not-false _ c.if-not-is_at.false-raw)) h k);
-            lower = λ j k e g w. rules_lower _ _ _ R j (lower_number c.args.rules.now c.args.goals.first c.args.goals.second c.args.goal.now c.args.second.now c.requires.accepted.2.few_rules j ((open_calls c.next_walk-walk.new.calls c.loop-rule.n).action c.loop-row.row) c.loop-rule.rule e (omega (arith, c.loop-rule-test.true, c.past_body-past.ensures.0)) (rw c.number_of-number.ensures at k)) e g w;
-            row_last = λ x h l. R.rows_closed.latest x (omega (arith, R.rows_closed.since.all_known)) l;
-            row_old = omega (arith, R.rows_closed.base_rows, c.loop-row-test.true, c.span_of-span.ensures.spans.top_in);
-            since = R.rows_closed.since;
-          }) in given_at) c.requires.standing.roots _ R) R.rows_closed.noted in going_at)))).0.walking.inside,
-    )
-
-pub slice_bounds-rest-end-in-Back : goal.slice_bounds-rest-end-in-Back
-slice_bounds-rest-end-in-Back c =
-    omega (
-      arith,
-      (rw c.in-Back.is at (c.turn-turn.ensures.leaving _ _ _ _ ((let going_at : Going ((let over : Bodies = bodies_with c.args.rules.now c.args.goals.first c.args.goals.second c.args.goal.now c.args.second.now in over)) (Among c.requires.standing.roots) (in_words c.next_walk-walk.new.calls c.loop-rule.n c.loop-rule.answers c.loop-rule.m)
-          c.args.stage.answers c.number_of-number.result c.loop-row.row c.next_walk-walk.result (before c.args.first c.span_of-span.result.old c.args.stage.seen c.span_of-span.result.warm c.args.stage.round (begin (in_words c.round.calls c.round.n c.round.answers c.round.m) (uses_in c.round.calls c.round.list))) c.steps_for-body.result.now
-          (in_words c.loop-after.calls c.loop-after.n c.loop-after.answers c.loop-after.m) (mark_words c.loop-after.calls) (uses_in c.loop-after.calls c.loop-after.list) c.loop-after.chosen c.loop-after.rest.now (spot_of c.loop-after.spot) = let R = (let rules_at : (rs : List (ℕ × ℕ)) → (let First : List (ℕ × ℕ) → Type 0 = (λ roots. Round ((let over : Bodies = bodies_with c.args.rules.now c.args.goals.first c.args.goals.second c.args.goal.now c.args.second.now in over)) (Among roots) c.args.first c.args.stage.walked c.args.stage.seen
-          (in_words c.args.calls.now c.args.stage.calls c.args.answers.now c.args.stage.answers) (uses_in c.args.calls.now c.args.list.now)) in First) rs
-          → Rules ((let over : Bodies = bodies_with c.args.rules.now c.args.goals.first c.args.goals.second c.args.goal.now c.args.second.now in over)) (Among rs) (number_at (length c.args.rules.now / rule_width)) c.args.first c.args.stage.walked c.args.stage.seen c.span_of-span.result.low c.span_of-span.result.high c.span_of-span.result.top c.span_of-span.result.old c.span_of-span.result.warm
-          c.args.stage.round c.args.stage.calls c.args.stage.answers c.loop-row.row c.loop-rule.rule (begin (in_words c.round.calls c.round.n c.round.answers c.round.m) (uses_in c.round.calls c.round.list)) (in_words c.next_walk-walk.new.calls c.loop-rule.n c.loop-rule.answers c.loop-rule.m) (uses_in c.next_walk-walk.new.calls c.loop-rule.list) = (λ rs S. (let marked_at : (rs : List (ℕ × ℕ)) (begun : Begin) → Rules ((let over : Bodies = bodies_with c.args.rules.now c.args.goals.first c.args.goals.second c.args.goal.now c.args.second.now in over)) (Among rs) (number_at (length c.args.rules.now / rule_width)) c.args.first c.args.stage.walked c.args.stage.seen c.span_of-span.result.low c.span_of-span.result.high c.span_of-span.result.top c.span_of-span.result.old c.span_of-span.result.warm
-          c.args.stage.round c.args.stage.calls c.args.stage.answers c.loop-row.row c.loop-rule.rule begun (in_words c.loop-rule.calls c.loop-rule.n c.loop-rule.answers c.loop-rule.m) (uses_in c.loop-rule.calls c.loop-rule.list)
-          → Rules ((let over : Bodies = bodies_with c.args.rules.now c.args.goals.first c.args.goals.second c.args.goal.now c.args.second.now in over)) (Among rs) (number_at (length c.args.rules.now / rule_width)) c.args.first c.args.stage.walked c.args.stage.seen c.span_of-span.result.low c.span_of-span.result.high c.span_of-span.result.top c.span_of-span.result.old c.span_of-span.result.warm
-          c.args.stage.round c.args.stage.calls c.args.stage.answers c.loop-row.row c.loop-rule.rule begun (in_words c.next_walk-walk.new.calls c.loop-rule.n c.loop-rule.answers c.loop-rule.m) (uses_in c.next_walk-walk.new.calls c.loop-rule.list) = (λ rs begun R. rules_marked (ap (λ (z : Calls). tables z (packed_answers c.loop-rule.answers c.loop-rule.m)) (alone_calls c.next_walk-walk.ensures.1 c.loop-rule.n)) (marked_uses c.next_walk-walk.ensures.1 c.loop-rule.list) R) in marked_at) rs _ (c.loop-rule.invariant.closed rs _ ((let rows_at : (rs : List (ℕ × ℕ)) → (let First : List (ℕ × ℕ) → Type 0 = (λ roots. Round ((let over : Bodies = bodies_with c.args.rules.now c.args.goals.first c.args.goals.second c.args.goal.now c.args.second.now in over)) (Among roots) c.args.first c.args.stage.walked c.args.stage.seen
-          (in_words c.args.calls.now c.args.stage.calls c.args.answers.now c.args.stage.answers) (uses_in c.args.calls.now c.args.list.now)) in First) rs
-          → Rows ((let over : Bodies = bodies_with c.args.rules.now c.args.goals.first c.args.goals.second c.args.goal.now c.args.second.now in over)) (Among rs) c.args.first c.args.stage.walked c.args.stage.seen c.span_of-span.result.low c.span_of-span.result.high c.span_of-span.result.top c.span_of-span.result.old c.span_of-span.result.warm
-          c.args.stage.round c.args.stage.calls c.args.stage.answers c.loop-row.row (begin (in_words c.round.calls c.round.n c.round.answers c.round.m) (uses_in c.round.calls c.round.list)) (in_words c.loop-row.calls c.loop-row.n c.loop-row.answers c.loop-row.m) (uses_in c.loop-row.calls c.loop-row.list) = (λ rs S. let r = c.round.invariant in
-          let b = c.span_of-span.ensures.begun in
-          let (S', W) = r.closed rs (round_kept _ _ (kept_same b.low) S) b.lit in
-          c.loop-row.invariant.closed rs S' (subst (λ (k : ℕ). (x : ℕ) → x < c.span_of-span.result.old → (x < c.args.stage.walked) × Lit (in_words c.round.calls c.round.n c.round.answers c.round.m).answers (uses_in c.round.calls c.round.list) c.args.stage.seen k c.span_of-span.result.warm) r.known_all W)) in rows_at) rs S))) in rules_at) c.requires.standing.roots c.requires.standing.round in
-          c.loop-after.invariant.going c.requires.standing.roots _ ((let given_at : (rs : List (ℕ × ℕ)) (begun : Begin) → Rules ((let over : Bodies = bodies_with c.args.rules.now c.args.goals.first c.args.goals.second c.args.goal.now c.args.second.now in over)) (Among rs) (number_at (length c.args.rules.now / rule_width)) c.args.first c.args.stage.walked c.args.stage.seen c.span_of-span.result.low c.span_of-span.result.high c.span_of-span.result.top c.span_of-span.result.old c.span_of-span.result.warm
-          c.args.stage.round c.args.stage.calls c.args.stage.answers c.loop-row.row c.loop-rule.rule begun (in_words c.next_walk-walk.new.calls c.loop-rule.n c.loop-rule.answers c.loop-rule.m) (uses_in c.next_walk-walk.new.calls c.loop-rule.list)
-          → Given ((let over : Bodies = bodies_with c.args.rules.now c.args.goals.first c.args.goals.second c.args.goal.now c.args.second.now in over)) (Among rs) (in_words c.next_walk-walk.new.calls c.loop-rule.n c.loop-rule.answers c.loop-rule.m)
-          c.args.stage.answers c.number_of-number.result c.loop-row.row (before c.args.first c.span_of-span.result.old c.args.stage.seen c.span_of-span.result.warm c.args.stage.round begun) c.steps_for-body.result.now = (λ rs begun R. record {
-            proper = proper_with c.args.rules.now c.args.goals.first c.args.goals.second c.args.goal.now c.args.second.now c.requires.accepted.2 c.requires.accepted.3;
-            valid = R.rows_closed.before.valid;
-            enough = R.rows_closed.known_in;
-            row_in = omega (arith, R.rows_closed.rows_in, c.loop-row-test.true, c.span_of-span.ensures.spans.top_in);
-            fits = rw (c.number_of-number.ensures, (let action_at : (open_calls c.next_walk-walk.new.calls c.loop-rule.n).action c.loop-row.row ≡ c.action_of-action.result = ap (λ (z : Calls). z.action c.loop-row.row) (alone_calls c.next_walk-walk.ensures.1 c.loop-rule.n) ∙ sym c.action_of-action.ensures in action_at)) (sym c.is_at.ensures ∙ not-false _ c.if-not-is_at.false-raw);
-            words = (let words_at : c.steps_for-body.result.now ≡ ((let over : Bodies = bodies_with c.args.rules.now c.args.goals.first c.args.goals.second c.args.goal.now c.args.second.now in over)).words c.number_of-number.result ((open_calls c.next_walk-walk.new.calls c.loop-rule.n).action c.loop-row.row) = rw ((let action_at : (open_calls c.next_walk-walk.new.calls c.loop-rule.n).action c.loop-row.row ≡ c.action_of-action.result = ap (λ (z : Calls). z.action c.loop-row.row) (alone_calls c.next_walk-walk.ensures.1 c.loop-rule.n) ∙ sym c.action_of-action.ensures in action_at)) c.steps_for-body.ensures.0 in words_at);
-            past = λ (h, k). past_words ((let words_at : c.steps_for-body.result.now ≡ ((let over : Bodies = bodies_with c.args.rules.now c.args.goals.first c.args.goals.second c.args.goal.now c.args.second.now in over)).words c.number_of-number.result ((open_calls c.next_walk-walk.new.calls c.loop-rule.n).action c.loop-row.row) = rw ((let action_at : (open_calls c.next_walk-walk.new.calls c.loop-rule.n).action c.loop-row.row ≡ c.action_of-action.result = ap (λ (z : Calls). z.action c.loop-row.row) (alone_calls c.next_walk-walk.ensures.1 c.loop-rule.n) ∙ sym c.action_of-action.ensures in action_at)) c.steps_for-body.ensures.0 in words_at)) (rows_past _ _ R.rows_closed c.number_of-number.result (rw (c.number_of-number.ensures, (let action_at : (open_calls c.next_walk-walk.new.calls c.loop-rule.n).action c.loop-row.row ≡ c.action_of-action.result = ap (λ (z : Calls). z.action c.loop-row.row) (alone_calls c.next_walk-walk.ensures.1 c.loop-rule.n) ∙ sym c.action_of-action.ensures in action_at)) (sym c.is_at.ensures ∙ not-false _ c.if-not-is_at.false-raw)) h k);
-            lower = λ j k e g w. rules_lower _ _ _ R j (lower_number c.args.rules.now c.args.goals.first c.args.goals.second c.args.goal.now c.args.second.now c.requires.accepted.2.few_rules j ((open_calls c.next_walk-walk.new.calls c.loop-rule.n).action c.loop-row.row) c.loop-rule.rule e (omega (arith, c.loop-rule-test.true, c.past_body-past.ensures.0)) (rw c.number_of-number.ensures at k)) e g w;
-            row_last = λ x h l. R.rows_closed.latest x (omega (arith, R.rows_closed.since.all_known)) l;
-            row_old = omega (arith, R.rows_closed.base_rows, c.loop-row-test.true, c.span_of-span.ensures.spans.top_in);
-            since = R.rows_closed.since;
-          }) in given_at) c.requires.standing.roots _ R) R.rows_closed.noted in going_at)))).0.walking.inside,
+      (rw c.in-Back.is at (c.turn-turn.ensures.leaving _ _ _ _ G)).0.walking.inside,
     )
 
 pub loop-after-smaller : goal.loop-after-smaller
 loop-after-smaller c =
-    let O = (rw c.in-Back.is at (c.turn-turn.ensures.leaving _ _ _ _ ((let going_at : Going ((let over : Bodies = bodies_with c.args.rules.now c.args.goals.first c.args.goals.second c.args.goal.now c.args.second.now in over)) (Among c.requires.standing.roots) (in_words c.next_walk-walk.new.calls c.loop-rule.n c.loop-rule.answers c.loop-rule.m)
-    c.args.stage.answers c.number_of-number.result c.loop-row.row c.next_walk-walk.result (before c.args.first c.span_of-span.result.old c.args.stage.seen c.span_of-span.result.warm c.args.stage.round (begin (in_words c.round.calls c.round.n c.round.answers c.round.m) (uses_in c.round.calls c.round.list))) c.steps_for-body.result.now
-    (in_words c.loop-after.calls c.loop-after.n c.loop-after.answers c.loop-after.m) (mark_words c.loop-after.calls) (uses_in c.loop-after.calls c.loop-after.list) c.loop-after.chosen c.loop-after.rest.now (spot_of c.loop-after.spot) = let R = (let rules_at : (rs : List (ℕ × ℕ)) → (let First : List (ℕ × ℕ) → Type 0 = (λ roots. Round ((let over : Bodies = bodies_with c.args.rules.now c.args.goals.first c.args.goals.second c.args.goal.now c.args.second.now in over)) (Among roots) c.args.first c.args.stage.walked c.args.stage.seen
-    (in_words c.args.calls.now c.args.stage.calls c.args.answers.now c.args.stage.answers) (uses_in c.args.calls.now c.args.list.now)) in First) rs
-    → Rules ((let over : Bodies = bodies_with c.args.rules.now c.args.goals.first c.args.goals.second c.args.goal.now c.args.second.now in over)) (Among rs) (number_at (length c.args.rules.now / rule_width)) c.args.first c.args.stage.walked c.args.stage.seen c.span_of-span.result.low c.span_of-span.result.high c.span_of-span.result.top c.span_of-span.result.old c.span_of-span.result.warm
-    c.args.stage.round c.args.stage.calls c.args.stage.answers c.loop-row.row c.loop-rule.rule (begin (in_words c.round.calls c.round.n c.round.answers c.round.m) (uses_in c.round.calls c.round.list)) (in_words c.next_walk-walk.new.calls c.loop-rule.n c.loop-rule.answers c.loop-rule.m) (uses_in c.next_walk-walk.new.calls c.loop-rule.list) = (λ rs S. (let marked_at : (rs : List (ℕ × ℕ)) (begun : Begin) → Rules ((let over : Bodies = bodies_with c.args.rules.now c.args.goals.first c.args.goals.second c.args.goal.now c.args.second.now in over)) (Among rs) (number_at (length c.args.rules.now / rule_width)) c.args.first c.args.stage.walked c.args.stage.seen c.span_of-span.result.low c.span_of-span.result.high c.span_of-span.result.top c.span_of-span.result.old c.span_of-span.result.warm
-    c.args.stage.round c.args.stage.calls c.args.stage.answers c.loop-row.row c.loop-rule.rule begun (in_words c.loop-rule.calls c.loop-rule.n c.loop-rule.answers c.loop-rule.m) (uses_in c.loop-rule.calls c.loop-rule.list)
-    → Rules ((let over : Bodies = bodies_with c.args.rules.now c.args.goals.first c.args.goals.second c.args.goal.now c.args.second.now in over)) (Among rs) (number_at (length c.args.rules.now / rule_width)) c.args.first c.args.stage.walked c.args.stage.seen c.span_of-span.result.low c.span_of-span.result.high c.span_of-span.result.top c.span_of-span.result.old c.span_of-span.result.warm
-    c.args.stage.round c.args.stage.calls c.args.stage.answers c.loop-row.row c.loop-rule.rule begun (in_words c.next_walk-walk.new.calls c.loop-rule.n c.loop-rule.answers c.loop-rule.m) (uses_in c.next_walk-walk.new.calls c.loop-rule.list) = (λ rs begun R. rules_marked (ap (λ (z : Calls). tables z (packed_answers c.loop-rule.answers c.loop-rule.m)) (alone_calls c.next_walk-walk.ensures.1 c.loop-rule.n)) (marked_uses c.next_walk-walk.ensures.1 c.loop-rule.list) R) in marked_at) rs _ (c.loop-rule.invariant.closed rs _ ((let rows_at : (rs : List (ℕ × ℕ)) → (let First : List (ℕ × ℕ) → Type 0 = (λ roots. Round ((let over : Bodies = bodies_with c.args.rules.now c.args.goals.first c.args.goals.second c.args.goal.now c.args.second.now in over)) (Among roots) c.args.first c.args.stage.walked c.args.stage.seen
-    (in_words c.args.calls.now c.args.stage.calls c.args.answers.now c.args.stage.answers) (uses_in c.args.calls.now c.args.list.now)) in First) rs
-    → Rows ((let over : Bodies = bodies_with c.args.rules.now c.args.goals.first c.args.goals.second c.args.goal.now c.args.second.now in over)) (Among rs) c.args.first c.args.stage.walked c.args.stage.seen c.span_of-span.result.low c.span_of-span.result.high c.span_of-span.result.top c.span_of-span.result.old c.span_of-span.result.warm
-    c.args.stage.round c.args.stage.calls c.args.stage.answers c.loop-row.row (begin (in_words c.round.calls c.round.n c.round.answers c.round.m) (uses_in c.round.calls c.round.list)) (in_words c.loop-row.calls c.loop-row.n c.loop-row.answers c.loop-row.m) (uses_in c.loop-row.calls c.loop-row.list) = (λ rs S. let r = c.round.invariant in
-    let b = c.span_of-span.ensures.begun in
-    let (S', W) = r.closed rs (round_kept _ _ (kept_same b.low) S) b.lit in
-    c.loop-row.invariant.closed rs S' (subst (λ (k : ℕ). (x : ℕ) → x < c.span_of-span.result.old → (x < c.args.stage.walked) × Lit (in_words c.round.calls c.round.n c.round.answers c.round.m).answers (uses_in c.round.calls c.round.list) c.args.stage.seen k c.span_of-span.result.warm) r.known_all W)) in rows_at) rs S))) in rules_at) c.requires.standing.roots c.requires.standing.round in
-    c.loop-after.invariant.going c.requires.standing.roots _ ((let given_at : (rs : List (ℕ × ℕ)) (begun : Begin) → Rules ((let over : Bodies = bodies_with c.args.rules.now c.args.goals.first c.args.goals.second c.args.goal.now c.args.second.now in over)) (Among rs) (number_at (length c.args.rules.now / rule_width)) c.args.first c.args.stage.walked c.args.stage.seen c.span_of-span.result.low c.span_of-span.result.high c.span_of-span.result.top c.span_of-span.result.old c.span_of-span.result.warm
-    c.args.stage.round c.args.stage.calls c.args.stage.answers c.loop-row.row c.loop-rule.rule begun (in_words c.next_walk-walk.new.calls c.loop-rule.n c.loop-rule.answers c.loop-rule.m) (uses_in c.next_walk-walk.new.calls c.loop-rule.list)
-    → Given ((let over : Bodies = bodies_with c.args.rules.now c.args.goals.first c.args.goals.second c.args.goal.now c.args.second.now in over)) (Among rs) (in_words c.next_walk-walk.new.calls c.loop-rule.n c.loop-rule.answers c.loop-rule.m)
-    c.args.stage.answers c.number_of-number.result c.loop-row.row (before c.args.first c.span_of-span.result.old c.args.stage.seen c.span_of-span.result.warm c.args.stage.round begun) c.steps_for-body.result.now = (λ rs begun R. record {
-      proper = proper_with c.args.rules.now c.args.goals.first c.args.goals.second c.args.goal.now c.args.second.now c.requires.accepted.2 c.requires.accepted.3;
-      valid = R.rows_closed.before.valid;
-      enough = R.rows_closed.known_in;
-      row_in = omega (arith, R.rows_closed.rows_in, c.loop-row-test.true, c.span_of-span.ensures.spans.top_in);
-      fits = rw (c.number_of-number.ensures, (let action_at : (open_calls c.next_walk-walk.new.calls c.loop-rule.n).action c.loop-row.row ≡ c.action_of-action.result = ap (λ (z : Calls). z.action c.loop-row.row) (alone_calls c.next_walk-walk.ensures.1 c.loop-rule.n) ∙ sym c.action_of-action.ensures in action_at)) (sym c.is_at.ensures ∙ not-false _ c.if-not-is_at.false-raw);
-      words = (let words_at : c.steps_for-body.result.now ≡ ((let over : Bodies = bodies_with c.args.rules.now c.args.goals.first c.args.goals.second c.args.goal.now c.args.second.now in over)).words c.number_of-number.result ((open_calls c.next_walk-walk.new.calls c.loop-rule.n).action c.loop-row.row) = rw ((let action_at : (open_calls c.next_walk-walk.new.calls c.loop-rule.n).action c.loop-row.row ≡ c.action_of-action.result = ap (λ (z : Calls). z.action c.loop-row.row) (alone_calls c.next_walk-walk.ensures.1 c.loop-rule.n) ∙ sym c.action_of-action.ensures in action_at)) c.steps_for-body.ensures.0 in words_at);
-      past = λ (h, k). past_words ((let words_at : c.steps_for-body.result.now ≡ ((let over : Bodies = bodies_with c.args.rules.now c.args.goals.first c.args.goals.second c.args.goal.now c.args.second.now in over)).words c.number_of-number.result ((open_calls c.next_walk-walk.new.calls c.loop-rule.n).action c.loop-row.row) = rw ((let action_at : (open_calls c.next_walk-walk.new.calls c.loop-rule.n).action c.loop-row.row ≡ c.action_of-action.result = ap (λ (z : Calls). z.action c.loop-row.row) (alone_calls c.next_walk-walk.ensures.1 c.loop-rule.n) ∙ sym c.action_of-action.ensures in action_at)) c.steps_for-body.ensures.0 in words_at)) (rows_past _ _ R.rows_closed c.number_of-number.result (rw (c.number_of-number.ensures, (let action_at : (open_calls c.next_walk-walk.new.calls c.loop-rule.n).action c.loop-row.row ≡ c.action_of-action.result = ap (λ (z : Calls). z.action c.loop-row.row) (alone_calls c.next_walk-walk.ensures.1 c.loop-rule.n) ∙ sym c.action_of-action.ensures in action_at)) (sym c.is_at.ensures ∙ not-false _ c.if-not-is_at.false-raw)) h k);
-      lower = λ j k e g w. rules_lower _ _ _ R j (lower_number c.args.rules.now c.args.goals.first c.args.goals.second c.args.goal.now c.args.second.now c.requires.accepted.2.few_rules j ((open_calls c.next_walk-walk.new.calls c.loop-rule.n).action c.loop-row.row) c.loop-rule.rule e (omega (arith, c.loop-rule-test.true, c.past_body-past.ensures.0)) (rw c.number_of-number.ensures at k)) e g w;
-      row_last = λ x h l. R.rows_closed.latest x (omega (arith, R.rows_closed.since.all_known)) l;
-      row_old = omega (arith, R.rows_closed.base_rows, c.loop-row-test.true, c.span_of-span.ensures.spans.top_in);
-      since = R.rows_closed.since;
-    }) in given_at) c.requires.standing.roots _ R) R.rows_closed.noted in going_at)))) in
+    let B = begins_at (goal.at.loop-after-smaller c).After-next_walk-walk in
+    let G = c.loop-after.invariant.going _ _ B.0 B.1 in
+    let O = (rw c.in-Back.is at (c.turn-turn.ensures.leaving _ _ _ _ G)) in
     back_less _ _ _ _ _ _ _ _ _ _ O.0 refl O.1
 
 pub loop-after-preserved : goal.loop-after-preserved
@@ -742,48 +339,15 @@ loop-after-preserved c =
       going = λ roots begun G U. going_back _ _ _ _ _ _ _ _ _ _ (rw c.in-Back.is at (c.turn-turn.ensures.leaving _ _ _ _ (w.going roots begun G U))).0 refl;
     }
 
-pub overflow_step-rule-in-loop-rule : goal.overflow_step-rule-in-loop-rule
-overflow_step-rule-in-loop-rule c = omega (arith, c.loop-rule-test.true, c.loop-rule.invariant.rule_in, c.requires.accepted.2.few_rules)
-
-pub loop-rule-smaller : goal.loop-rule-smaller
-loop-rule-smaller c = omega (arith, c.loop-rule-test.true)
-
 pub loop-rule-preserved : goal.loop-rule-preserved
 loop-rule-preserved c =
+    let N = (goal.at.loop-rule-preserved c).After-next_walk-walk in
+    let B = begins_at N in
+    let G = c.loop-after.invariant.going _ _ B.0 B.1 in
     let s = c.turn-turn.ensures.stays in
     let w = c.loop-after.invariant in
     let l = c.loop-rule.invariant in
-    let O = rw c.in-Done.is at (c.turn-turn.ensures.leaving _ _ _ _ ((let going_at : Going ((let over : Bodies = bodies_with c.args.rules.now c.args.goals.first c.args.goals.second c.args.goal.now c.args.second.now in over)) (Among c.requires.standing.roots) (in_words c.next_walk-walk.new.calls c.loop-rule.n c.loop-rule.answers c.loop-rule.m)
-    c.args.stage.answers c.number_of-number.result c.loop-row.row c.next_walk-walk.result (before c.args.first c.span_of-span.result.old c.args.stage.seen c.span_of-span.result.warm c.args.stage.round (begin (in_words c.round.calls c.round.n c.round.answers c.round.m) (uses_in c.round.calls c.round.list))) c.steps_for-body.result.now
-    (in_words c.loop-after.calls c.loop-after.n c.loop-after.answers c.loop-after.m) (mark_words c.loop-after.calls) (uses_in c.loop-after.calls c.loop-after.list) c.loop-after.chosen c.loop-after.rest.now (spot_of c.loop-after.spot) = let R = (let rules_at : (rs : List (ℕ × ℕ)) → (let First : List (ℕ × ℕ) → Type 0 = (λ roots. Round ((let over : Bodies = bodies_with c.args.rules.now c.args.goals.first c.args.goals.second c.args.goal.now c.args.second.now in over)) (Among roots) c.args.first c.args.stage.walked c.args.stage.seen
-    (in_words c.args.calls.now c.args.stage.calls c.args.answers.now c.args.stage.answers) (uses_in c.args.calls.now c.args.list.now)) in First) rs
-    → Rules ((let over : Bodies = bodies_with c.args.rules.now c.args.goals.first c.args.goals.second c.args.goal.now c.args.second.now in over)) (Among rs) (number_at (length c.args.rules.now / rule_width)) c.args.first c.args.stage.walked c.args.stage.seen c.span_of-span.result.low c.span_of-span.result.high c.span_of-span.result.top c.span_of-span.result.old c.span_of-span.result.warm
-    c.args.stage.round c.args.stage.calls c.args.stage.answers c.loop-row.row c.loop-rule.rule (begin (in_words c.round.calls c.round.n c.round.answers c.round.m) (uses_in c.round.calls c.round.list)) (in_words c.next_walk-walk.new.calls c.loop-rule.n c.loop-rule.answers c.loop-rule.m) (uses_in c.next_walk-walk.new.calls c.loop-rule.list) = (λ rs S. (let marked_at : (rs : List (ℕ × ℕ)) (begun : Begin) → Rules ((let over : Bodies = bodies_with c.args.rules.now c.args.goals.first c.args.goals.second c.args.goal.now c.args.second.now in over)) (Among rs) (number_at (length c.args.rules.now / rule_width)) c.args.first c.args.stage.walked c.args.stage.seen c.span_of-span.result.low c.span_of-span.result.high c.span_of-span.result.top c.span_of-span.result.old c.span_of-span.result.warm
-    c.args.stage.round c.args.stage.calls c.args.stage.answers c.loop-row.row c.loop-rule.rule begun (in_words c.loop-rule.calls c.loop-rule.n c.loop-rule.answers c.loop-rule.m) (uses_in c.loop-rule.calls c.loop-rule.list)
-    → Rules ((let over : Bodies = bodies_with c.args.rules.now c.args.goals.first c.args.goals.second c.args.goal.now c.args.second.now in over)) (Among rs) (number_at (length c.args.rules.now / rule_width)) c.args.first c.args.stage.walked c.args.stage.seen c.span_of-span.result.low c.span_of-span.result.high c.span_of-span.result.top c.span_of-span.result.old c.span_of-span.result.warm
-    c.args.stage.round c.args.stage.calls c.args.stage.answers c.loop-row.row c.loop-rule.rule begun (in_words c.next_walk-walk.new.calls c.loop-rule.n c.loop-rule.answers c.loop-rule.m) (uses_in c.next_walk-walk.new.calls c.loop-rule.list) = (λ rs begun R. rules_marked (ap (λ (z : Calls). tables z (packed_answers c.loop-rule.answers c.loop-rule.m)) (alone_calls c.next_walk-walk.ensures.1 c.loop-rule.n)) (marked_uses c.next_walk-walk.ensures.1 c.loop-rule.list) R) in marked_at) rs _ (c.loop-rule.invariant.closed rs _ ((let rows_at : (rs : List (ℕ × ℕ)) → (let First : List (ℕ × ℕ) → Type 0 = (λ roots. Round ((let over : Bodies = bodies_with c.args.rules.now c.args.goals.first c.args.goals.second c.args.goal.now c.args.second.now in over)) (Among roots) c.args.first c.args.stage.walked c.args.stage.seen
-    (in_words c.args.calls.now c.args.stage.calls c.args.answers.now c.args.stage.answers) (uses_in c.args.calls.now c.args.list.now)) in First) rs
-    → Rows ((let over : Bodies = bodies_with c.args.rules.now c.args.goals.first c.args.goals.second c.args.goal.now c.args.second.now in over)) (Among rs) c.args.first c.args.stage.walked c.args.stage.seen c.span_of-span.result.low c.span_of-span.result.high c.span_of-span.result.top c.span_of-span.result.old c.span_of-span.result.warm
-    c.args.stage.round c.args.stage.calls c.args.stage.answers c.loop-row.row (begin (in_words c.round.calls c.round.n c.round.answers c.round.m) (uses_in c.round.calls c.round.list)) (in_words c.loop-row.calls c.loop-row.n c.loop-row.answers c.loop-row.m) (uses_in c.loop-row.calls c.loop-row.list) = (λ rs S. let r = c.round.invariant in
-    let b = c.span_of-span.ensures.begun in
-    let (S', W) = r.closed rs (round_kept _ _ (kept_same b.low) S) b.lit in
-    c.loop-row.invariant.closed rs S' (subst (λ (k : ℕ). (x : ℕ) → x < c.span_of-span.result.old → (x < c.args.stage.walked) × Lit (in_words c.round.calls c.round.n c.round.answers c.round.m).answers (uses_in c.round.calls c.round.list) c.args.stage.seen k c.span_of-span.result.warm) r.known_all W)) in rows_at) rs S))) in rules_at) c.requires.standing.roots c.requires.standing.round in
-    c.loop-after.invariant.going c.requires.standing.roots _ ((let given_at : (rs : List (ℕ × ℕ)) (begun : Begin) → Rules ((let over : Bodies = bodies_with c.args.rules.now c.args.goals.first c.args.goals.second c.args.goal.now c.args.second.now in over)) (Among rs) (number_at (length c.args.rules.now / rule_width)) c.args.first c.args.stage.walked c.args.stage.seen c.span_of-span.result.low c.span_of-span.result.high c.span_of-span.result.top c.span_of-span.result.old c.span_of-span.result.warm
-    c.args.stage.round c.args.stage.calls c.args.stage.answers c.loop-row.row c.loop-rule.rule begun (in_words c.next_walk-walk.new.calls c.loop-rule.n c.loop-rule.answers c.loop-rule.m) (uses_in c.next_walk-walk.new.calls c.loop-rule.list)
-    → Given ((let over : Bodies = bodies_with c.args.rules.now c.args.goals.first c.args.goals.second c.args.goal.now c.args.second.now in over)) (Among rs) (in_words c.next_walk-walk.new.calls c.loop-rule.n c.loop-rule.answers c.loop-rule.m)
-    c.args.stage.answers c.number_of-number.result c.loop-row.row (before c.args.first c.span_of-span.result.old c.args.stage.seen c.span_of-span.result.warm c.args.stage.round begun) c.steps_for-body.result.now = (λ rs begun R. record {
-      proper = proper_with c.args.rules.now c.args.goals.first c.args.goals.second c.args.goal.now c.args.second.now c.requires.accepted.2 c.requires.accepted.3;
-      valid = R.rows_closed.before.valid;
-      enough = R.rows_closed.known_in;
-      row_in = omega (arith, R.rows_closed.rows_in, c.loop-row-test.true, c.span_of-span.ensures.spans.top_in);
-      fits = rw (c.number_of-number.ensures, (let action_at : (open_calls c.next_walk-walk.new.calls c.loop-rule.n).action c.loop-row.row ≡ c.action_of-action.result = ap (λ (z : Calls). z.action c.loop-row.row) (alone_calls c.next_walk-walk.ensures.1 c.loop-rule.n) ∙ sym c.action_of-action.ensures in action_at)) (sym c.is_at.ensures ∙ not-false _ c.if-not-is_at.false-raw);
-      words = (let words_at : c.steps_for-body.result.now ≡ ((let over : Bodies = bodies_with c.args.rules.now c.args.goals.first c.args.goals.second c.args.goal.now c.args.second.now in over)).words c.number_of-number.result ((open_calls c.next_walk-walk.new.calls c.loop-rule.n).action c.loop-row.row) = rw ((let action_at : (open_calls c.next_walk-walk.new.calls c.loop-rule.n).action c.loop-row.row ≡ c.action_of-action.result = ap (λ (z : Calls). z.action c.loop-row.row) (alone_calls c.next_walk-walk.ensures.1 c.loop-rule.n) ∙ sym c.action_of-action.ensures in action_at)) c.steps_for-body.ensures.0 in words_at);
-      past = λ (h, k). past_words ((let words_at : c.steps_for-body.result.now ≡ ((let over : Bodies = bodies_with c.args.rules.now c.args.goals.first c.args.goals.second c.args.goal.now c.args.second.now in over)).words c.number_of-number.result ((open_calls c.next_walk-walk.new.calls c.loop-rule.n).action c.loop-row.row) = rw ((let action_at : (open_calls c.next_walk-walk.new.calls c.loop-rule.n).action c.loop-row.row ≡ c.action_of-action.result = ap (λ (z : Calls). z.action c.loop-row.row) (alone_calls c.next_walk-walk.ensures.1 c.loop-rule.n) ∙ sym c.action_of-action.ensures in action_at)) c.steps_for-body.ensures.0 in words_at)) (rows_past _ _ R.rows_closed c.number_of-number.result (rw (c.number_of-number.ensures, (let action_at : (open_calls c.next_walk-walk.new.calls c.loop-rule.n).action c.loop-row.row ≡ c.action_of-action.result = ap (λ (z : Calls). z.action c.loop-row.row) (alone_calls c.next_walk-walk.ensures.1 c.loop-rule.n) ∙ sym c.action_of-action.ensures in action_at)) (sym c.is_at.ensures ∙ not-false _ c.if-not-is_at.false-raw)) h k);
-      lower = λ j k e g w. rules_lower _ _ _ R j (lower_number c.args.rules.now c.args.goals.first c.args.goals.second c.args.goal.now c.args.second.now c.requires.accepted.2.few_rules j ((open_calls c.next_walk-walk.new.calls c.loop-rule.n).action c.loop-row.row) c.loop-rule.rule e (omega (arith, c.loop-rule-test.true, c.past_body-past.ensures.0)) (rw c.number_of-number.ensures at k)) e g w;
-      row_last = λ x h l. R.rows_closed.latest x (omega (arith, R.rows_closed.since.all_known)) l;
-      row_old = omega (arith, R.rows_closed.base_rows, c.loop-row-test.true, c.span_of-span.ensures.spans.top_in);
-      since = R.rows_closed.since;
-    }) in given_at) c.requires.standing.roots _ R) R.rows_closed.noted in going_at))) in
+    let O = rw c.in-Done.is at (c.turn-turn.ensures.leaving _ _ _ _ G) in
     let more = uses_trans w.words.uses_more s.uses_more in
     let a = c.next_walk-walk.ensures.1 in
     record {
@@ -793,41 +357,17 @@ loop-rule-preserved c =
         answers_long = s.answers_long ∙ w.words.answers_long ∙ l.words.answers_long;
         kept = s.kept;
         indexed = s.indexed;
-        uses_more = uses_trans l.words.uses_more (uses_trans ((let uses_walked : UsesGrew (uses_in c.loop-rule.calls c.loop-rule.list) (uses_in c.loop-after.calls c.loop-after.list) = uses_trans (uses_same (marked_uses c.next_walk-walk.ensures.1 c.loop-rule.list)) c.loop-after.invariant.words.uses_more in uses_walked)) s.uses_more);
+        uses_more = uses_trans l.words.uses_more (uses_trans (uses_trans (uses_same (marked_uses a c.loop-rule.list)) w.words.uses_more) s.uses_more);
       };
       stamped = O.stamped;
       rule_in = omega (arith, c.loop-rule-test.true, c.past_body-past.ensures.0);
       rows_in = omega (arith, l.rows_in, O.grew.calls_more);
       known_in = omega (arith, l.known_in, O.grew.answers_more);
       closed = λ roots begun R.
-          (let Q = (let marked_at : (rs : List (ℕ × ℕ)) (begun : Begin) → Rules ((let over : Bodies = bodies_with c.args.rules.now c.args.goals.first c.args.goals.second c.args.goal.now c.args.second.now in over)) (Among rs) (number_at (length c.args.rules.now / rule_width)) c.args.first c.args.stage.walked c.args.stage.seen c.span_of-span.result.low c.span_of-span.result.high c.span_of-span.result.top c.span_of-span.result.old c.span_of-span.result.warm
-          c.args.stage.round c.args.stage.calls c.args.stage.answers c.loop-row.row c.loop-rule.rule begun (in_words c.loop-rule.calls c.loop-rule.n c.loop-rule.answers c.loop-rule.m) (uses_in c.loop-rule.calls c.loop-rule.list)
-          → Rules ((let over : Bodies = bodies_with c.args.rules.now c.args.goals.first c.args.goals.second c.args.goal.now c.args.second.now in over)) (Among rs) (number_at (length c.args.rules.now / rule_width)) c.args.first c.args.stage.walked c.args.stage.seen c.span_of-span.result.low c.span_of-span.result.high c.span_of-span.result.top c.span_of-span.result.old c.span_of-span.result.warm
-          c.args.stage.round c.args.stage.calls c.args.stage.answers c.loop-row.row c.loop-rule.rule begun (in_words c.next_walk-walk.new.calls c.loop-rule.n c.loop-rule.answers c.loop-rule.m) (uses_in c.next_walk-walk.new.calls c.loop-rule.list) = (λ rs begun R. rules_marked (ap (λ (z : Calls). tables z (packed_answers c.loop-rule.answers c.loop-rule.m)) (alone_calls c.next_walk-walk.ensures.1 c.loop-rule.n)) (marked_uses c.next_walk-walk.ensures.1 c.loop-rule.list) R) in marked_at) roots begun (l.closed roots begun R) in
-          let end = rw c.in-Done.is at (c.turn-turn.ensures.leaving _ _ _ _ (w.going roots begun ((let given_at : (rs : List (ℕ × ℕ)) (begun : Begin) → Rules ((let over : Bodies = bodies_with c.args.rules.now c.args.goals.first c.args.goals.second c.args.goal.now c.args.second.now in over)) (Among rs) (number_at (length c.args.rules.now / rule_width)) c.args.first c.args.stage.walked c.args.stage.seen c.span_of-span.result.low c.span_of-span.result.high c.span_of-span.result.top c.span_of-span.result.old c.span_of-span.result.warm
-          c.args.stage.round c.args.stage.calls c.args.stage.answers c.loop-row.row c.loop-rule.rule begun (in_words c.next_walk-walk.new.calls c.loop-rule.n c.loop-rule.answers c.loop-rule.m) (uses_in c.next_walk-walk.new.calls c.loop-rule.list)
-          → Given ((let over : Bodies = bodies_with c.args.rules.now c.args.goals.first c.args.goals.second c.args.goal.now c.args.second.now in over)) (Among rs) (in_words c.next_walk-walk.new.calls c.loop-rule.n c.loop-rule.answers c.loop-rule.m)
-          c.args.stage.answers c.number_of-number.result c.loop-row.row (before c.args.first c.span_of-span.result.old c.args.stage.seen c.span_of-span.result.warm c.args.stage.round begun) c.steps_for-body.result.now = (λ rs begun R. record {
-            proper = proper_with c.args.rules.now c.args.goals.first c.args.goals.second c.args.goal.now c.args.second.now c.requires.accepted.2 c.requires.accepted.3;
-            valid = R.rows_closed.before.valid;
-            enough = R.rows_closed.known_in;
-            row_in = omega (arith, R.rows_closed.rows_in, c.loop-row-test.true, c.span_of-span.ensures.spans.top_in);
-            fits = rw (c.number_of-number.ensures, (let action_at : (open_calls c.next_walk-walk.new.calls c.loop-rule.n).action c.loop-row.row ≡ c.action_of-action.result = ap (λ (z : Calls). z.action c.loop-row.row) (alone_calls c.next_walk-walk.ensures.1 c.loop-rule.n) ∙ sym c.action_of-action.ensures in action_at)) (sym c.is_at.ensures ∙ not-false _ c.if-not-is_at.false-raw);
-            words = (let words_at : c.steps_for-body.result.now ≡ ((let over : Bodies = bodies_with c.args.rules.now c.args.goals.first c.args.goals.second c.args.goal.now c.args.second.now in over)).words c.number_of-number.result ((open_calls c.next_walk-walk.new.calls c.loop-rule.n).action c.loop-row.row) = rw ((let action_at : (open_calls c.next_walk-walk.new.calls c.loop-rule.n).action c.loop-row.row ≡ c.action_of-action.result = ap (λ (z : Calls). z.action c.loop-row.row) (alone_calls c.next_walk-walk.ensures.1 c.loop-rule.n) ∙ sym c.action_of-action.ensures in action_at)) c.steps_for-body.ensures.0 in words_at);
-            past = λ (h, k). past_words ((let words_at : c.steps_for-body.result.now ≡ ((let over : Bodies = bodies_with c.args.rules.now c.args.goals.first c.args.goals.second c.args.goal.now c.args.second.now in over)).words c.number_of-number.result ((open_calls c.next_walk-walk.new.calls c.loop-rule.n).action c.loop-row.row) = rw ((let action_at : (open_calls c.next_walk-walk.new.calls c.loop-rule.n).action c.loop-row.row ≡ c.action_of-action.result = ap (λ (z : Calls). z.action c.loop-row.row) (alone_calls c.next_walk-walk.ensures.1 c.loop-rule.n) ∙ sym c.action_of-action.ensures in action_at)) c.steps_for-body.ensures.0 in words_at)) (rows_past _ _ R.rows_closed c.number_of-number.result (rw (c.number_of-number.ensures, (let action_at : (open_calls c.next_walk-walk.new.calls c.loop-rule.n).action c.loop-row.row ≡ c.action_of-action.result = ap (λ (z : Calls). z.action c.loop-row.row) (alone_calls c.next_walk-walk.ensures.1 c.loop-rule.n) ∙ sym c.action_of-action.ensures in action_at)) (sym c.is_at.ensures ∙ not-false _ c.if-not-is_at.false-raw)) h k);
-            lower = λ j k e g w. rules_lower _ _ _ R j (lower_number c.args.rules.now c.args.goals.first c.args.goals.second c.args.goal.now c.args.second.now c.requires.accepted.2.few_rules j ((open_calls c.next_walk-walk.new.calls c.loop-rule.n).action c.loop-row.row) c.loop-rule.rule e (omega (arith, c.loop-rule-test.true, c.past_body-past.ensures.0)) (rw c.number_of-number.ensures at k)) e g w;
-            row_last = λ x h l. R.rows_closed.latest x (omega (arith, R.rows_closed.since.all_known)) l;
-            row_old = omega (arith, R.rows_closed.base_rows, c.loop-row-test.true, c.span_of-span.ensures.spans.top_in);
-            since = R.rows_closed.since;
-          }) in given_at) roots begun Q) Q.rows_closed.noted)) in
-          rules_next _ _ _ Q (omega (arith, c.loop-row-test.true, c.span_of-span.ensures.spans.top_in)) c.number_of-number.ensures ((let words_at : c.steps_for-body.result.now ≡ ((let over : Bodies = bodies_with c.args.rules.now c.args.goals.first c.args.goals.second c.args.goal.now c.args.second.now in over)).words c.number_of-number.result ((open_calls c.next_walk-walk.new.calls c.loop-rule.n).action c.loop-row.row) = rw ((let action_at : (open_calls c.next_walk-walk.new.calls c.loop-rule.n).action c.loop-row.row ≡ c.action_of-action.result = ap (λ (z : Calls). z.action c.loop-row.row) (alone_calls c.next_walk-walk.ensures.1 c.loop-rule.n) ∙ sym c.action_of-action.ensures in action_at)) c.steps_for-body.ensures.0 in words_at)) more end.made (λ x h k. end.latest x (omega (arith, Q.rows_closed.since.all_known)) k) end);
+          (let Q = marked_at N roots begun (l.closed roots begun R) in
+          let end = rw c.in-Done.is at (c.turn-turn.ensures.leaving _ _ _ _ (w.going roots begun (given_at N roots begun Q) Q.rows_closed.noted)) in
+          rules_next _ _ _ Q (omega (arith, c.loop-row-test.true, c.span_of-span.ensures.spans.top_in)) c.number_of-number.ensures (words_at N) more end.made (λ x h k. end.latest x (omega (arith, Q.rows_closed.since.all_known)) k) end);
     }
-
-pub overflow_step-row-in-loop-row : goal.overflow_step-row-in-loop-row
-overflow_step-row-in-loop-row c = omega (arith, c.loop-row-test.true)
-
-pub loop-row-smaller : goal.loop-row-smaller
-loop-row-smaller c = omega (arith, c.loop-row-test.true)
 
 pub loop-row-preserved : goal.loop-row-preserved
 loop-row-preserved c =
@@ -854,67 +394,44 @@ loop-row-preserved c =
           (rules_past _ _ _ R (λ k h m e. true_not_false (sym (rw (same, ← c.action_of-own.ensures) at e) ∙ c.past_body-past.ensures.1 k (omega (arith, c.loop-rule-test.false)) m))));
     }
 
-pub shape_of-calls-in-round : goal.shape_of-calls-in-round
-shape_of-calls-in-round c = c.loop-row.invariant.words.calls_long ∙ c.round.invariant.words.calls_long
-
-pub shape_of-list-in-round : goal.shape_of-list-in-round
-shape_of-list-in-round c = c.loop-row.invariant.words.list_long ∙ c.round.invariant.words.list_long ∙ c.span_of-span.ensures.looks_alone.long
-
-pub shape_of-answers-in-round : goal.shape_of-answers-in-round
-shape_of-answers-in-round c = c.loop-row.invariant.words.answers_long ∙ c.round.invariant.words.answers_long
-
-pub returns-in-round : goal.returns-in-round
-returns-in-round c =
+pub returns : goal.returns
+returns c =
     let l = c.loop-row.invariant in
-    let r = c.round.invariant in
-    let u = (let uses_here : UsesGrew (uses_in c.args.calls.now c.span_of-span.new.list) (uses_in c.loop-row.calls c.loop-row.list) = uses_trans c.round.invariant.words.uses_more c.loop-row.invariant.words.uses_more in uses_here) in
-    let R₀ = (let rows_at : (rs : List (ℕ × ℕ)) → (let First : List (ℕ × ℕ) → Type 0 = (λ roots. Round ((let over : Bodies = bodies_with c.args.rules.now c.args.goals.first c.args.goals.second c.args.goal.now c.args.second.now in over)) (Among roots) c.args.first c.args.stage.walked c.args.stage.seen
-    (in_words c.args.calls.now c.args.stage.calls c.args.answers.now c.args.stage.answers) (uses_in c.args.calls.now c.args.list.now)) in First) rs
-    → Rows ((let over : Bodies = bodies_with c.args.rules.now c.args.goals.first c.args.goals.second c.args.goal.now c.args.second.now in over)) (Among rs) c.args.first c.args.stage.walked c.args.stage.seen c.span_of-span.result.low c.span_of-span.result.high c.span_of-span.result.top c.span_of-span.result.old c.span_of-span.result.warm
-    c.args.stage.round c.args.stage.calls c.args.stage.answers c.loop-row.row (begin (in_words c.round.calls c.round.n c.round.answers c.round.m) (uses_in c.round.calls c.round.list)) (in_words c.loop-row.calls c.loop-row.n c.loop-row.answers c.loop-row.m) (uses_in c.loop-row.calls c.loop-row.list) = (λ rs S. let r = c.round.invariant in
     let b = c.span_of-span.ensures.begun in
-    let (S', W) = r.closed rs (round_kept _ _ (kept_same b.low) S) b.lit in
-    c.loop-row.invariant.closed rs S' (subst (λ (k : ℕ). (x : ℕ) → x < c.span_of-span.result.old → (x < c.args.stage.walked) × Lit (in_words c.round.calls c.round.n c.round.answers c.round.m).answers (uses_in c.round.calls c.round.list) c.args.stage.seen k c.span_of-span.result.warm) r.known_all W)) in rows_at) c.requires.standing.roots c.requires.standing.round in
+    let R₀ = l.closed _ (round_kept _ _ (kept_same b.low) c.requires.standing.round) b.lit in
     record {
-      calls_long = l.words.calls_long ∙ r.words.calls_long;
-      list_long = l.words.list_long ∙ r.words.list_long ∙ c.span_of-span.ensures.looks_alone.long;
-      answers_long = l.words.answers_long ∙ r.words.answers_long;
+      calls_long = l.words.calls_long;
+      list_long = l.words.list_long ∙ c.span_of-span.ensures.looks_alone.long;
+      answers_long = l.words.answers_long;
       kept = l.words.kept;
       indexed = l.words.indexed;
       rows_in = λ _. l.rows_in;
       known_in = λ _. l.known_in;
       stamped = λ _. l.stamped;
-      stale = λ k. omega (arith, u.heats k, c.span_of-span.ensures.begun.stale k);
+      stale = λ k. omega (arith, l.words.uses_more.heats k, b.stale k);
       sooner = λ _. rows_sooner _ _ R₀;
-      made = λ _. rw (r.calls_same, r.answers_same, r.rows_all, r.known_all) at R₀.since.made;
-      gathered = λ _ z. rw (r.calls_same, r.answers_same, r.rows_all, r.known_all) at (rows_gathered _ _ (rw z at R₀) c.loop-row-test.false);
-      next = λ _ roots S. (let R = (let rows_at : (rs : List (ℕ × ℕ)) → (let First : List (ℕ × ℕ) → Type 0 = (λ roots. Round ((let over : Bodies = bodies_with c.args.rules.now c.args.goals.first c.args.goals.second c.args.goal.now c.args.second.now in over)) (Among roots) c.args.first c.args.stage.walked c.args.stage.seen
-          (in_words c.args.calls.now c.args.stage.calls c.args.answers.now c.args.stage.answers) (uses_in c.args.calls.now c.args.list.now)) in First) rs
-          → Rows ((let over : Bodies = bodies_with c.args.rules.now c.args.goals.first c.args.goals.second c.args.goal.now c.args.second.now in over)) (Among rs) c.args.first c.args.stage.walked c.args.stage.seen c.span_of-span.result.low c.span_of-span.result.high c.span_of-span.result.top c.span_of-span.result.old c.span_of-span.result.warm
-          c.args.stage.round c.args.stage.calls c.args.stage.answers c.loop-row.row (begin (in_words c.round.calls c.round.n c.round.answers c.round.m) (uses_in c.round.calls c.round.list)) (in_words c.loop-row.calls c.loop-row.n c.loop-row.answers c.loop-row.m) (uses_in c.loop-row.calls c.loop-row.list) = (λ rs S. let r = c.round.invariant in
-          let b = c.span_of-span.ensures.begun in
-          let (S', W) = r.closed rs (round_kept _ _ (kept_same b.low) S) b.lit in
-          c.loop-row.invariant.closed rs S' (subst (λ (k : ℕ). (x : ℕ) → x < c.span_of-span.result.old → (x < c.args.stage.walked) × Lit (in_words c.round.calls c.round.n c.round.answers c.round.m).answers (uses_in c.round.calls c.round.list) c.args.stage.seen k c.span_of-span.result.warm) r.known_all W)) in rows_at) roots S in (rows_round _ _ R c.loop-row-test.false, λ e. rows_finished _ _ R c.loop-row-test.false e));
+      made = λ _. R₀.since.made;
+      gathered = λ _ z. rows_gathered _ _ (rw z at R₀) c.loop-row-test.false;
+      next = λ _ roots S.
+          (let R = l.closed roots (round_kept _ _ (kept_same b.low) S) b.lit in
+          (rows_round _ _ R c.loop-row-test.false, λ e. rows_finished _ _ R c.loop-row-test.false e));
       outgrown = λ e. absurd (true_not_false (sym e));
     }
 
-pub shape_of-calls : goal.shape_of-calls
-shape_of-calls c = c.turn-turn.ensures.stays.calls_long ∙ (let calls_at : length c.loop-after.calls ≡ length c.args.calls.now = c.loop-after.invariant.words.calls_long ∙ c.next_walk-walk.ensures.1.long ∙ c.loop-rule.invariant.words.calls_long ∙ c.loop-row.invariant.words.calls_long ∙ c.round.invariant.words.calls_long in calls_at)
-
-pub shape_of-list : goal.shape_of-list
-shape_of-list c = c.turn-turn.ensures.stays.list_long ∙ (let list_at : length c.loop-after.list ≡ length c.args.list.now = c.loop-after.invariant.words.list_long ∙ c.loop-rule.invariant.words.list_long ∙ c.loop-row.invariant.words.list_long ∙ c.round.invariant.words.list_long ∙ c.span_of-span.ensures.looks_alone.long in list_at)
-
-pub shape_of-answers : goal.shape_of-answers
-shape_of-answers c = c.turn-turn.ensures.stays.answers_long ∙ (let answers_at : length c.loop-after.answers ≡ length c.args.answers.now = c.loop-after.invariant.words.answers_long ∙ c.loop-rule.invariant.words.answers_long ∙ c.loop-row.invariant.words.answers_long ∙ c.round.invariant.words.answers_long in answers_at)
-
-pub returns : goal.returns
-returns c =
+pub returns-in-Full : goal.returns-in-Full
+returns-in-Full c =
+    let N = (goal.at.returns-in-Full c).After-next_walk-walk in
     let s = c.turn-turn.ensures.stays in
-    let u = uses_trans ((let uses_at : UsesGrew (uses_in c.args.calls.now c.span_of-span.new.list) (uses_in c.loop-after.calls c.loop-after.list) = uses_trans ((let uses_here : UsesGrew (uses_in c.args.calls.now c.span_of-span.new.list) (uses_in c.loop-row.calls c.loop-row.list) = uses_trans c.round.invariant.words.uses_more c.loop-row.invariant.words.uses_more in uses_here)) (uses_trans c.loop-rule.invariant.words.uses_more ((let uses_walked : UsesGrew (uses_in c.loop-rule.calls c.loop-rule.list) (uses_in c.loop-after.calls c.loop-after.list) = uses_trans (uses_same (marked_uses c.next_walk-walk.ensures.1 c.loop-rule.list)) c.loop-after.invariant.words.uses_more in uses_walked))) in uses_at)) s.uses_more in
+    let w = c.loop-after.invariant.words in
+    let l = c.loop-rule.invariant.words in
+    let r = c.loop-row.invariant.words in
+    let a = c.next_walk-walk.ensures.1 in
+    let calls_at : length c.loop-after.calls ≡ length c.args.calls.now = w.calls_long ∙ a.long ∙ l.calls_long ∙ r.calls_long in
+    let u = uses_trans r.uses_more (uses_trans l.uses_more (uses_trans (uses_trans (uses_same (marked_uses a c.loop-rule.list)) w.uses_more) s.uses_more)) in
     record {
-      calls_long = s.calls_long ∙ (let calls_at : length c.loop-after.calls ≡ length c.args.calls.now = c.loop-after.invariant.words.calls_long ∙ c.next_walk-walk.ensures.1.long ∙ c.loop-rule.invariant.words.calls_long ∙ c.loop-row.invariant.words.calls_long ∙ c.round.invariant.words.calls_long in calls_at);
-      list_long = s.list_long ∙ (let list_at : length c.loop-after.list ≡ length c.args.list.now = c.loop-after.invariant.words.list_long ∙ c.loop-rule.invariant.words.list_long ∙ c.loop-row.invariant.words.list_long ∙ c.round.invariant.words.list_long ∙ c.span_of-span.ensures.looks_alone.long in list_at);
-      answers_long = s.answers_long ∙ (let answers_at : length c.loop-after.answers ≡ length c.args.answers.now = c.loop-after.invariant.words.answers_long ∙ c.loop-rule.invariant.words.answers_long ∙ c.loop-row.invariant.words.answers_long ∙ c.round.invariant.words.answers_long in answers_at);
+      calls_long = s.calls_long ∙ calls_at;
+      list_long = s.list_long ∙ w.list_long ∙ l.list_long ∙ r.list_long ∙ c.span_of-span.ensures.looks_alone.long;
+      answers_long = s.answers_long ∙ w.answers_long ∙ l.answers_long ∙ r.answers_long;
       kept = s.kept;
       indexed = s.indexed;
       rows_in = λ e. absurd (true_not_false e);
@@ -926,34 +443,7 @@ returns c =
       stale = λ k. omega (arith, u.heats k, c.span_of-span.ensures.begun.stale k);
       next = λ e. absurd (true_not_false e);
       outgrown = λ _ roots S.
-          (let R = (let rules_at : (rs : List (ℕ × ℕ)) → (let First : List (ℕ × ℕ) → Type 0 = (λ roots. Round ((let over : Bodies = bodies_with c.args.rules.now c.args.goals.first c.args.goals.second c.args.goal.now c.args.second.now in over)) (Among roots) c.args.first c.args.stage.walked c.args.stage.seen
-          (in_words c.args.calls.now c.args.stage.calls c.args.answers.now c.args.stage.answers) (uses_in c.args.calls.now c.args.list.now)) in First) rs
-          → Rules ((let over : Bodies = bodies_with c.args.rules.now c.args.goals.first c.args.goals.second c.args.goal.now c.args.second.now in over)) (Among rs) (number_at (length c.args.rules.now / rule_width)) c.args.first c.args.stage.walked c.args.stage.seen c.span_of-span.result.low c.span_of-span.result.high c.span_of-span.result.top c.span_of-span.result.old c.span_of-span.result.warm
-          c.args.stage.round c.args.stage.calls c.args.stage.answers c.loop-row.row c.loop-rule.rule (begin (in_words c.round.calls c.round.n c.round.answers c.round.m) (uses_in c.round.calls c.round.list)) (in_words c.next_walk-walk.new.calls c.loop-rule.n c.loop-rule.answers c.loop-rule.m) (uses_in c.next_walk-walk.new.calls c.loop-rule.list) = (λ rs S. (let marked_at : (rs : List (ℕ × ℕ)) (begun : Begin) → Rules ((let over : Bodies = bodies_with c.args.rules.now c.args.goals.first c.args.goals.second c.args.goal.now c.args.second.now in over)) (Among rs) (number_at (length c.args.rules.now / rule_width)) c.args.first c.args.stage.walked c.args.stage.seen c.span_of-span.result.low c.span_of-span.result.high c.span_of-span.result.top c.span_of-span.result.old c.span_of-span.result.warm
-          c.args.stage.round c.args.stage.calls c.args.stage.answers c.loop-row.row c.loop-rule.rule begun (in_words c.loop-rule.calls c.loop-rule.n c.loop-rule.answers c.loop-rule.m) (uses_in c.loop-rule.calls c.loop-rule.list)
-          → Rules ((let over : Bodies = bodies_with c.args.rules.now c.args.goals.first c.args.goals.second c.args.goal.now c.args.second.now in over)) (Among rs) (number_at (length c.args.rules.now / rule_width)) c.args.first c.args.stage.walked c.args.stage.seen c.span_of-span.result.low c.span_of-span.result.high c.span_of-span.result.top c.span_of-span.result.old c.span_of-span.result.warm
-          c.args.stage.round c.args.stage.calls c.args.stage.answers c.loop-row.row c.loop-rule.rule begun (in_words c.next_walk-walk.new.calls c.loop-rule.n c.loop-rule.answers c.loop-rule.m) (uses_in c.next_walk-walk.new.calls c.loop-rule.list) = (λ rs begun R. rules_marked (ap (λ (z : Calls). tables z (packed_answers c.loop-rule.answers c.loop-rule.m)) (alone_calls c.next_walk-walk.ensures.1 c.loop-rule.n)) (marked_uses c.next_walk-walk.ensures.1 c.loop-rule.list) R) in marked_at) rs _ (c.loop-rule.invariant.closed rs _ ((let rows_at : (rs : List (ℕ × ℕ)) → (let First : List (ℕ × ℕ) → Type 0 = (λ roots. Round ((let over : Bodies = bodies_with c.args.rules.now c.args.goals.first c.args.goals.second c.args.goal.now c.args.second.now in over)) (Among roots) c.args.first c.args.stage.walked c.args.stage.seen
-          (in_words c.args.calls.now c.args.stage.calls c.args.answers.now c.args.stage.answers) (uses_in c.args.calls.now c.args.list.now)) in First) rs
-          → Rows ((let over : Bodies = bodies_with c.args.rules.now c.args.goals.first c.args.goals.second c.args.goal.now c.args.second.now in over)) (Among rs) c.args.first c.args.stage.walked c.args.stage.seen c.span_of-span.result.low c.span_of-span.result.high c.span_of-span.result.top c.span_of-span.result.old c.span_of-span.result.warm
-          c.args.stage.round c.args.stage.calls c.args.stage.answers c.loop-row.row (begin (in_words c.round.calls c.round.n c.round.answers c.round.m) (uses_in c.round.calls c.round.list)) (in_words c.loop-row.calls c.loop-row.n c.loop-row.answers c.loop-row.m) (uses_in c.loop-row.calls c.loop-row.list) = (λ rs S. let r = c.round.invariant in
-          let b = c.span_of-span.ensures.begun in
-          let (S', W) = r.closed rs (round_kept _ _ (kept_same b.low) S) b.lit in
-          c.loop-row.invariant.closed rs S' (subst (λ (k : ℕ). (x : ℕ) → x < c.span_of-span.result.old → (x < c.args.stage.walked) × Lit (in_words c.round.calls c.round.n c.round.answers c.round.m).answers (uses_in c.round.calls c.round.list) c.args.stage.seen k c.span_of-span.result.warm) r.known_all W)) in rows_at) rs S))) in rules_at) roots S in
-          let O = rw c.in-Full.is at (c.turn-turn.ensures.leaving _ _ _ _ (c.loop-after.invariant.going roots _ ((let given_at : (rs : List (ℕ × ℕ)) (begun : Begin) → Rules ((let over : Bodies = bodies_with c.args.rules.now c.args.goals.first c.args.goals.second c.args.goal.now c.args.second.now in over)) (Among rs) (number_at (length c.args.rules.now / rule_width)) c.args.first c.args.stage.walked c.args.stage.seen c.span_of-span.result.low c.span_of-span.result.high c.span_of-span.result.top c.span_of-span.result.old c.span_of-span.result.warm
-          c.args.stage.round c.args.stage.calls c.args.stage.answers c.loop-row.row c.loop-rule.rule begun (in_words c.next_walk-walk.new.calls c.loop-rule.n c.loop-rule.answers c.loop-rule.m) (uses_in c.next_walk-walk.new.calls c.loop-rule.list)
-          → Given ((let over : Bodies = bodies_with c.args.rules.now c.args.goals.first c.args.goals.second c.args.goal.now c.args.second.now in over)) (Among rs) (in_words c.next_walk-walk.new.calls c.loop-rule.n c.loop-rule.answers c.loop-rule.m)
-          c.args.stage.answers c.number_of-number.result c.loop-row.row (before c.args.first c.span_of-span.result.old c.args.stage.seen c.span_of-span.result.warm c.args.stage.round begun) c.steps_for-body.result.now = (λ rs begun R. record {
-            proper = proper_with c.args.rules.now c.args.goals.first c.args.goals.second c.args.goal.now c.args.second.now c.requires.accepted.2 c.requires.accepted.3;
-            valid = R.rows_closed.before.valid;
-            enough = R.rows_closed.known_in;
-            row_in = omega (arith, R.rows_closed.rows_in, c.loop-row-test.true, c.span_of-span.ensures.spans.top_in);
-            fits = rw (c.number_of-number.ensures, (let action_at : (open_calls c.next_walk-walk.new.calls c.loop-rule.n).action c.loop-row.row ≡ c.action_of-action.result = ap (λ (z : Calls). z.action c.loop-row.row) (alone_calls c.next_walk-walk.ensures.1 c.loop-rule.n) ∙ sym c.action_of-action.ensures in action_at)) (sym c.is_at.ensures ∙ not-false _ c.if-not-is_at.false-raw);
-            words = (let words_at : c.steps_for-body.result.now ≡ ((let over : Bodies = bodies_with c.args.rules.now c.args.goals.first c.args.goals.second c.args.goal.now c.args.second.now in over)).words c.number_of-number.result ((open_calls c.next_walk-walk.new.calls c.loop-rule.n).action c.loop-row.row) = rw ((let action_at : (open_calls c.next_walk-walk.new.calls c.loop-rule.n).action c.loop-row.row ≡ c.action_of-action.result = ap (λ (z : Calls). z.action c.loop-row.row) (alone_calls c.next_walk-walk.ensures.1 c.loop-rule.n) ∙ sym c.action_of-action.ensures in action_at)) c.steps_for-body.ensures.0 in words_at);
-            past = λ (h, k). past_words ((let words_at : c.steps_for-body.result.now ≡ ((let over : Bodies = bodies_with c.args.rules.now c.args.goals.first c.args.goals.second c.args.goal.now c.args.second.now in over)).words c.number_of-number.result ((open_calls c.next_walk-walk.new.calls c.loop-rule.n).action c.loop-row.row) = rw ((let action_at : (open_calls c.next_walk-walk.new.calls c.loop-rule.n).action c.loop-row.row ≡ c.action_of-action.result = ap (λ (z : Calls). z.action c.loop-row.row) (alone_calls c.next_walk-walk.ensures.1 c.loop-rule.n) ∙ sym c.action_of-action.ensures in action_at)) c.steps_for-body.ensures.0 in words_at)) (rows_past _ _ R.rows_closed c.number_of-number.result (rw (c.number_of-number.ensures, (let action_at : (open_calls c.next_walk-walk.new.calls c.loop-rule.n).action c.loop-row.row ≡ c.action_of-action.result = ap (λ (z : Calls). z.action c.loop-row.row) (alone_calls c.next_walk-walk.ensures.1 c.loop-rule.n) ∙ sym c.action_of-action.ensures in action_at)) (sym c.is_at.ensures ∙ not-false _ c.if-not-is_at.false-raw)) h k);
-            lower = λ j k e g w. rules_lower _ _ _ R j (lower_number c.args.rules.now c.args.goals.first c.args.goals.second c.args.goal.now c.args.second.now c.requires.accepted.2.few_rules j ((open_calls c.next_walk-walk.new.calls c.loop-rule.n).action c.loop-row.row) c.loop-rule.rule e (omega (arith, c.loop-rule-test.true, c.past_body-past.ensures.0)) (rw c.number_of-number.ensures at k)) e g w;
-            row_last = λ x h l. R.rows_closed.latest x (omega (arith, R.rows_closed.since.all_known)) l;
-            row_old = omega (arith, R.rows_closed.base_rows, c.loop-row-test.true, c.span_of-span.ensures.spans.top_in);
-            since = R.rows_closed.since;
-          }) in given_at) roots _ R) R.rows_closed.noted)) in
-          rw ((let calls_at : length c.loop-after.calls ≡ length c.args.calls.now = c.loop-after.invariant.words.calls_long ∙ c.next_walk-walk.ensures.1.long ∙ c.loop-rule.invariant.words.calls_long ∙ c.loop-row.invariant.words.calls_long ∙ c.round.invariant.words.calls_long in calls_at)) at O);
+          (let R = rules_at N roots S in
+          let O = rw c.in-Full.is at (c.turn-turn.ensures.leaving _ _ _ _ (c.loop-after.invariant.going roots _ (given_at N roots _ R) R.rows_closed.noted)) in
+          rw calls_at at O);
     }

@@ -1,13 +1,11 @@
--- `round` meets its contract. The invariants of its loops (the block, call records, rules, the walk) are the records of `Filling`; the measures are
--- the records and rules left, and the walk's own. Assumes nothing.
+-- `round` meets its contract. The invariants of its loops (call records, rules, the walk) are the records of `Filling`; the measure of the walk is its own. Assumes nothing.
 use Prim.Native.Nat.{◌-◌, ◌/◌}
 use lib.ListN.{length}
 use Rattle.steps.specs.Widths.{rule_width}
 use Rattle.tabling.proofs.Measure.{left}
 use Rattle.records.specs.Bodies.{bodies_with}
 use Rattle.search.specs.Leaving.{spot_of}
-use Rattle.invariants.proofs.Filling.{Begins, RowsDone, RulesDone, Walked}
-use borrow.Author.Rules.{rules}
+use Rattle.invariants.proofs.Filling.{RowsDone, RulesDone, Walked}
 use Rattle.filling.proofs.round.Given as goal
 
 abbrev pub invariant-loop-after : goal.invariant-loop-after
@@ -19,17 +17,5 @@ decreases-loop-after l = left l.job.known l.chosen (length l.body - length l.res
 abbrev pub invariant-loop-rule : goal.invariant-loop-rule
 invariant-loop-rule l = RulesDone (bodies_with l.rules l.goals.first l.goals.second l.goal l.second) l.most l.first l.initial.calls l.initial.list l.initial.n l.initial.answers l.initial.m (length l.rules / rule_width) l.walked l.seen l.low l.high l.top l.span.old l.span.warm l.round l.rows l.known l.row l.rule l.calls l.list l.n l.answers l.m l.walk
 
-abbrev pub decreases-loop-rule : goal.decreases-loop-rule
-decreases-loop-rule l = l.past - l.rule
-
 abbrev pub invariant-loop-row : goal.invariant-loop-row
 invariant-loop-row l = RowsDone (bodies_with l.rules l.goals.first l.goals.second l.goal l.second) l.most l.first l.initial.calls l.initial.list l.initial.n l.initial.answers l.initial.m l.walked l.seen l.low l.high l.top l.span.old l.span.warm l.round l.rows l.known l.row l.calls l.list l.n l.answers l.m l.walk
-
-abbrev pub decreases-loop-row : goal.decreases-loop-row
-decreases-loop-row l = l.top - l.row
-
-abbrev pub invariant-round : goal.invariant-round
-invariant-round l = Begins (bodies_with l.rules l.goals.first l.goals.second l.goal l.second) l.most l.first l.initial.calls l.initial.list l.initial.n l.initial.answers l.initial.m l.walked l.seen l.low l.high l.top l.span.old l.span.warm l.round l.rows l.known l.calls l.list l.n l.answers l.m l.walk
-
-abbrev pub decreases-round : goal.decreases-round
-decreases-round l = 0

@@ -1,10 +1,6 @@
--- `put_lines` meets its contract. The invariant: the first i lines are written; the measure: those left. Assumes nothing.
-use Prim.Native.Nat.{◌-◌, ◌≤◌}
+-- The first i lines are written. Assumes nothing.
 use Rattle.finals.specs.Finals.{Lined}
 use Rattle.finals.proofs.put_lines.Given as goal
 
 abbrev pub invariant-loop-i : goal.invariant-loop-i
-invariant-loop-i l = (l.i ≤ l.n) × Lined l.list l.i l.at l.initial.words l.words
-
-abbrev pub decreases-loop-i : goal.decreases-loop-i
-decreases-loop-i l = l.n - l.i
+invariant-loop-i l = Lined l.word-items l.i l.at l.initial.words l.words

@@ -1,15 +1,6 @@
--- `follow` meets its contract. The loop's invariant: nothing wrong is in the table or the notes; the measure: the calls left. Assumes nothing.
-use Prim.Native.Nat.{◌+◌, ◌-◌}
-use native.Mathlib.Omega.{arith}
-use mathlib.Core.Path.{◌≡◌, refl, ◌∙◌}
-use lib.ListN.{length}
-use borrow.Author.Rules.{rules}
+-- Nothing wrong is in the table or the notes. Assumes nothing.
 use Rattle.masks.specs.Masks.{Grown, Ready}
-use Rattle.gains.proofs.Widening.{grown_none, grown_then}
 use Rattle.gains.proofs.follow.Given as goal
 
 abbrev pub invariant-loop-n : goal.invariant-loop-n
-invariant-loop-n l = Grown l.place l.initial.table l.table × Ready l.rules l.recorded l.runs l.place l.table l.notes × (length l.notes ≡ length l.initial.notes)
-
-abbrev pub decreases-loop-n : goal.decreases-loop-n
-decreases-loop-n l = l.end - l.n
+invariant-loop-n l = record { grown : Grown l.place l.initial.table l.table; ready : Ready l.rules l.recorded l.runs l.place l.table l.notes }

@@ -1,8 +1,7 @@
 -- `gain` meets its contract. Assumes nothing.
 use native.Mathlib.Omega.{arith}
 use mathlib.Core.Path.{◌∙◌}
-use lib.ListN.{length-replicate, get_or-replicate}
-use borrow.Author.Rules.{rules}
+use lib.ListN.{length-replicate}
 use Rattle.gains.proofs.Widening.{grown_then}
 use Rattle.gains.proofs.Gaining.{noted_none, nothing}
 use Rattle.gains.proofs.gain.Goals as goal

@@ -3,16 +3,16 @@
 use Prim.Native.Nat.{ℕ}
 use native.Mathlib.Omega.{arith}
 use mathlib.Core.Path.{◌≡◌, refl, subst, ◌∙◌}
-use mathlib.Core.Bool.{true, false}
+use mathlib.Core.Bool.{Bool, true, false}
 use mathlib.Core.List.Memᴰ
 use mathlib.Core.List.{List, []}
 use lib.ListN.{length}
-use borrow.Author.Rules.{rules}
 use Rattle.steps.specs.State.{State}
 use Rattle.steps.specs.Run.{Goal}
 use Rattle.steps.proofs.EachBelow.{true_not_false}
 use Rattle.records.specs.Records.{Bodies, room, call_width}
 use Rattle.records.specs.Bodies.{second_goal, bodies_with}
+use Rattle.records.proofs.Growth.{Tables}
 use Rattle.records.proofs.Justification.{Proper}
 use Rattle.records.proofs.Numbers.{proper_with}
 use Rattle.records.proofs.Zeros.{zero_long}
@@ -22,10 +22,13 @@ use Rattle.marks.proofs.MarksLaws.{zeros_stamped}
 use Rattle.tabling.proofs.Evidence.{Among, Valid}
 use Rattle.tabling.proofs.Adding.{Outgrown}
 use Rattle.invariants.proofs.Going.{in_words}
+use Rattle.invariants.proofs.Filling.{Filled}
 use Rattle.joint.specs.Joint.{root_if, roots_of, RootPut, RowsFilled}
 use Rattle.joint.proofs.Roots.{none_valid, outgrown_more, root_as, root_put, root_full, root_alone}
 use Rattle.joint.proofs.Fresh.{Fresh, cleared_open, cleared_fresh, fresh_still}
+use Rattle.std.proofs.lemmas.Result.{err_from_is_err_and}
 use Rattle.joint.proofs.fill_rows.Goals as goal
+use Rattle.joint.proofs.fill_rows.Goals.{After-add_root-one, After-add_root-two}
 
 -- a table is full: nothing is said of the words but their lengths
 rows_full : {bodies : Bodies} {roots : List (ℕ × State)} {most : ℕ} {calls list answers calls' list' : List ℕ} {n m : ℕ} → Fresh calls list calls' list'
@@ -40,35 +43,88 @@ rows_full f o = record {
   outgrown = λ e. o;
 }
 
+-- What the rounds leave in tables that were cleared before the roots were put in.
+rows_filled : {bodies : Bodies} {roots : List (ℕ × State)} {b : Tables} {most : ℕ} {calls list answers calls₁ list₁ calls' list' answers' : List ℕ} {full : Bool} {n m rounds : ℕ}
+    → Fresh calls list calls₁ list₁ → Filled bodies most roots 0 b calls₁ list₁ answers calls' list' answers' full n m rounds
+    → RowsFilled bodies roots most calls list answers calls' list' answers' full n m
+rows_filled fresh F = record {
+  calls_long = F.calls_long ∙ fresh.long;
+  list_long = F.list_long ∙ fresh.list_long;
+  answers_long = F.answers_long;
+  kept = λ e. F.kept;
+  indexed = λ e. F.indexed;
+  whole = F.closed;
+  outgrown = λ e. rw fresh.long at (F.outgrown e);
+}
+
+-- ---- the first goal's root
+
+abbrev over : After-add_root-one → Bodies
+over c = bodies_with c.args.rules.now c.args.goals.first c.args.goals.second c.args.goal.now c.args.second.now
+
+abbrev roots : After-add_root-one → List (ℕ × State)
+roots c = roots_of c.args.goals.first c.args.goals.second c.args.start c.args.second_start
+
+fresh_one : (c : After-add_root-one) → Fresh c.args.calls.now c.args.list.now c.add_root-one.new.calls c.add_root-one.new.list
+fresh_one c = fresh_still c.add_root-one.ensures.calls_kept (cleared_fresh c.args.calls.now c.args.list.now c.clear.ensures c.clear-2.ensures)
+
+proper : (c : After-add_root-one) → Proper (over c)
+proper c =
+    let (fluents, actions, first, second) = c.requires.accepted in
+    proper_with c.args.rules.now c.args.goals.first c.args.goals.second c.args.goal.now c.args.second.now first second
+
+none : (c : After-add_root-one) → Valid (over c) (Among []) (in_words c.clear.new.words 0 c.args.answers.now 0)
+none c = none_valid (over c) (open_calls c.clear.new.words 0) (packed_answers c.args.answers.now 0) refl refl
+
+put_one : (c : After-add_root-one) → RootPut c.args.goals.first (room call_width (length c.clear.new.words)) (open_calls c.clear.new.words 0) Goal c.args.start
+    (open_calls c.add_root-one.new.calls c.add_root-one.result.count) c.add_root-one.result.row c.add_root-one.result.full
+put_one c = root_as c.goal.ensures.0 c.goal.ensures.1 c.add_root-one.ensures.root_put
+
+with_one : (c : After-add_root-one) → c.add_root-one.result.full ≡ false
+    → Valid (over c) (Among (root_if c.args.goals.first Goal c.args.start)) (in_words c.add_root-one.new.calls c.add_root-one.result.count c.args.answers.now 0)
+with_one c e = root_put (proper c) (none c) c.args.goals.first (put_one c) e
+
 pub add_root-one-requires : goal.add_root-one-requires
-add_root-one-requires c = record { calls_open = (cleared_open c.args.calls.now c.args.list.now c.clear.ensures c.clear-2.ensures c.requires.calls_in_bounds.0, call_index_none _ _, omega (arith, c.goal.ensures.0)); no_call = λ x l k. absurd (omega (arith, l)) }
+add_root-one-requires c = record {
+  calls_open = (cleared_open c.args.calls.now c.args.list.now c.clear.ensures c.clear-2.ensures c.requires.calls_in_bounds.0, call_index_none _ _, omega (arith, c.goal.ensures.0));
+  no_call = λ x l k. absurd (omega (arith, l));
+}
 
 pub returns-then-one : goal.returns-then-one
 returns-then-one c =
-    rows_full ((let fresh_one : Fresh c.args.calls.now c.args.list.now c.add_root-one.new.calls c.add_root-one.new.list = fresh_still c.add_root-one.ensures.calls_kept (cleared_fresh c.args.calls.now c.args.list.now c.clear.ensures c.clear-2.ensures) in fresh_one)) ((let over_one : c.add_root-one.result.full ≡ true → Outgrown (bodies_with c.args.rules.now c.args.goals.first c.args.goals.second c.args.goal.now c.args.second.now) (Among (roots_of c.args.goals.first c.args.goals.second c.args.start c.args.second_start)) (room call_width (length c.args.calls.now)) c.args.most = (λ e. subst (λ (k : ℕ). Outgrown (bodies_with c.args.rules.now c.args.goals.first c.args.goals.second c.args.goal.now c.args.second.now) (Among (roots_of c.args.goals.first c.args.goals.second c.args.start c.args.second_start)) (room call_width k) c.args.most) (zero_long _ c.clear.ensures)
-    (outgrown_more (bodies_with c.args.rules.now c.args.goals.first c.args.goals.second c.args.goal.now c.args.second.now) _ _ (λ b E m. Memᴰ.append_left _ m) (root_full ((let proper : Proper (bodies_with c.args.rules.now c.args.goals.first c.args.goals.second c.args.goal.now c.args.second.now) = let (fluents, actions, first, second) = c.requires.accepted in
-    proper_with c.args.rules.now c.args.goals.first c.args.goals.second c.args.goal.now c.args.second.now first second in proper)) ((let none : Valid (bodies_with c.args.rules.now c.args.goals.first c.args.goals.second c.args.goal.now c.args.second.now) (Among []) (in_words c.clear.new.words 0 c.args.answers.now 0) = none_valid (bodies_with c.args.rules.now c.args.goals.first c.args.goals.second c.args.goal.now c.args.second.now) (open_calls c.clear.new.words 0) (packed_answers c.args.answers.now 0) refl refl in none)) c.args.goals.first c.args.most ((let put_one : RootPut c.args.goals.first (room call_width (length c.clear.new.words)) (open_calls c.clear.new.words 0) Goal c.args.start (open_calls c.add_root-one.new.calls c.add_root-one.result.count) c.add_root-one.result.row c.add_root-one.result.full = root_as c.goal.ensures.0 c.goal.ensures.1 c.add_root-one.ensures.root_put in put_one)) e))) in over_one) c.if-one.true)
+    let o = (goal.at.returns-then-one c).After-add_root-one in
+    rows_full (fresh_one o)
+    (rw (zero_long _ c.clear.ensures) at
+    (outgrown_more (over o) {Root' = Among (roots o)} _ _ (λ b E m. Memᴰ.append_left _ m) (root_full (proper o) (none o) c.args.goals.first c.args.most (put_one o) c.if-one.true)))
 
 -- ---- the second's
+
+fresh_two : (c : After-add_root-two) → Fresh c.args.calls.now c.args.list.now c.add_root-two.new.calls c.add_root-two.new.list
+fresh_two c = fresh_still c.add_root-two.ensures.calls_kept (fresh_still c.add_root-one.ensures.calls_kept (cleared_fresh c.args.calls.now c.args.list.now c.clear.ensures c.clear-2.ensures))
+
+put_two : (c : After-add_root-two) → RootPut c.args.goals.second (room call_width (length c.add_root-one.new.calls)) (open_calls c.add_root-one.new.calls c.add_root-one.result.count)
+    second_goal c.args.second_start (open_calls c.add_root-two.new.calls c.add_root-two.result.count) c.add_root-two.result.row c.add_root-two.result.full
+put_two c = root_as refl c.of.ensures c.add_root-two.ensures.root_put
+
 pub add_root-two-requires : goal.add_root-two-requires
 add_root-two-requires c =
+    let o = (goal.at.add_root-two-requires c).After-add_root-one in
     let s = c.add_root-one.ensures.calls_open_2 in
-    record { calls_open = (s.0, s.1, omega arith); no_call = root_alone refl second_goal _ (λ e. absurd (omega (arith, e))) c.args.goals.first ((let put_one : RootPut c.args.goals.first (room call_width (length c.clear.new.words)) (open_calls c.clear.new.words 0) Goal c.args.start (open_calls c.add_root-one.new.calls c.add_root-one.result.count) c.add_root-one.result.row c.add_root-one.result.full = root_as c.goal.ensures.0 c.goal.ensures.1 c.add_root-one.ensures.root_put in put_one)) }
-
-pub shape_of-calls-then-two : goal.shape_of-calls-then-two
-shape_of-calls-then-two c = ((let fresh_two : Fresh c.args.calls.now c.args.list.now c.add_root-two.new.calls c.add_root-two.new.list = fresh_still c.add_root-two.ensures.calls_kept ((let fresh_one : Fresh c.args.calls.now c.args.list.now c.add_root-one.new.calls c.add_root-one.new.list = fresh_still c.add_root-one.ensures.calls_kept (cleared_fresh c.args.calls.now c.args.list.now c.clear.ensures c.clear-2.ensures) in fresh_one)) in fresh_two)).long
+    record { calls_open = (s.0, s.1, omega arith); no_call = root_alone refl second_goal _ (λ e. absurd (omega (arith, e))) c.args.goals.first (put_one o) }
 
 pub returns-then-two : goal.returns-then-two
 returns-then-two c =
-    rows_full ((let fresh_two : Fresh c.args.calls.now c.args.list.now c.add_root-two.new.calls c.add_root-two.new.list = fresh_still c.add_root-two.ensures.calls_kept ((let fresh_one : Fresh c.args.calls.now c.args.list.now c.add_root-one.new.calls c.add_root-one.new.list = fresh_still c.add_root-one.ensures.calls_kept (cleared_fresh c.args.calls.now c.args.list.now c.clear.ensures c.clear-2.ensures) in fresh_one)) in fresh_two)) ((let over_two : c.add_root-two.result.full ≡ true → Outgrown (bodies_with c.args.rules.now c.args.goals.first c.args.goals.second c.args.goal.now c.args.second.now) (Among (roots_of c.args.goals.first c.args.goals.second c.args.start c.args.second_start)) (room call_width (length c.args.calls.now)) c.args.most = (λ e. subst (λ (k : ℕ). Outgrown (bodies_with c.args.rules.now c.args.goals.first c.args.goals.second c.args.goal.now c.args.second.now) (Among (roots_of c.args.goals.first c.args.goals.second c.args.start c.args.second_start)) (room call_width k) c.args.most) ((let fresh_one : Fresh c.args.calls.now c.args.list.now c.add_root-one.new.calls c.add_root-one.new.list = fresh_still c.add_root-one.ensures.calls_kept (cleared_fresh c.args.calls.now c.args.list.now c.clear.ensures c.clear-2.ensures) in fresh_one)).long
-    (root_full ((let proper : Proper (bodies_with c.args.rules.now c.args.goals.first c.args.goals.second c.args.goal.now c.args.second.now) = let (fluents, actions, first, second) = c.requires.accepted in
-    proper_with c.args.rules.now c.args.goals.first c.args.goals.second c.args.goal.now c.args.second.now first second in proper)) ((let with_one : c.add_root-one.result.full ≡ false → Valid (bodies_with c.args.rules.now c.args.goals.first c.args.goals.second c.args.goal.now c.args.second.now) (Among (root_if c.args.goals.first Goal c.args.start)) (in_words c.add_root-one.new.calls c.add_root-one.result.count c.args.answers.now 0) = (λ e. root_put ((let proper : Proper (bodies_with c.args.rules.now c.args.goals.first c.args.goals.second c.args.goal.now c.args.second.now) = let (fluents, actions, first, second) = c.requires.accepted in
-    proper_with c.args.rules.now c.args.goals.first c.args.goals.second c.args.goal.now c.args.second.now first second in proper)) ((let none : Valid (bodies_with c.args.rules.now c.args.goals.first c.args.goals.second c.args.goal.now c.args.second.now) (Among []) (in_words c.clear.new.words 0 c.args.answers.now 0) = none_valid (bodies_with c.args.rules.now c.args.goals.first c.args.goals.second c.args.goal.now c.args.second.now) (open_calls c.clear.new.words 0) (packed_answers c.args.answers.now 0) refl refl in none)) c.args.goals.first ((let put_one : RootPut c.args.goals.first (room call_width (length c.clear.new.words)) (open_calls c.clear.new.words 0) Goal c.args.start (open_calls c.add_root-one.new.calls c.add_root-one.result.count) c.add_root-one.result.row c.add_root-one.result.full = root_as c.goal.ensures.0 c.goal.ensures.1 c.add_root-one.ensures.root_put in put_one)) e) in with_one) ((let one_stands : c.add_root-one.result.full ≡ false = c.if-one.false in one_stands))) c.args.goals.second c.args.most ((let put_two : RootPut c.args.goals.second (room call_width (length c.add_root-one.new.calls)) (open_calls c.add_root-one.new.calls c.add_root-one.result.count) second_goal c.args.second_start (open_calls c.add_root-two.new.calls c.add_root-two.result.count) c.add_root-two.result.row c.add_root-two.result.full = root_as refl c.of.ensures c.add_root-two.ensures.root_put in put_two)) e)) in over_two) c.if-two.true)
+    let o = (goal.at.returns-then-two c).After-add_root-one in
+    let t = (goal.at.returns-then-two c).After-add_root-two in
+    rows_full (fresh_two t)
+    (rw (fresh_one o).long at (root_full (proper o) (with_one o c.if-one.false) c.args.goals.second c.args.most (put_two t) c.if-two.true))
 
-pub fill-run-requires : goal.fill-run-requires
-fill-run-requires c =
+pub fill-requires : goal.fill-requires
+fill-requires c =
+    let o = (goal.at.fill-requires c).After-add_root-one in
+    let t = (goal.at.fill-requires c).After-add_root-two in
     let s = c.add_root-two.ensures.calls_open_2 in
-    let f = (let fresh_two : Fresh c.args.calls.now c.args.list.now c.add_root-two.new.calls c.add_root-two.new.list = fresh_still c.add_root-two.ensures.calls_kept ((let fresh_one : Fresh c.args.calls.now c.args.list.now c.add_root-one.new.calls c.add_root-one.new.list = fresh_still c.add_root-one.ensures.calls_kept (cleared_fresh c.args.calls.now c.args.list.now c.clear.ensures c.clear-2.ensures) in fresh_one)) in fresh_two) in record {
+    let f = fresh_two t in record {
       kept = (
         record { calls_open = s.0; answers_open = record { fits = omega arith; small = c.requires.calls_in_bounds.1; long = c.requires.calls_in_bounds.2 } },
         record { of_calls = s.1; of_answers = answer_index_none _ c.add_root-two.new.calls c.args.answers.now },
@@ -78,58 +134,18 @@ fill-run-requires c =
         λ x l. absurd (omega arith),
       );
       accepted = c.requires.accepted;
-      by_index = (
-        (roots_of c.args.goals.first c.args.goals.second c.args.start c.args.second_start),
-        (let with_two : c.add_root-two.result.full ≡ false → Valid (bodies_with c.args.rules.now c.args.goals.first c.args.goals.second c.args.goal.now c.args.second.now) (Among (roots_of c.args.goals.first c.args.goals.second c.args.start c.args.second_start)) (in_words c.add_root-two.new.calls c.add_root-two.result.count c.args.answers.now 0) = (λ e. root_put ((let proper : Proper (bodies_with c.args.rules.now c.args.goals.first c.args.goals.second c.args.goal.now c.args.second.now) = let (fluents, actions, first, second) = c.requires.accepted in
-            proper_with c.args.rules.now c.args.goals.first c.args.goals.second c.args.goal.now c.args.second.now first second in proper)) ((let with_one : c.add_root-one.result.full ≡ false → Valid (bodies_with c.args.rules.now c.args.goals.first c.args.goals.second c.args.goal.now c.args.second.now) (Among (root_if c.args.goals.first Goal c.args.start)) (in_words c.add_root-one.new.calls c.add_root-one.result.count c.args.answers.now 0) = (λ e. root_put ((let proper : Proper (bodies_with c.args.rules.now c.args.goals.first c.args.goals.second c.args.goal.now c.args.second.now) = let (fluents, actions, first, second) = c.requires.accepted in
-            proper_with c.args.rules.now c.args.goals.first c.args.goals.second c.args.goal.now c.args.second.now first second in proper)) ((let none : Valid (bodies_with c.args.rules.now c.args.goals.first c.args.goals.second c.args.goal.now c.args.second.now) (Among []) (in_words c.clear.new.words 0 c.args.answers.now 0) = none_valid (bodies_with c.args.rules.now c.args.goals.first c.args.goals.second c.args.goal.now c.args.second.now) (open_calls c.clear.new.words 0) (packed_answers c.args.answers.now 0) refl refl in none)) c.args.goals.first ((let put_one : RootPut c.args.goals.first (room call_width (length c.clear.new.words)) (open_calls c.clear.new.words 0) Goal c.args.start (open_calls c.add_root-one.new.calls c.add_root-one.result.count) c.add_root-one.result.row c.add_root-one.result.full = root_as c.goal.ensures.0 c.goal.ensures.1 c.add_root-one.ensures.root_put in put_one)) e) in with_one) ((let one_stands : c.add_root-one.result.full ≡ false = c.if-one.false in one_stands))) c.args.goals.second ((let put_two : RootPut c.args.goals.second (room call_width (length c.add_root-one.new.calls)) (open_calls c.add_root-one.new.calls c.add_root-one.result.count) second_goal c.args.second_start (open_calls c.add_root-two.new.calls c.add_root-two.result.count) c.add_root-two.result.row c.add_root-two.result.full = root_as refl c.of.ensures c.add_root-two.ensures.root_put in put_two)) e) in with_two) c.if-two.false,
-      );
+      by_index = (roots o, root_put (proper o) (with_one o c.if-one.false) c.args.goals.second (put_two t) c.if-two.false);
     }
-
-pub shape_of-calls : goal.shape_of-calls
-shape_of-calls c =
-    ((let filled : RowsFilled (bodies_with c.args.rules.now c.args.goals.first c.args.goals.second c.args.goal.now c.args.second.now) (roots_of c.args.goals.first c.args.goals.second c.args.start c.args.second_start) c.args.most c.args.calls.now c.args.list.now c.args.answers.now c.fill-run.new.calls c.fill-run.new.list c.fill-run.new.answers c.fill-run.result.full c.fill-run.result.calls c.fill-run.result.answers = let F = c.fill-run.ensures (roots_of c.args.goals.first c.args.goals.second c.args.start c.args.second_start) ((let with_two : c.add_root-two.result.full ≡ false → Valid (bodies_with c.args.rules.now c.args.goals.first c.args.goals.second c.args.goal.now c.args.second.now) (Among (roots_of c.args.goals.first c.args.goals.second c.args.start c.args.second_start)) (in_words c.add_root-two.new.calls c.add_root-two.result.count c.args.answers.now 0) = (λ e. root_put ((let proper : Proper (bodies_with c.args.rules.now c.args.goals.first c.args.goals.second c.args.goal.now c.args.second.now) = let (fluents, actions, first, second) = c.requires.accepted in
-    proper_with c.args.rules.now c.args.goals.first c.args.goals.second c.args.goal.now c.args.second.now first second in proper)) ((let with_one : c.add_root-one.result.full ≡ false → Valid (bodies_with c.args.rules.now c.args.goals.first c.args.goals.second c.args.goal.now c.args.second.now) (Among (root_if c.args.goals.first Goal c.args.start)) (in_words c.add_root-one.new.calls c.add_root-one.result.count c.args.answers.now 0) = (λ e. root_put ((let proper : Proper (bodies_with c.args.rules.now c.args.goals.first c.args.goals.second c.args.goal.now c.args.second.now) = let (fluents, actions, first, second) = c.requires.accepted in
-    proper_with c.args.rules.now c.args.goals.first c.args.goals.second c.args.goal.now c.args.second.now first second in proper)) ((let none : Valid (bodies_with c.args.rules.now c.args.goals.first c.args.goals.second c.args.goal.now c.args.second.now) (Among []) (in_words c.clear.new.words 0 c.args.answers.now 0) = none_valid (bodies_with c.args.rules.now c.args.goals.first c.args.goals.second c.args.goal.now c.args.second.now) (open_calls c.clear.new.words 0) (packed_answers c.args.answers.now 0) refl refl in none)) c.args.goals.first ((let put_one : RootPut c.args.goals.first (room call_width (length c.clear.new.words)) (open_calls c.clear.new.words 0) Goal c.args.start (open_calls c.add_root-one.new.calls c.add_root-one.result.count) c.add_root-one.result.row c.add_root-one.result.full = root_as c.goal.ensures.0 c.goal.ensures.1 c.add_root-one.ensures.root_put in put_one)) e) in with_one) ((let one_stands : c.add_root-one.result.full ≡ false = c.if-one.false in one_stands))) c.args.goals.second ((let put_two : RootPut c.args.goals.second (room call_width (length c.add_root-one.new.calls)) (open_calls c.add_root-one.new.calls c.add_root-one.result.count) second_goal c.args.second_start (open_calls c.add_root-two.new.calls c.add_root-two.result.count) c.add_root-two.result.row c.add_root-two.result.full = root_as refl c.of.ensures c.add_root-two.ensures.root_put in put_two)) e) in with_two) c.if-two.false) in
-    let fresh = (let fresh_two : Fresh c.args.calls.now c.args.list.now c.add_root-two.new.calls c.add_root-two.new.list = fresh_still c.add_root-two.ensures.calls_kept ((let fresh_one : Fresh c.args.calls.now c.args.list.now c.add_root-one.new.calls c.add_root-one.new.list = fresh_still c.add_root-one.ensures.calls_kept (cleared_fresh c.args.calls.now c.args.list.now c.clear.ensures c.clear-2.ensures) in fresh_one)) in fresh_two) in
-    record {
-      calls_long = F.calls_long ∙ fresh.long;
-      list_long = F.list_long ∙ fresh.list_long;
-      answers_long = F.answers_long;
-      kept = λ e. F.kept;
-      indexed = λ e. F.indexed;
-      whole = F.closed;
-      outgrown = λ e. rw fresh.long at (F.outgrown e);
-    } in filled)).calls_long
-
-pub shape_of-list : goal.shape_of-list
-shape_of-list c =
-    ((let filled : RowsFilled (bodies_with c.args.rules.now c.args.goals.first c.args.goals.second c.args.goal.now c.args.second.now) (roots_of c.args.goals.first c.args.goals.second c.args.start c.args.second_start) c.args.most c.args.calls.now c.args.list.now c.args.answers.now c.fill-run.new.calls c.fill-run.new.list c.fill-run.new.answers c.fill-run.result.full c.fill-run.result.calls c.fill-run.result.answers = let F = c.fill-run.ensures (roots_of c.args.goals.first c.args.goals.second c.args.start c.args.second_start) ((let with_two : c.add_root-two.result.full ≡ false → Valid (bodies_with c.args.rules.now c.args.goals.first c.args.goals.second c.args.goal.now c.args.second.now) (Among (roots_of c.args.goals.first c.args.goals.second c.args.start c.args.second_start)) (in_words c.add_root-two.new.calls c.add_root-two.result.count c.args.answers.now 0) = (λ e. root_put ((let proper : Proper (bodies_with c.args.rules.now c.args.goals.first c.args.goals.second c.args.goal.now c.args.second.now) = let (fluents, actions, first, second) = c.requires.accepted in
-    proper_with c.args.rules.now c.args.goals.first c.args.goals.second c.args.goal.now c.args.second.now first second in proper)) ((let with_one : c.add_root-one.result.full ≡ false → Valid (bodies_with c.args.rules.now c.args.goals.first c.args.goals.second c.args.goal.now c.args.second.now) (Among (root_if c.args.goals.first Goal c.args.start)) (in_words c.add_root-one.new.calls c.add_root-one.result.count c.args.answers.now 0) = (λ e. root_put ((let proper : Proper (bodies_with c.args.rules.now c.args.goals.first c.args.goals.second c.args.goal.now c.args.second.now) = let (fluents, actions, first, second) = c.requires.accepted in
-    proper_with c.args.rules.now c.args.goals.first c.args.goals.second c.args.goal.now c.args.second.now first second in proper)) ((let none : Valid (bodies_with c.args.rules.now c.args.goals.first c.args.goals.second c.args.goal.now c.args.second.now) (Among []) (in_words c.clear.new.words 0 c.args.answers.now 0) = none_valid (bodies_with c.args.rules.now c.args.goals.first c.args.goals.second c.args.goal.now c.args.second.now) (open_calls c.clear.new.words 0) (packed_answers c.args.answers.now 0) refl refl in none)) c.args.goals.first ((let put_one : RootPut c.args.goals.first (room call_width (length c.clear.new.words)) (open_calls c.clear.new.words 0) Goal c.args.start (open_calls c.add_root-one.new.calls c.add_root-one.result.count) c.add_root-one.result.row c.add_root-one.result.full = root_as c.goal.ensures.0 c.goal.ensures.1 c.add_root-one.ensures.root_put in put_one)) e) in with_one) ((let one_stands : c.add_root-one.result.full ≡ false = c.if-one.false in one_stands))) c.args.goals.second ((let put_two : RootPut c.args.goals.second (room call_width (length c.add_root-one.new.calls)) (open_calls c.add_root-one.new.calls c.add_root-one.result.count) second_goal c.args.second_start (open_calls c.add_root-two.new.calls c.add_root-two.result.count) c.add_root-two.result.row c.add_root-two.result.full = root_as refl c.of.ensures c.add_root-two.ensures.root_put in put_two)) e) in with_two) c.if-two.false) in
-    let fresh = (let fresh_two : Fresh c.args.calls.now c.args.list.now c.add_root-two.new.calls c.add_root-two.new.list = fresh_still c.add_root-two.ensures.calls_kept ((let fresh_one : Fresh c.args.calls.now c.args.list.now c.add_root-one.new.calls c.add_root-one.new.list = fresh_still c.add_root-one.ensures.calls_kept (cleared_fresh c.args.calls.now c.args.list.now c.clear.ensures c.clear-2.ensures) in fresh_one)) in fresh_two) in
-    record {
-      calls_long = F.calls_long ∙ fresh.long;
-      list_long = F.list_long ∙ fresh.list_long;
-      answers_long = F.answers_long;
-      kept = λ e. F.kept;
-      indexed = λ e. F.indexed;
-      whole = F.closed;
-      outgrown = λ e. rw fresh.long at (F.outgrown e);
-    } in filled)).list_long
 
 pub returns : goal.returns
 returns c =
-    (let filled : RowsFilled (bodies_with c.args.rules.now c.args.goals.first c.args.goals.second c.args.goal.now c.args.second.now) (roots_of c.args.goals.first c.args.goals.second c.args.start c.args.second_start) c.args.most c.args.calls.now c.args.list.now c.args.answers.now c.fill-run.new.calls c.fill-run.new.list c.fill-run.new.answers c.fill-run.result.full c.fill-run.result.calls c.fill-run.result.answers = let F = c.fill-run.ensures (roots_of c.args.goals.first c.args.goals.second c.args.start c.args.second_start) ((let with_two : c.add_root-two.result.full ≡ false → Valid (bodies_with c.args.rules.now c.args.goals.first c.args.goals.second c.args.goal.now c.args.second.now) (Among (roots_of c.args.goals.first c.args.goals.second c.args.start c.args.second_start)) (in_words c.add_root-two.new.calls c.add_root-two.result.count c.args.answers.now 0) = (λ e. root_put ((let proper : Proper (bodies_with c.args.rules.now c.args.goals.first c.args.goals.second c.args.goal.now c.args.second.now) = let (fluents, actions, first, second) = c.requires.accepted in
-    proper_with c.args.rules.now c.args.goals.first c.args.goals.second c.args.goal.now c.args.second.now first second in proper)) ((let with_one : c.add_root-one.result.full ≡ false → Valid (bodies_with c.args.rules.now c.args.goals.first c.args.goals.second c.args.goal.now c.args.second.now) (Among (root_if c.args.goals.first Goal c.args.start)) (in_words c.add_root-one.new.calls c.add_root-one.result.count c.args.answers.now 0) = (λ e. root_put ((let proper : Proper (bodies_with c.args.rules.now c.args.goals.first c.args.goals.second c.args.goal.now c.args.second.now) = let (fluents, actions, first, second) = c.requires.accepted in
-    proper_with c.args.rules.now c.args.goals.first c.args.goals.second c.args.goal.now c.args.second.now first second in proper)) ((let none : Valid (bodies_with c.args.rules.now c.args.goals.first c.args.goals.second c.args.goal.now c.args.second.now) (Among []) (in_words c.clear.new.words 0 c.args.answers.now 0) = none_valid (bodies_with c.args.rules.now c.args.goals.first c.args.goals.second c.args.goal.now c.args.second.now) (open_calls c.clear.new.words 0) (packed_answers c.args.answers.now 0) refl refl in none)) c.args.goals.first ((let put_one : RootPut c.args.goals.first (room call_width (length c.clear.new.words)) (open_calls c.clear.new.words 0) Goal c.args.start (open_calls c.add_root-one.new.calls c.add_root-one.result.count) c.add_root-one.result.row c.add_root-one.result.full = root_as c.goal.ensures.0 c.goal.ensures.1 c.add_root-one.ensures.root_put in put_one)) e) in with_one) ((let one_stands : c.add_root-one.result.full ≡ false = c.if-one.false in one_stands))) c.args.goals.second ((let put_two : RootPut c.args.goals.second (room call_width (length c.add_root-one.new.calls)) (open_calls c.add_root-one.new.calls c.add_root-one.result.count) second_goal c.args.second_start (open_calls c.add_root-two.new.calls c.add_root-two.result.count) c.add_root-two.result.row c.add_root-two.result.full = root_as refl c.of.ensures c.add_root-two.ensures.root_put in put_two)) e) in with_two) c.if-two.false) in
-    let fresh = (let fresh_two : Fresh c.args.calls.now c.args.list.now c.add_root-two.new.calls c.add_root-two.new.list = fresh_still c.add_root-two.ensures.calls_kept ((let fresh_one : Fresh c.args.calls.now c.args.list.now c.add_root-one.new.calls c.add_root-one.new.list = fresh_still c.add_root-one.ensures.calls_kept (cleared_fresh c.args.calls.now c.args.list.now c.clear.ensures c.clear-2.ensures) in fresh_one)) in fresh_two) in
-    record {
-      calls_long = F.calls_long ∙ fresh.long;
-      list_long = F.list_long ∙ fresh.list_long;
-      answers_long = F.answers_long;
-      kept = λ e. F.kept;
-      indexed = λ e. F.indexed;
-      whole = F.closed;
-      outgrown = λ e. rw fresh.long at (F.outgrown e);
-    } in filled)
+    let o = (goal.at.returns c).After-add_root-one in
+    let t = (goal.at.returns c).After-add_root-two in
+    rows_filled (fresh_two t) (c.in_ok-run.ensures (roots o) (root_put (proper o) (with_one o c.if-one.false) c.args.goals.second (put_two t) c.if-two.false))
+
+pub returns-in_err-run : goal.returns-in_err-run
+returns-in_err-run c =
+    let o = (goal.at.returns-in_err-run c).After-add_root-one in
+    let t = (goal.at.returns-in_err-run c).After-add_root-two in
+    let p = err_from_is_err_and c.from_residual.result c.from_residual.ensures.1 in
+    rw (p.1, p.2) (rows_filled (fresh_two t) (c.in_err-run.ensures (roots o) (root_put (proper o) (with_one o c.if-one.false) c.args.goals.second (put_two t) c.if-two.false)))

@@ -1,18 +1,8 @@
--- `take_numbers` meets its contract. The loop's invariant: the length stays, and at each place before i stands the number of its line or, from n on,
--- 0; the measure: the places from i on. Assumes nothing.
-use Prim.Native.Nat.{ℕ, ◌≤◌, ◌<◌, ◌-◌}
-use mathlib.Core.Path.{◌≡◌}
-use mathlib.Core.List.{List}
-use lib.ListN.{length, get_or}
-use Rattle.radix.specs.Lines.{word_of}
+-- At each place before i stands the number of its line or, from n on, 0. Assumes nothing.
+use Rattle.std.proofs.Common.{◌≡◌, ℕ, ◌+◌, ◌*◌, ◌<◌, ◌≤◌, get_or}
+use Rattle.radix.specs.Lines.{line_width}
 use Rattle.listing.proofs.take_numbers.Given as goal
 
--- at place j stands the number of line j, or 0
-abbrev pub Own : List ℕ → ℕ → ℕ → List ℕ → ℕ → Type 0
-Own words at n list j = (j < n → get_or list j 0 ≡ word_of words at 2 j) × (n ≤ j → get_or list j 0 ≡ 0)
-
 abbrev pub invariant-loop-i : goal.invariant-loop-i
-invariant-loop-i l = (l.i ≤ length l.initial.list) × (length l.list ≡ length l.initial.list) × ((j : ℕ) → j < l.i → Own l.words l.at l.n l.list j)
-
-abbrev pub decreases-loop-i : goal.decreases-loop-i
-decreases-loop-i l = length l.initial.list - l.i
+invariant-loop-i l =
+    (j : ℕ) → j < l.i → (j < l.n → get_or l.list j 0 ≡ get_or l.words (l.at + line_width * j + 2) 0) × (l.n ≤ j → get_or l.list j 0 ≡ 0)

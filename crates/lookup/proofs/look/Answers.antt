@@ -1,10 +1,9 @@
 use native.Mathlib.Omega.{arith}
-use mathlib.Core.Path.{◌≡◌, sym, ◌∙◌}
-use mathlib.Core.Bool.{true, false}
+use mathlib.Core.Path.{sym, ◌∙◌}
 use Rattle.records.specs.Records.{call_table}
-use Rattle.canonical.specs.Order.{Key, before, same}
-use Rattle.lookup.specs.Lookup.{key_of}
-use Rattle.lookup.proofs.Looking.{tested, in_all, read, none_left, found_there, on_before, on_after, bad_there}
+use Rattle.canonical.specs.Order.{Key}
+use Rattle.lookup.proofs.Comparing.{says}
+use Rattle.lookup.proofs.Looking.{in_all, none_left, found_there, on_before, on_after, bad_there}
 use Rattle.lookup.proofs.look.Goals as goal
 
 pub loop-low-init : goal.loop-low-init
@@ -20,28 +19,24 @@ returns-then-count-row c =
     let l = c.loop-low in
     let t = call_table a.calls.now a.count in
     let k : Key = (a.action, a.state) in
-    c.refused.ensures ∙ sym (bad_there t a.list.now k l.low l.high c.loop-low-test.true c.if-count-row.true) ∙ l.invariant.2
+    sym (bad_there t a.list.now k l.low l.high c.loop-low-test.true c.if-count-row.true) ∙ l.invariant.2
 
-pub returns-then-same : goal.returns-then-same
-returns-then-same c =
+pub returns-in-Equal : goal.returns-in-Equal
+returns-in-Equal c =
     let a = c.args in
     let l = c.loop-low in
     let t = call_table a.calls.now a.count in
     let k : Key = (a.action, a.state) in
-    let row = read t a.list.now k l.low l.high in
-    let s : same k (key_of t row) ≡ true = tested t row (same k) c.action_of-row_action.ensures c.state_of-row_state.ensures c.same.ensures c.if-same.true in
+    let s = says t _ a.action a.state c.action_of-row_action.ensures c.state_of-row_state.ensures c.cmp.ensures c.in-Equal.is in
     sym (found_there t a.list.now k l.low l.high c.loop-low-test.true c.if-count-row.false s) ∙ l.invariant.2
 
-pub loop-low-preserved-then-comes_before : goal.loop-low-preserved-then-comes_before
-loop-low-preserved-then-comes_before c =
+pub loop-low-preserved-in-Less : goal.loop-low-preserved-in-Less
+loop-low-preserved-in-Less c =
     let a = c.args in
     let l = c.loop-low in
     let t = call_table a.calls.now a.count in
     let k : Key = (a.action, a.state) in
-    let row = read t a.list.now k l.low l.high in
-    let state = c.state_of-row_state.ensures in
-    let s : same k (key_of t row) ≡ false = tested t row (same k) c.action_of-row_action.ensures state c.same.ensures c.if-same.false in
-    let b : before k (key_of t row) ≡ true = tested t row (before k) c.action_of-row_action.ensures state c.comes_before.ensures c.if-comes_before.true in
+    let (s, b) = says t _ a.action a.state c.action_of-row_action.ensures c.state_of-row_state.ensures c.cmp.ensures c.in-Less.is in
     (omega arith, omega arith, sym (on_before t a.list.now k l.low l.high c.loop-low-test.true c.if-count-row.false s b) ∙ l.invariant.2)
 
 pub loop-low-preserved : goal.loop-low-preserved
@@ -50,10 +45,7 @@ loop-low-preserved c =
     let l = c.loop-low in
     let t = call_table a.calls.now a.count in
     let k : Key = (a.action, a.state) in
-    let row = read t a.list.now k l.low l.high in
-    let state = c.state_of-row_state.ensures in
-    let s : same k (key_of t row) ≡ false = tested t row (same k) c.action_of-row_action.ensures state c.same.ensures c.if-same.false in
-    let b : before k (key_of t row) ≡ false = tested t row (before k) c.action_of-row_action.ensures state c.comes_before.ensures c.if-comes_before.false in
+    let (s, b) = says t _ a.action a.state c.action_of-row_action.ensures c.state_of-row_state.ensures c.cmp.ensures c.in-Greater.is in
     (omega arith, omega arith, sym (on_after t a.list.now k l.low l.high c.loop-low-test.true c.if-count-row.false s b) ∙ l.invariant.2)
 
 pub returns : goal.returns
@@ -62,4 +54,4 @@ returns c =
     let l = c.loop-low in
     let t = call_table a.calls.now a.count in
     let k : Key = (a.action, a.state) in
-    c.refused-2.ensures ∙ sym (none_left t a.list.now k l.low l.high c.loop-low-test.false) ∙ l.invariant.2
+    sym (none_left t a.list.now k l.low l.high c.loop-low-test.false) ∙ l.invariant.2

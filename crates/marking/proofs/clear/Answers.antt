@@ -1,42 +1,26 @@
-use Prim.Native.Nat.{ℕ, ◌≤◌, ◌<◌, ◌-◌}
-use native.Mathlib.Omega.{arith}
-use mathlib.Core.Path.{◌≡◌, refl, ◌∙◌}
-use borrow.Author.Count.{below_none, below_more}
+-- `clear` meets its contract. Assumes nothing.
+use Prim.Native.Nat.{ℕ, ◌+◌, ◌-◌, ◌≤◌}
 use borrow.Author.Rules.{rules}
-use lib.ListN.{length, get_or, length-set}
-use lib.Seq.{get_or-set_same, get_or-set_other}
+use native.Mathlib.Omega.{arith}
+use mathlib.Core.Path.{◌≡◌, refl, sym, ap, ◌∙◌}
+use mathlib.Core.List.{List, ◌++◌}
+use lib.ListN.{length, get_or, take, drop, get_or-append}
+use Rattle.std.proofs.lemmas.List.{get_or-drop, get_or-append-add, length-take-le}
 use Rattle.marking.proofs.clear.Goals as goal
 
-pub loop-n-init : goal.loop-n-init
-loop-n-init c = (omega arith, c.requires, refl, below_none _, λ k l. refl)
-
-pub offset_bounds-table-n : goal.offset_bounds-table-n
-offset_bounds-table-n c = omega arith
-
-pub bounds-table-n : goal.bounds-table-n
-bounds-table-n c = omega arith
-
-pub overflow_add-n : goal.overflow_add-n
-overflow_add-n c = omega arith
-
-pub loop-n-smaller : goal.loop-n-smaller
-loop-n-smaller c = omega arith
-
-pub loop-n-preserved : goal.loop-n-preserved
-loop-n-preserved c =
-    let l = c.loop-n in
-    let (few, room, size, none, past) = l.invariant in (
-      omega arith,
-      room,
-      length-set l.table l.n 0 ∙ size,
-      below_more _ l.n (λ j k. get_or-set_other l.table l.n j 0 0 (omega arith) ∙ none j k) (get_or-set_same l.table l.n 0 0 (omega arith)),
-      λ k h. get_or-set_other l.table l.n k 0 0 (omega arith) ∙ past k (omega arith),
-    )
-
-pub shape_of-table : goal.shape_of-table
-shape_of-table c = c.loop-n.invariant.2
+-- Words put in front of those past the first n.
+front : (xs ts : List ℕ) (n k : ℕ) → length xs ≡ n → n ≤ k → get_or (xs ++ drop n ts) k 0 ≡ get_or ts k 0
+front xs ts n k e l =
+    let f : length xs + (k - n) ≡ k = omega arith in
+    let g : n + (k - n) ≡ k = omega arith in
+    ap (λ (i : ℕ). get_or (xs ++ drop n ts) i 0) (sym f) ∙ get_or-append-add xs (drop n ts) (k - n) 0 ∙ get_or-drop n ts (k - n) 0 ∙ ap (λ (i : ℕ). get_or ts i 0) g
 
 pub returns : goal.returns
 returns c =
-    let (few, room, size, none, past) = c.loop-n.invariant in
-    record { size = size; none = λ n h. none n (omega arith); past = λ n h. past n (omega arith) }
+    let front_size : length (take 4096 c.args.table.now) ≡ 4096 = length-take-le 4096 c.args.table.now c.requires in
+    let size : length c.fill.new.self ≡ 4096 = c.fill.ensures.len ∙ front_size in
+    record {
+      size = search rules;
+      none = λ n l. get_or-append c.fill.new.self _ 0 n (omega arith) ∙ c.fill.ensures.clones n 0 (omega arith) refl;
+      past = λ n l. front c.fill.new.self c.args.table.now 4096 n size l;
+    }

@@ -1,35 +1,26 @@
-use Prim.Native.Nat.{◌-◌, ◌<◌, ◌≤◌}
-use native.Mathlib.Omega.{arith}
-use mathlib.Core.Path.{◌≡◌, refl, sym, ap, ◌∙◌}
-use borrow.Author.Rules.{rules}
-use lib.ListN.{length, take}
-use Rattle.steps.specs.Words.{body_of}
+-- `runs_of` meets its contract. Assumes nothing.
+use mathlib.Core.Path.{◌≡◌, sym, ap}
+use lib.ListN.{length}
 use Rattle.steps.specs.Elementary.{on}
 use Rattle.steps.specs.Next.{onward}
 use Rattle.marking.specs.Marking.{left_by}
 use Rattle.marking.proofs.Places.{left_next, ran_stops, ran_all}
+use native.Mathlib.Omega.{arith}
 use Rattle.marking.proofs.runs_of.Goals as goal
 
 pub loop-i-init : goal.loop-i-init
 unfolding left_by
-loop-i-init c = (omega arith, ap on (sym c.of-state.ensures))
+loop-i-init c = ap on (sym c.of-state.ensures)
 
-pub returns-in-Stuck : goal.returns-in-Stuck
+pub returns-in-None : goal.returns-in-None
 unfolding onward
-returns-in-Stuck c =
-    let l = c.loop-i in
-    let within : l.i < length c.args.recorded.now = omega arith in
-    ran_stops c.args.recorded.now _ l.i l.invariant.1 within (sym c.in-Stuck.ensures)
+returns-in-None c = ran_stops c.args.recorded.now _ c.loop-i.i c.loop-i.invariant c.loop-i-test.true (sym c.in-None.ensures)
 
 pub loop-i-preserved : goal.loop-i-preserved
 unfolding onward
-loop-i-preserved c =
-    let l = c.loop-i in
-    let within : l.i < length c.args.recorded.now = omega arith in
-    (omega arith, left_next c.args.recorded.now _ l.i l.invariant.1 within (sym c.in-On.ensures))
+loop-i-preserved c = left_next c.args.recorded.now _ c.loop-i.i c.loop-i.invariant c.loop-i-test.true (sym c.in-Some.ensures)
 
 pub returns : goal.returns
 returns c =
-    let l = c.loop-i in
-    let e : l.i ≡ length c.args.recorded.now = omega arith in
-    ran_all c.args.recorded.now _ l.i l.invariant.1 e
+    let e : c.loop-i.i ≡ length c.args.recorded.now = omega arith in
+    rw (← e) (ran_all c.args.recorded.now _ c.loop-i.i c.loop-i.invariant e)

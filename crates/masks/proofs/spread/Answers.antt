@@ -12,9 +12,6 @@ loop-rest-init c = (search rules, λ k e. e, spread_none _ _)
 pub lowest-p-requires : goal.lowest-p-requires
 lowest-p-requires c = omega arith
 
-pub reach-out-requires : goal.reach-out-requires
-reach-out-requires c = search rules
-
 pub overflow_sub-rest : goal.overflow_sub-rest
 overflow_sub-rest c = let (lp, first) = c.lowest-p.ensures in rw (one_shl _ lp) (has _ _ first)
 

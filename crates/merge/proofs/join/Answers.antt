@@ -1,6 +1,6 @@
 -- `join` meets its contract: the sheets' own faults, 70 and 17, the text's length, or what the two say together. Assumes nothing.
 use borrow.Author.Tests.{lt-ltb, le-ltb}
-use mathlib.Core.Path.{refl, ap, sym, ◌∙◌}
+use mathlib.Core.Path.{ap, sym, ◌∙◌}
 use mathlib.Core.Bool.{Bool, cond}
 use mathlib.Core.List.{◌++◌}
 use Prim.Native.Nat.{ℕ}
@@ -8,54 +8,54 @@ use native.Mathlib.Omega.{arith}
 use lib.ListN.{length, length-append}
 use Rattle.refusals.specs.Sheet.{sheet_refusals}
 use Rattle.writer.specs.Text.{text_of}
-use Rattle.writer.proofs.Outcomes.{told_refused, told_written}
+use Rattle.std.proofs.lemmas.Result.{err_from_is_err_and}
+use Rattle.refusals.proofs.Numbers.{number-not_zero}
+use Rattle.writer.proofs.Outcomes.{told_written}
 use Rattle.merge.specs.Joined.{both_books}
 use Rattle.merge.specs.Merge.{faulty, joins}
 use Rattle.merge.proofs.Laying.{holds_kept}
 use Rattle.merge.proofs.Joinings.{few, first_faulty, second_faulty, both_read, judged, start_laid, fluents_few, ordered, text_laid}
 use Rattle.merge.proofs.join.Goals as goal
 
-pub returns-then-a-ne0 : goal.returns-then-a-ne0
-returns-then-a-ne0 c =
-    let a = c.args in
-    let x = c.told-a in
-    let (i, j, k) = c.refused.ensures in
-    let h = first_faulty a.first.now a.second.now x.result.refusal x.result.line (told_refused a.first.now x.result x.ensures c.if-a-ne0.true) in
-    record { second_value = λ z. h ∙ rw (i, j, k) refl; joining = λ z. absurd (c.if-a-ne0.true (sym i ∙ z)) }
+pub returns-in_err-a : goal.returns-in_err-a
+returns-in_err-a c =
+    let p = err_from_is_err_and c.from_residual.result c.from_residual.ensures.1 in
+    let fault = c.in_err-a.field-0.0 in
+    let (e, w) = c.in_err-a.ensures in
+    rw (p.1, p.2) (first_faulty c.args.first.now c.args.second.now fault.refusal fault.line e ∙ ap (λ (n : ℕ). faulty fault.refusal n fault.line) (sym w))
 
-pub returns-then-b-ne0 : goal.returns-then-b-ne0
-returns-then-b-ne0 c =
+pub returns-in_err-b : goal.returns-in_err-b
+returns-in_err-b c =
     let s = c.args.first.now in
     let t = c.args.second.now in
-    let X = told_written s c.told-a.result c.told-a.ensures c.if-a-ne0.false in
-    let x = c.told-b in
-    let (i, j, k) = c.refused-then-b-ne0.ensures in
-    let h = second_faulty s t X.0 x.result.refusal x.result.line X.1 (told_refused t x.result x.ensures c.if-b-ne0.true) in
-    record { second_value = λ z. h ∙ rw (i, j, k) refl; joining = λ z. absurd (c.if-b-ne0.true (sym i ∙ z)) }
+    let X = told_written s _ c.in_ok-a.ensures.0 c.in_ok-a.ensures.1 in
+    let p = err_from_is_err_and c.from_residual-in_err-b.result c.from_residual-in_err-b.ensures.1 in
+    let fault = c.in_err-b.field-0.0 in
+    let (e, w) = c.in_err-b.ensures in
+    rw (p.1, p.2) (second_faulty s t X.0 fault.refusal fault.line X.1 e ∙ ap (λ (n : ℕ). faulty fault.refusal n fault.line) (sym w))
 
 pub lay-layout-requires : goal.lay-layout-requires
 lay-layout-requires c =
     let s = c.args.first.now in
     let t = c.args.second.now in
-    let X = told_written s c.told-a.result c.told-a.ensures c.if-a-ne0.false in
-    let Y = told_written t c.told-b.result c.told-b.ensures c.if-b-ne0.false in
+    let X = told_written s _ c.in_ok-a.ensures.0 c.in_ok-a.ensures.1 in
+    let Y = told_written t _ c.in_ok-b.ensures.0 c.in_ok-b.ensures.1 in
     let a = X.0 in
     let b = Y.0 in
     (few s a X.1, few t b Y.1, c.requires)
 
-pub returns-then-n-ne0 : goal.returns-then-n-ne0
-returns-then-n-ne0 c =
+pub returns-in_err-may_join : goal.returns-in_err-may_join
+returns-in_err-may_join c =
     let s = c.args.first.now in
     let t = c.args.second.now in
-    let X = told_written s c.told-a.result c.told-a.ensures c.if-a-ne0.false in
-    let Y = told_written t c.told-b.result c.told-b.ensures c.if-b-ne0.false in
+    let X = told_written s _ c.in_ok-a.ensures.0 c.in_ok-a.ensures.1 in
+    let Y = told_written t _ c.in_ok-b.ensures.0 c.in_ok-b.ensures.1 in
     let a = X.0 in
     let b = Y.0 in
-    let v = c.fault-n in
-    let (i, j, k) = c.refused-then-n-ne0.ensures in
+    let v = c.in_err-may_join.ensures in
+    let p = err_from_is_err_and c.from_residual-in_err-may_join.result c.from_residual-in_err-may_join.ensures.1 in
     let J = judged s t a b X.1 Y.1 in
-    let h = both_read s t a b X.1 Y.1 ∙ J.no (λ z. c.if-n-ne0.true (v.ensures ∙ z)) ∙ ap (λ (m : ℕ). faulty m 0 0) (sym v.ensures) in
-    record { second_value = λ z. h ∙ rw (i, j, k) refl; joining = λ z. absurd (c.if-n-ne0.true (sym i ∙ z)) }
+    rw (p.1, p.2) (both_read s t a b X.1 Y.1 ∙ J.no (λ z. number-not_zero _ (v ∙ z)) ∙ ap (λ (m : ℕ). faulty m 0 0) (sym v))
 
 pub starts-state-requires : goal.starts-state-requires
 starts-state-requires c =
@@ -68,11 +68,11 @@ pub held-held-requires : goal.held-held-requires
 held-held-requires c =
     let s = c.args.first.now in
     let t = c.args.second.now in
-    let X = told_written s c.told-a.result c.told-a.ensures c.if-a-ne0.false in
-    let Y = told_written t c.told-b.result c.told-b.ensures c.if-b-ne0.false in
+    let X = told_written s _ c.in_ok-a.ensures.0 c.in_ok-a.ensures.1 in
+    let Y = told_written t _ c.in_ok-b.ensures.0 c.in_ok-b.ensures.1 in
     let a = X.0 in
     let b = Y.0 in
-    let f = (judged s t a b X.1 Y.1).yes (sym c.fault-n.ensures ∙ c.if-n-ne0.false) in
+    let f = (judged s t a b X.1 Y.1).yes (sym c.in_ok-may_join.ensures) in
     let l = c.lay-layout in
     let L = l.ensures in
     let (i, j, k) = L.fluents.order in
@@ -86,11 +86,11 @@ pub text_size-size-requires : goal.text_size-size-requires
 text_size-size-requires c =
     let s = c.args.first.now in
     let t = c.args.second.now in
-    let X = told_written s c.told-a.result c.told-a.ensures c.if-a-ne0.false in
-    let Y = told_written t c.told-b.result c.told-b.ensures c.if-b-ne0.false in
+    let X = told_written s _ c.in_ok-a.ensures.0 c.in_ok-a.ensures.1 in
+    let Y = told_written t _ c.in_ok-b.ensures.0 c.in_ok-b.ensures.1 in
     let a = X.0 in
     let b = Y.0 in
-    let f = (judged s t a b X.1 Y.1).yes (sym c.fault-n.ensures ∙ c.if-n-ne0.false) in
+    let f = (judged s t a b X.1 Y.1).yes (sym c.in_ok-may_join.ensures) in
     let l = c.lay-layout in
     let L = l.ensures in
     let x = c.held-held in
@@ -108,11 +108,11 @@ pub returns-then-size-gt65536 : goal.returns-then-size-gt65536
 returns-then-size-gt65536 c =
     let s = c.args.first.now in
     let t = c.args.second.now in
-    let X = told_written s c.told-a.result c.told-a.ensures c.if-a-ne0.false in
-    let Y = told_written t c.told-b.result c.told-b.ensures c.if-b-ne0.false in
+    let X = told_written s _ c.in_ok-a.ensures.0 c.in_ok-a.ensures.1 in
+    let Y = told_written t _ c.in_ok-b.ensures.0 c.in_ok-b.ensures.1 in
     let a = X.0 in
     let b = Y.0 in
-    let f = (judged s t a b X.1 Y.1).yes (sym c.fault-n.ensures ∙ c.if-n-ne0.false) in
+    let f = (judged s t a b X.1 Y.1).yes (sym c.in_ok-may_join.ensures) in
     let l = c.lay-layout in
     let L = l.ensures in
     let x = c.held-held in
@@ -122,20 +122,19 @@ returns-then-size-gt65536 c =
     let o = ordered s t l.new.list l.result a b X.1 Y.1 L f.0 x.new.list x.result S.result.0 w G in
     let y = text_laid s t l.new.list l.result a b X.1 Y.1 L f.0 x.new.list x.result S.result.0 w G in
     let n = c.text_size-size.ensures ∙ ap length y in
-    let (i, j, k) = c.refused-then-size-gt65536.ensures in
     let v = lt-ltb 65536 (length (text_of (both_books a b))) (omega (arith, c.if-size-gt65536.true)) in
     let h = both_read s t a b X.1 Y.1 ∙ f.2 ∙ ap (λ (v : Bool). cond v (faulty sheet_refusals.too_long 0 0) (joins a b)) v in
-    record { second_value = λ z. h ∙ rw (i, j, k) refl; joining = λ z. absurd (omega (arith, i)) }
+    rw c.from.ensures h
 
 pub returns : goal.returns
 returns c =
     let s = c.args.first.now in
     let t = c.args.second.now in
-    let X = told_written s c.told-a.result c.told-a.ensures c.if-a-ne0.false in
-    let Y = told_written t c.told-b.result c.told-b.ensures c.if-b-ne0.false in
+    let X = told_written s _ c.in_ok-a.ensures.0 c.in_ok-a.ensures.1 in
+    let Y = told_written t _ c.in_ok-b.ensures.0 c.in_ok-b.ensures.1 in
     let a = X.0 in
     let b = Y.0 in
-    let f = (judged s t a b X.1 Y.1).yes (sym c.fault-n.ensures ∙ c.if-n-ne0.false) in
+    let f = (judged s t a b X.1 Y.1).yes (sym c.in_ok-may_join.ensures) in
     let l = c.lay-layout in
     let L = l.ensures in
     let x = c.held-held in
@@ -149,15 +148,12 @@ returns c =
     let h = both_read s t a b X.1 Y.1 ∙ f.2 ∙ ap (λ (v : Bool). cond v (faulty sheet_refusals.too_long 0 0) (joins a b)) v in
     let (i, p, q, r) = L.order in
     record {
-      second_value = λ z. absurd (z refl);
-      joining = λ z. record {
-        ours = a;
-        theirs = b;
-        joined = h;
-        is = y;
-        size = n;
-        ordered = o;
-        inside = G.inside L.inside;
-        fluents = holds_kept _ _ _ _ _ _ _ l.result.fluents _ _ i G L.fluents;
-      };
+      ours = a;
+      theirs = b;
+      joined = h;
+      is = y;
+      size = n;
+      ordered = o;
+      inside = G.inside L.inside;
+      fluents = holds_kept _ _ _ _ _ _ _ l.result.fluents _ _ i G L.fluents;
     }

@@ -13,30 +13,12 @@ use Rattle.naming.proofs.field_span.Goals as goal
 abbrev span : ℕ → ℕ → Span
 span i n = record { at = i; len = n }
 
-pub overflow_add-result : goal.overflow_add-result
-overflow_add-result c = search rules
-
 pub returns-then-q-e : goal.returns-then-q-e
 returns-then-q-e c =
     let a = c.args in
     let g = fields_gone a.s.now (a.q + 1) a.e (omega arith) in
     let l = ap (λ (x : List (List ℕ)). length (get_or x 0 [])) g in
     ap (span (a.q + 1)) (sym l)
-
-pub overflow_add-q : goal.overflow_add-q
-overflow_add-q c = search rules
-
-pub field_end-end-requires : goal.field_end-end-requires
-field_end-end-requires c = search rules
-
-pub overflow_add-result-2 : goal.overflow_add-result-2
-overflow_add-result-2 c = search rules
-
-pub overflow_add-result-3 : goal.overflow_add-result-3
-overflow_add-result-3 c = search rules
-
-pub overflow_sub-result : goal.overflow_sub-result
-overflow_sub-result c = search rules
 
 pub returns : goal.returns
 returns c =

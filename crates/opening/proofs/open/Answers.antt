@@ -7,4 +7,4 @@ pub returns-then-over_limits : goal.returns-then-over_limits
 returns-then-over_limits c = no_room (sym c.over_limits.ensures ∙ c.if-over_limits.true) c.refused.ensures.0 c.refused.ensures.1 refl refl
 
 pub returns : goal.returns
-returns c = emptied (sym c.over_limits.ensures ∙ c.if-over_limits.false) refl c.opened-kept.ensures c.clear.ensures c.clear-2.ensures
+returns c = emptied (sym c.over_limits.ensures ∙ c.if-over_limits.false) refl c.opened.ensures c.clear.ensures c.clear-2.ensures

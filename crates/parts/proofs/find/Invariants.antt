@@ -1,5 +1,4 @@
--- `find` meets its contract. The invariant: the place among the parts from lo on is that among the parts from k on.
--- The measure is how many parts are left. Assumes nothing.
+-- `find` meets its contract. The invariant: the place among the parts from lo on is that among the parts from k on. Assumes nothing.
 use mathlib.Core.Path.{◌≡◌}
 use mathlib.Core.List.{◌++◌}
 use Prim.Native.Nat.{◌+◌, ◌-◌, ◌≤◌}
@@ -8,7 +7,4 @@ use Rattle.parts.specs.Parts.{part_at, parts_from}
 use Rattle.parts.proofs.find.Given as goal
 
 abbrev pub invariant-loop-k : goal.invariant-loop-k
-invariant-loop-k l = (l.lo ≤ l.k) × (l.k ≤ l.hi) × (l.lo + place (part_at (l.first ++ l.second) l.list l.i) (parts_from (l.first ++ l.second) l.list l.lo (l.hi - l.lo)) ≡ l.k + place (part_at (l.first ++ l.second) l.list l.i) (parts_from (l.first ++ l.second) l.list l.k (l.hi - l.k)))
-
-abbrev pub decreases-loop-k : goal.decreases-loop-k
-decreases-loop-k l = l.hi - l.k
+invariant-loop-k l = (l.lo + place (part_at (l.first ++ l.second) l.list l.i) (parts_from (l.first ++ l.second) l.list l.lo (l.hi - l.lo)) ≡ l.k + place (part_at (l.first ++ l.second) l.list l.i) (parts_from (l.first ++ l.second) l.list l.k (l.hi - l.k)))

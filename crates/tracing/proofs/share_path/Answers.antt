@@ -1,6 +1,5 @@
 -- `share_path` meets its contract: words that are not 44 keep nothing, and else both goals are read. Assumes nothing.
 use lib.ListN.{replicate}
-use borrow.Author.Rules.{rules}
 use Rattle.accounts.proofs.KeptWords.{first_placed, second_placed}
 use Rattle.tracing.proofs.TracedLaws.{unkept_fault, refused}
 use Rattle.tracing.proofs.share_path.Goals as goal

@@ -1,10 +1,11 @@
 -- `unkept` meets its contract. Assumes nothing.
 use mathlib.Core.Path.{sym, ◌∙◌, refl}
 use borrow.Author.Tests.{eq-eqb, ne_eqb}
+use Rattle.refusals.proofs.Numbers.{number-not_zero}
 use Rattle.tracing.proofs.unkept.Goals as goal
 
-pub returns-then-refusal-ne0 : goal.returns-then-refusal-ne0
-returns-then-refusal-ne0 c = rw (ne_eqb _ 0 (rw c.words_refusal-refusal.ensures at c.if-refusal-ne0.true)) c.words_refusal-refusal.ensures
+pub returns-in-Err : goal.returns-in-Err
+returns-in-Err c = rw (ne_eqb _ 0 (λ z. number-not_zero _ (c.in-Err.ensures ∙ z))) c.in-Err.ensures
 
-pub returns : goal.returns
-returns c = rw (eq-eqb _ 0 (sym c.words_refusal-refusal.ensures ∙ c.if-refusal-ne0.false)) refl
+pub returns-in-Ok : goal.returns-in-Ok
+returns-in-Ok c = rw (eq-eqb _ 0 (sym c.in-Ok.ensures)) refl

@@ -2,14 +2,15 @@
 use mathlib.Core.Path.{◌≡◌, ap, sym, ◌∙◌}
 use mathlib.Core.Bool.{Bool, true, false}
 use mathlib.Core.List.{List, []}
-use Prim.Native.Nat.{ℕ, ◌≤◌}
+use Prim.Native.Nat.{ℕ, ◌-◌, ◌≤◌}
 use native.Mathlib.Omega.{arith}
-use lib.ListN.{length, get_or, drop}
+use lib.ListN.{length, get_or, take, drop}
 use lib.Seq.{slice, length-slice}
 use Rattle.chars.specs.Bytes.{text}
 use Rattle.chars.specs.Pieces.{fields, bare}
 use Rattle.chars.specs.Places.{same}
 use Rattle.chars.specs.Inner.{BareEnd, FieldEnd}
+use Rattle.chars.proofs.Ends.{part_slice}
 use Rattle.writer.specs.Inner.{held_piece}
 use Rattle.writer.proofs.Filling.{gives_none, gives_as}
 use Rattle.writer.proofs.LinePieces.{first_of, tail_of, held_other, held_not, held_here, next_other, next_fluent}
@@ -53,8 +54,8 @@ returns-then-not-holds c =
     let x = next_fluent a.k st this w in
     record { puts = (omega arith, gives_as o o [] (held_piece a.k st this) a.at a.at (sym p) (gives_none o a.at)); fluent_value = (omega arith, omega arith) }
 
-pub put_part-r-requires : goal.put_part-r-requires
-put_part-r-requires c =
+pub put-r-requires : goal.put-r-requires
+put-r-requires c =
     let a = c.args in
     let s = a.s.now in
     let o = a.out.now in
@@ -71,7 +72,8 @@ put_part-r-requires c =
     let k = c.requires.a_le_e.1 in
     let m = length-slice q end s (omega arith) in
     let r = c.requires.s_in_bounds in
-    (omega arith, omega arith, omega arith)
+    let w : length (take (end - q) (drop q s)) ≡ end - q = ap length (part_slice s q end (omega arith) (omega arith)) ∙ m in
+    omega arith
 
 pub returns : goal.returns
 returns c =
@@ -90,7 +92,9 @@ returns c =
     let j = c.bare_end-end.ensures.within in
     let k = c.requires.a_le_e.1 in
     let m = length-slice q end s (omega arith) in
-    let x = c.put_part-r in
+    let x = c.put-r in
     let r = x.ensures.0 in
     let y = next_fluent a.k st this w in
-    record { puts = (omega arith, gives_as o x.new.out (slice q end s) (held_piece a.k st this) a.at x.result (sym p) x.ensures.1); fluent_value = (omega arith, omega arith) }
+    let w : take (end - q) (drop q s) ≡ slice q end s = part_slice s q end (omega arith) (omega arith) in
+    let v = ap length w in
+    record { puts = (omega arith, gives_as o x.new.out (take (end - q) (drop q s)) (held_piece a.k st this) a.at x.result (w ∙ sym p) x.ensures.1); fluent_value = (omega arith, omega arith) }

@@ -4,12 +4,13 @@ use mathlib.Core.Bool.{Bool, true, false}
 use mathlib.Core.List.{List, [], ◌∷◌, ◌++◌}
 use Prim.Native.Nat.{ℕ, ◌+◌, ◌-◌, ◌≤◌}
 use native.Mathlib.Omega.{arith}
-use lib.ListN.{length, get_or, length-append}
+use lib.ListN.{length, get_or, take, drop, length-append}
 use lib.Seq.{slice, length-slice}
 use Rattle.chars.specs.Bytes.{text, LF, HASH, begins}
 use Rattle.chars.specs.Pieces.{lines, fields, bare}
 use Rattle.chars.specs.Places.{same}
 use Rattle.chars.specs.Inner.{BareEnd, FieldEnd}
+use Rattle.chars.proofs.Ends.{part_slice}
 use Rattle.writer.specs.Inner.{start_bytes, line_piece}
 use Rattle.writer.proofs.Filling.{gives_none, gives_then, gives_as}
 use Rattle.writer.proofs.LinePieces.{first_of, line_comment, line_start, line_other}
@@ -37,6 +38,10 @@ module _ (s : List ℕ) (a e end q : ℕ) (st : ℕ) (t : Bool) (n : begins HASH
       let m = length-append (slice a end s) (LF ∷ []) in
       let k = ap length (is_other h) in
       omega arith
+
+-- the part that is copied
+copied : (s : List ℕ) (a e : ℕ) → a ≤ e → e ≤ length s → take (e - a) (drop a s) ≡ slice a e s
+copied s a e o l = part_slice s a e o l
 
 pub returns-then-is_comment : goal.returns-then-is_comment
 returns-then-is_comment c =
@@ -80,8 +85,8 @@ returns-then-is_word c =
     let i = x.ensures.0 in
     (omega arith, gives_as o x.new.out (start_bytes st all) (line_piece st all this) a.at x.result (sym p) x.ensures.1)
 
-pub put_part-r-requires : goal.put_part-r-requires
-put_part-r-requires c =
+pub put-r-requires : goal.put-r-requires
+put-r-requires c =
     let a = c.args in
     let s = a.s.now in
     let o = a.out.now in
@@ -95,7 +100,9 @@ put_part-r-requires c =
     let i = c.bare_end-end.ensures.within in
     let j = c.bare_end-end.ensures.from in
     let k = c.requires.a_le_e.1 in
-    (omega arith, omega arith, omega arith)
+    let w = ap length (copied s a.a end (omega arith) (omega arith)) in
+    let v = length-slice a.a end s (omega arith) in
+    omega arith
 
 pub put-requires : goal.put-requires
 put-requires c =
@@ -109,10 +116,14 @@ put-requires c =
     let q = c.field_end-q.result in
     let n = size s a.a a.e end q st c.is_word.result (sym c.is_comment.ensures ∙ c.if-is_comment.false) c.bare_end-end.ensures c.field_end-q.ensures c.is_word.ensures c.requires.a_le_e.1 c.if-is_word.false in
     let p = c.requires.s_in_bounds in
-    let x = c.put_part-r in
+    let x = c.put-r in
     let i = x.ensures.0 in
     let j = x.auto.out in
     let k = part s a.a a.e end q st c.is_word.result (sym c.is_comment.ensures ∙ c.if-is_comment.false) c.bare_end-end.ensures c.field_end-q.ensures c.is_word.ensures c.requires.a_le_e.1 in
+    let f = c.bare_end-end.ensures.from in
+    let g = c.bare_end-end.ensures.within in
+    let h = c.requires.a_le_e.1 in
+    let w = ap length (copied s a.a end (omega arith) (omega arith)) in
     omega arith
 
 pub returns : goal.returns
@@ -128,11 +139,16 @@ returns c =
     let n = size s a.a a.e end q st c.is_word.result (sym c.is_comment.ensures ∙ c.if-is_comment.false) c.bare_end-end.ensures c.field_end-q.ensures c.is_word.ensures c.requires.a_le_e.1 c.if-is_word.false in
     let p = c.requires.s_in_bounds in
     let z = c.put in
-    let x = c.put_part-r in
+    let x = c.put-r in
     let k = part s a.a a.e end q st c.is_word.result (sym c.is_comment.ensures ∙ c.if-is_comment.false) c.bare_end-end.ensures c.field_end-q.ensures c.is_word.ensures c.requires.a_le_e.1 in
     let i = x.ensures.0 in
-    let j = z.ensures.0 in (
+    let j = z.ensures.0 in
+    let f = c.bare_end-end.ensures.from in
+    let g = c.bare_end-end.ensures.within in
+    let h = c.requires.a_le_e.1 in
+    let w = copied s a.a end (omega arith) (omega arith) in
+    let v = ap length w in (
       omega arith,
       gives_as o z.new.out (slice a.a end s ++ (LF ∷ [])) (line_piece st all this) a.at z.result (sym (is_other s a.a a.e end q st c.is_word.result (sym c.is_comment.ensures ∙ c.if-is_comment.false) c.bare_end-end.ensures c.field_end-q.ensures c.is_word.ensures c.if-is_word.false))
-          (gives_then o x.new.out z.new.out (slice a.a end s) (LF ∷ []) a.at x.result z.result x.ensures.1 z.ensures.1),
+          (gives_then o x.new.out z.new.out (slice a.a end s) (LF ∷ []) a.at x.result z.result (gives_as o x.new.out _ (slice a.a end s) a.at x.result w x.ensures.1) z.ensures.1),
     )

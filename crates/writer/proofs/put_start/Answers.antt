@@ -9,15 +9,15 @@ use Rattle.writer.proofs.Filling.{gives_then, gives_as}
 use Rattle.writer.proofs.LinePieces.{start_bytes_are, start_size}
 use Rattle.writer.proofs.put_start.Goals as goal
 
-pub put_part-names-requires : goal.put_part-names-requires
-put_part-names-requires c =
+pub put-names-requires : goal.put-names-requires
+put-names-requires c =
     let n = start_size c.args.start.0 (lines c.args.s.now) in
     let p = c.requires in
-    (omega arith, omega arith, omega arith)
+    omega arith
 
 pub put_names-end-requires : goal.put_names-end-requires
 put_names-end-requires c =
-    let x = c.put_part-names in
+    let x = c.put-names in
     let n = start_size c.args.start.0 (lines c.args.s.now) in
     let p = c.requires in
     let i = x.ensures.0 in
@@ -27,7 +27,7 @@ put_names-end-requires c =
 pub put-requires : goal.put-requires
 put-requires c =
     let y = c.put_names-end in
-    let x = c.put_part-names in
+    let x = c.put-names in
     let n = start_size c.args.start.0 (lines c.args.s.now) in
     let p = c.requires in
     let i = x.ensures.0 in
@@ -40,7 +40,7 @@ pub returns : goal.returns
 returns c =
     let z = c.put in
     let y = c.put_names-end in
-    let x = c.put_part-names in
+    let x = c.put-names in
     let a = c.args in
     let all = lines a.s.now in
     let held = held_bytes 0 a.start.0 all in

@@ -3,16 +3,16 @@ use borrow.Author.Tests.{lt-ltb, le-ltb}
 use Rattle.accounts.proofs.KeptWords.{rooms_placed}
 use Rattle.accounts.proofs.judging.over_rooms.Goals as goal
 
-pub returns-then-room_of-kept : goal.returns-then-room_of-kept
-returns-then-room_of-kept c =
+pub returns-then-call_room-kept : goal.returns-then-call_room-kept
+returns-then-call_room-kept c =
     let a = c.args in
-    rw (rooms_placed a.kept.now c.requires a.calls.now a.answers.now, lt-ltb _ _ (rw c.room_of.ensures at c.if-room_of-kept.true))
+    rw (rooms_placed a.kept.now c.requires a.calls.now a.answers.now, lt-ltb _ _ (rw c.room_of-call_room.ensures at c.if-call_room-kept.true)) (lt-ltb _ _ c.if-call_room-kept.true)
 
-pub returns : goal.returns
-returns c =
+pub returns-else-call_room-kept : goal.returns-else-call_room-kept
+returns-else-call_room-kept c =
     let a = c.args in
     rw (
       rooms_placed a.kept.now c.requires a.calls.now a.answers.now,
-      le-ltb _ _ (rw c.room_of.ensures at c.if-room_of-kept.false),
-      c.room_of-2.ensures,
+      le-ltb _ _ (rw c.room_of-call_room.ensures at c.if-call_room-kept.false),
+      c.room_of-answer_room.ensures,
     )

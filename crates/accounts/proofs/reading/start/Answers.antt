@@ -6,5 +6,5 @@ use Rattle.accounts.proofs.reading.start.Goals as goal
 pub returns-then-holds : goal.returns-then-holds
 returns-then-holds c = rw (start_word, sym c.holds.ensures ∙ c.if-holds.true)
 
-pub returns : goal.returns
-returns c = rw (start_word, sym c.holds.ensures ∙ c.if-holds.false)
+pub returns-else-holds : goal.returns-else-holds
+returns-else-holds c = rw (start_word, sym c.holds.ensures ∙ c.if-holds.false)

@@ -9,7 +9,7 @@ returns-then-holds c =
     let a = c.args in
     rw (sym c.holds.ensures ∙ c.if-holds.true) at (step_count a.kept.now a.at (omega arith))
 
-pub returns : goal.returns
-returns c =
+pub returns-else-holds : goal.returns-else-holds
+returns-else-holds c =
     let a = c.args in
     rw (sym c.holds.ensures ∙ c.if-holds.false) at (step_count a.kept.now a.at (omega arith))

@@ -10,8 +10,8 @@ entry_at-requires c = (omega (arith, c.requires.0.long), short_first c.requires.
 pub returns-then-second : goal.returns-then-second
 returns-then-second c = λ a e. c.ledger.ensures ∙ entered_second _ c.requires.0.long a _ _ c.if-second.true c.entry_at.ensures e
 
-pub entry_at-requires-2 : goal.entry_at-requires-2
-entry_at-requires-2 c = (omega (arith, c.requires.0.long), short_second c.requires.0)
+pub entry_at-requires-else-second : goal.entry_at-requires-else-second
+entry_at-requires-else-second c = (omega (arith, c.requires.0.long), short_second c.requires.0)
 
-pub returns : goal.returns
-returns c = λ a e. c.ledger-2.ensures ∙ entered_first _ c.requires.0.long a _ _ c.if-second.false e c.entry_at-2.ensures
+pub returns-else-second : goal.returns-else-second
+returns-else-second c = λ a e. c.ledger-else-second.ensures ∙ entered_first _ c.requires.0.long a _ _ c.if-second.false e c.entry_at-else-second.ensures

@@ -4,9 +4,6 @@ use borrow.Author.Tests.{eq-eqb, ne_eqb}
 use Rattle.sharing.specs.Parties.{account_words, ledger_words}
 use Rattle.accounts.proofs.writing.handed_back.Goals as goal
 
-pub returns-then-kept-eq-LEDGER_WORDS : goal.returns-then-kept-eq-LEDGER_WORDS
-returns-then-kept-eq-LEDGER_WORDS c = rw (eq-eqb _ _ c.if-kept-eq-LEDGER_WORDS.true) c.copied.ensures
-
-pub returns : goal.returns
+pub returns-else-kept-eq-LEDGER_WORDS : goal.returns-else-kept-eq-LEDGER_WORDS
 unfolding account_words ledger_words
-returns c = rw (ne_eqb _ _ c.if-kept-eq-LEDGER_WORDS.false) refl
+returns-else-kept-eq-LEDGER_WORDS c = rw (ne_eqb _ _ c.if-kept-eq-LEDGER_WORDS.false) refl

@@ -1,11 +1,7 @@
--- `holding` meets its contract. The loop's invariant: i words of the goal are written; the measure: those left. Assumes nothing.
-use Prim.Native.Nat.{◌-◌, ◌≤◌}
+-- `holding` meets its contract. The loop's invariant: i words of the goal are written. Assumes nothing.
 use lib.ListN.{length, get_or}
 use Rattle.accounts.proofs.AccountWords.{Laying}
 use Rattle.accounts.proofs.writing.holding.Given as goal
 
 abbrev pub invariant-loop-i : goal.invariant-loop-i
-invariant-loop-i l = (l.i ≤ length l.goal) × Laying (get_or l.initial.words 0 0) (get_or l.initial.words 1 0) 1 (get_or l.initial.words 3 0) (length l.goal) l.goal l.i l.words
-
-abbrev pub decreases-loop-i : goal.decreases-loop-i
-decreases-loop-i l = length l.goal - l.i
+invariant-loop-i l = Laying (get_or l.initial.words 0 0) (get_or l.initial.words 1 0) 1 (get_or l.initial.words 3 0) (length l.goal) l.goal l.i l.words

@@ -7,6 +7,6 @@ pub returns-then-second : goal.returns-then-second
 unfolding party_of place_of
 returns-then-second c = rw c.if-second.true
 
-pub returns : goal.returns
+pub returns-else-second : goal.returns-else-second
 unfolding party_of place_of
-returns c = rw c.if-second.false
+returns-else-second c = rw c.if-second.false

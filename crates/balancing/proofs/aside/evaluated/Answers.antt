@@ -1,6 +1,7 @@
 -- `evaluated` meets its contract: the tables are put aside, compared, and given back word for word. Assumes nothing.
 use native.Mathlib.Omega.{arith}
 use Rattle.balancing.proofs.PutAside.{put_aside, answers_back, calls_back, compared_plain}
+use Rattle.std.proofs.lemmas.Result.{MatchResult-weaker}
 use Rattle.balancing.proofs.aside.evaluated.Goals as goal
 
 pub compare_aside-found-requires : goal.compare_aside-found-requires
@@ -58,5 +59,7 @@ returns c =
         answers_back h r.result s.result r.ensures s.ensures x.ensures.calls_stowed y.ensures f.spared u,
       );
       rows_len_unchanged = (f.spared.rows_long, x.ensures.actions_len_unchanged);
-      compared = compared_plain h r.result s.result r.ensures s.ensures x.ensures.calls_stowed y.ensures f.compared;
+      compared = MatchResult-weaker c.compare_aside-found.result f.compared
+          (λ _ C. compared_plain h r.result s.result r.ensures s.ensures x.ensures.calls_stowed y.ensures C)
+          (λ _ C. compared_plain h r.result s.result r.ensures s.ensures x.ensures.calls_stowed y.ensures C);
     }

@@ -5,11 +5,11 @@ use mathlib.Core.Path.{◌≡◌, sym}
 use mathlib.Core.List.{List}
 use lib.ListN.{length}
 use lib.Seq.{length-take-le}
-use borrow.Author.Rules.{rules}
 use Rattle.records.proofs.Numbers.{proper_with}
 use Rattle.stowing.specs.Stowing.{freed_words}
 use Rattle.balancing.specs.Balancing.{call_room, answer_room}
 use Rattle.balancing.proofs.Parts.{filled_aside}
+use Rattle.std.proofs.lemmas.Result.{MatchResult-weaker}
 use Rattle.balancing.proofs.aside.fill_aside.Goals as goal
 
 -- the parts that are lent
@@ -51,5 +51,7 @@ returns c =
     let r = c.room_of-places in
     let s = c.room_of-most in
     let (fluents, actions, acc, acc') = c.requires.accepted in
-    filled_aside (proper_with c.args.rules.now c.args.goals.first c.args.goals.second c.args.goal.now c.args.second.now acc acc') c.requires.rows_len
-    r.result s.result r.ensures s.ensures f.ensures
+    let proper = proper_with c.args.rules.now c.args.goals.first c.args.goals.second c.args.goal.now c.args.second.now acc acc' in
+    MatchResult-weaker f.result f.ensures
+    (λ x R. filled_aside proper c.requires.rows_len r.result s.result r.ensures s.ensures R)
+    (λ x R. filled_aside proper c.requires.rows_len r.result s.result r.ensures s.ensures R)

@@ -7,7 +7,6 @@ use Rattle.steps.specs.Next.{onward}
 use Rattle.records.specs.Storage.{calls_in, answers_in, call_width_of, answer_width_of}
 use Rattle.checks.proofs.FollowLaws.{earlier_below, follow_call, follow_elementary}
 use Rattle.checks.proofs.WidthLaws.{answer_within, answers_less}
-use borrow.Author.Rules.{rules}
 use Rattle.checks.proofs.follow.follow.Goals as goal
 
 pub earlier-requires : goal.earlier-requires

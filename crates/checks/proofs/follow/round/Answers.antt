@@ -1,6 +1,4 @@
 -- `round` meets its contract. Assumes nothing.
-use mathlib.Core.Path.{refl}
-use borrow.Author.Rules.{rules}
 use Rattle.checks.proofs.follow.round.Goals as goal
 
 pub round_of-requires : goal.round_of-requires

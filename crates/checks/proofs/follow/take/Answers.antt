@@ -2,10 +2,10 @@
 use native.Mathlib.Omega.{arith}
 use mathlib.Core.Path.{refl}
 use borrow.Author.Tests.{eq-eqb, ne_eqb}
-use borrow.Author.Rules.{rules}
 use Rattle.steps.specs.Next.{onward}
 use Rattle.checks.proofs.WidthLaws.{call_key, answer_within, answer_others}
 use Rattle.checks.proofs.follow.take.Goals as goal
+use Rattle.checks.proofs.follow.take.Goals.{else-action_of-action-via-then-action_of-action+else-state_of-state, else-action_of-action-via-else-action_of-action}
 
 pub call_of-call-requires : goal.call_of-call-requires
 call_of-call-requires c =
@@ -37,14 +37,15 @@ returns-then-state_of-state c =
       c.answer_width-then-state_of-state.ensures,
     ) refl
 
-pub returns-else-state_of-state : goal.returns-else-state_of-state
+pub returns : goal.returns
 unfolding onward
-returns-else-state_of-state c =
-    rw (
-      eq-eqb _ _ (rw (c.action_of.ensures, c.call_width-width.ensures, c.call_of-call.ensures, c.answer_width.ensures) at c.if-action_of-action.true),
-      ne_eqb _ _ (rw (c.state_of.ensures, c.call_width-width.ensures, c.call_of-call.ensures, c.answer_width.ensures) at c.if-state_of-state.false),
-    ) refl
-
-pub returns-else-action_of-action : goal.returns-else-action_of-action
-unfolding onward
-returns-else-action_of-action c = rw (ne_eqb _ _ (rw (c.action_of.ensures, c.call_width-width.ensures, c.call_of-call.ensures, c.answer_width.ensures) at c.if-action_of-action.false)) refl
+returns c =
+    elim c.else-action_of-action.branch [
+      | else-action_of-action-via-then-action_of-action+else-state_of-state w ↦
+          rw (
+            eq-eqb _ _ (rw (c.action_of.ensures, c.call_width-width.ensures, c.call_of-call.ensures, c.answer_width.ensures) at w.if-action_of-action.true),
+            ne_eqb _ _ (rw (w.state_of.ensures, c.call_width-width.ensures, c.call_of-call.ensures, c.answer_width.ensures) at w.if-state_of-state.false),
+          ) refl
+      | else-action_of-action-via-else-action_of-action w ↦
+          rw (ne_eqb _ _ (rw (c.action_of.ensures, c.call_width-width.ensures, c.call_of-call.ensures, c.answer_width.ensures) at w.if-action_of-action.false)) refl
+    ]

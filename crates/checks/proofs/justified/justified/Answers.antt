@@ -1,9 +1,7 @@
 -- `justified` meets its contract, part by part. Assumes nothing.
-use native.Mathlib.Omega.{arith}
 use mathlib.Core.Path.{sym, ◌∙◌}
 use Rattle.checks.proofs.JustifiedLaws.{no_call, no_rule, by_walk, readable_more}
 use Rattle.checks.proofs.WidthLaws.{call_key, call_within, answer_others}
-use borrow.Author.Rules.{rules}
 use Rattle.checks.proofs.justified.justified.Goals as goal
 
 pub call_of-call-requires : goal.call_of-call-requires

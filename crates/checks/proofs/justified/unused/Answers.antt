@@ -1,7 +1,6 @@
 -- `unused` meets its contract. Assumes nothing.
 use native.Mathlib.Omega.{arith}
 use mathlib.Core.Path.{◌∙◌}
-use borrow.Author.Rules.{rules}
 use Rattle.checks.proofs.WidthLaws.{answer_others}
 use Rattle.checks.proofs.ClearLaws.{evidence_clear}
 use Rattle.checks.proofs.justified.unused.Goals as goal

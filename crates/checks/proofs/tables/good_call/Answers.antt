@@ -1,5 +1,4 @@
 -- `good_call` meets its contract, by the record's kind. Assumes nothing.
-use native.Mathlib.Omega.{arith}
 use mathlib.Core.Path.{sym, ◌∙◌}
 use Rattle.checks.proofs.RecordLaws.{by_round, bad_row}
 use Rattle.checks.proofs.tables.good_call.Goals as goal

@@ -1,11 +1,4 @@
-use Prim.Native.Nat.{ℕ, ◌+◌, ◌-◌, ◌*◌, ◌^◌}
-use native.Mathlib.Omega.{arith}
 use mathlib.Core.Path.{refl, ◌∙◌}
-use mathlib.Core.Bool.{cond}
-use lib.Dec.{eqb}
-use lib.ListN.{length}
-use borrow.Author.Rules.{rules}
-use Rattle.masks.specs.Masks.{Guide, Wide, total, Grown, SoundMarks, Fresh}
 use Rattle.gains.proofs.Widening.{guide_kept, grown_none, grown_then}
 use Rattle.marking.proofs.Turning.{settled_last, still_less}
 use Rattle.marking.proofs.passes.settle.Goals as goal

@@ -1,15 +1,10 @@
 -- `settle` meets its contract. The loop's invariant: no rule adds anything that calls no action that gained in the last pass; the measure: what the
 -- table can still gain. Assumes nothing.
-use Prim.Native.Nat.{ℕ, ◌+◌, ◌-◌, ◌*◌, ◌^◌}
-use native.Mathlib.Omega.{arith}
-use mathlib.Core.Path.{refl, ◌∙◌}
+use Prim.Native.Nat.{◌+◌, ◌-◌, ◌*◌, ◌^◌}
 use mathlib.Core.Bool.{cond}
 use lib.Dec.{eqb}
 use lib.ListN.{length}
-use borrow.Author.Rules.{rules}
 use Rattle.masks.specs.Masks.{Guide, Wide, total, Grown, SoundMarks, Fresh}
-use Rattle.gains.proofs.Widening.{guide_kept, grown_none, grown_then}
-use Rattle.marking.proofs.Turning.{settled_last, still_less}
 use Rattle.marking.proofs.passes.settle.Given as goal
 
 abbrev pub invariant-loop-gained : goal.invariant-loop-gained

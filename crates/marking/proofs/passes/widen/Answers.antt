@@ -1,6 +1,5 @@
 -- `widen` meets its contract. Assumes nothing.
 use native.Mathlib.Omega.{arith}
-use borrow.Author.Rules.{rules}
 use Rattle.marking.proofs.passes.widen.Goals as goal
 
 pub rule_steps-requires : goal.rule_steps-requires

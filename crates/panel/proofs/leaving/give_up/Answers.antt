@@ -1,6 +1,5 @@
 -- `give_up` meets its contract: the words in which the party holds no rows fit again, and the rows that they keep are left. Assumes nothing.
 use mathlib.Core.List.{[]}
-use borrow.Author.Rules.{rules}
 use Rattle.evaluator.specs.Evaluated.{asked}
 use Rattle.sharing.specs.Parties.{account_of, ledger_of, party_of}
 use Rattle.sharing.specs.Shared.{gives_up}

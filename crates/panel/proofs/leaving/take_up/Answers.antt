@@ -1,7 +1,6 @@
 -- `take_up` meets its contract: the words in which the party holds this run's rows fit again, and the rows that they keep are left. Assumes nothing.
 use Prim.Native.Nat.{◌≤◌}
 use lib.ListN.{length}
-use borrow.Author.Rules.{rules}
 use Rattle.steps.proofs.AcceptanceLaws.{start_accepted}
 use Rattle.evaluator.specs.Evaluated.{asked}
 use Rattle.sharing.specs.Parties.{account_of, ledger_of, party_of}

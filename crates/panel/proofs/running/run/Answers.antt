@@ -4,7 +4,6 @@ use mathlib.Core.Path.{◌≡◌, sym, ap, subst, ◌∙◌}
 use mathlib.Core.Bool.{Bool, true, false}
 use mathlib.Core.List.{List}
 use lib.ListN.{length}
-use borrow.Author.Rules.{rules}
 use Rattle.records.specs.Records.{room, call_width}
 use Rattle.matching.specs.Flags.{Whether}
 use Rattle.evaluator.specs.Evaluated.{Asked}

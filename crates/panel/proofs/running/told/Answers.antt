@@ -9,11 +9,12 @@ use Rattle.panel.proofs.running.told.Goals as goal
 pub returns-then-places-lone : goal.returns-then-places-lone
 returns-then-places-lone c =
     let a = c.args in
-    ap (λ (b : Bool). reply (cond b run_refusals.list_short 0) a.lone.ends a.lone.calls a.lone.answers a.kept.words)
-    (sym (lt-ltb a.places a.lone.ends c.if-places-lone.true))
+    rw c.number.ensures
+    (ap (λ (b : Bool). reply (cond b run_refusals.list_short 0) a.lone.ends a.lone.calls a.lone.answers a.kept.words)
+    (sym (lt-ltb a.places a.lone.ends c.if-places-lone.true)))
 
-pub returns-else-places-lone : goal.returns-else-places-lone
-returns-else-places-lone c =
+pub returns : goal.returns
+returns c =
     let a = c.args in
     ap (λ (b : Bool). reply (cond b run_refusals.list_short 0) a.lone.ends a.lone.calls a.lone.answers a.kept.words)
     (sym (le-ltb a.places a.lone.ends c.if-places-lone.false))

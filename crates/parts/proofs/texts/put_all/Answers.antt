@@ -15,7 +15,7 @@ cut : (u list w z : List ℕ) (i hi : ℕ) → i + 1 ≤ hi → wrapped w z (par
 cut u list w z i hi h = ap (wrapped w z) (parts_first u list i hi (omega arith)) ∙ wrapped_more w z (part_at u list i) (parts_from u list (i + 1) (hi - (i + 1)))
 
 pub loop-i-init : goal.loop-i-init
-loop-i-init c = (omega arith, c.requires.lo_le_hi, refl, refl, λ o q g. g)
+loop-i-init c = (refl, refl, λ o q g. g)
 
 pub put_one-p-requires : goal.put_one-p-requires
 put_one-p-requires c =
@@ -28,8 +28,8 @@ put_one-p-requires c =
     let t = c.loop-i-test.true in
     let n = ap length (cut u z W Z l.i a.hi (omega arith)) ∙ length-append ((W ++ part_at u z l.i) ++ Z) (wrapped W Z (parts_from u z (l.i + 1) (a.hi - (l.i + 1)))) in
     let p = c.requires.lo_in_bounds in
-    let i = l.invariant.2 in
-    let j = l.invariant.3 in
+    let i = l.invariant.0 in
+    let j = l.invariant.1 in
     record { at = c.requires.inside l.i t; end_in_bounds = omega arith }
 
 pub loop-i-preserved : goal.loop-i-preserved
@@ -47,12 +47,10 @@ loop-i-preserved c =
     let e = cut u z W Z l.i a.hi (omega arith) in
     let n = ap length e ∙ length-append P R in
     let m = x.ensures.0 in
-    let i = l.invariant.2 in (
+    let i = l.invariant.0 in (
       omega arith,
-      omega arith,
-      omega arith,
-      x.auto.out ∙ l.invariant.3,
-      λ o q g. l.invariant.4 o q (gives_as l.out o (P ++ R) _ l.p q (sym e) (gives_then l.out x.new.out o P R l.p x.result q x.ensures.1 g)),
+      x.auto.out ∙ l.invariant.1,
+      λ o q g. l.invariant.2 o q (gives_as l.out o (P ++ R) _ l.p q (sym e) (gives_then l.out x.new.out o P R l.p x.result q x.ensures.1 g)),
     )
 
 pub returns : goal.returns
@@ -65,5 +63,5 @@ returns c =
     let Z = a.end.now in
     let e = ap (wrapped W Z) (parts_none u z l.i a.hi c.loop-i-test.false) ∙ wrapped_none W Z in
     let n = ap length e in
-    let i = l.invariant.2 in
-    (omega arith, l.invariant.4 l.out l.p (gives_as l.out l.out [] _ l.p l.p (sym e) (gives_none l.out l.p)))
+    let i = l.invariant.0 in
+    (omega arith, l.invariant.2 l.out l.p (gives_as l.out l.out [] _ l.p l.p (sym e) (gives_none l.out l.p)))

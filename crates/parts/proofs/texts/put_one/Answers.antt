@@ -6,47 +6,43 @@ use native.Mathlib.Omega.{arith}
 use lib.ListN.{length, length-append}
 use Rattle.parts.specs.Parts.{part_at}
 use Rattle.writer.proofs.Filling.{gives_then, gives_as}
-use Rattle.parts.proofs.Turns.{whole_slice}
 use Rattle.parts.proofs.texts.put_one.Goals as goal
 
 -- how long the three are
 sizes : (w p z : List ℕ) → length ((w ++ p) ++ z) ≡ length w + length p + length z
 sizes w p z = let a = length-append (w ++ p) z in let b = length-append w p in omega arith
 
-pub put_part-a-requires : goal.put_part-a-requires
-put_part-a-requires c =
+pub put-a-requires : goal.put-a-requires
+put-a-requires c =
     let a = c.args in
     let s = sizes a.word.now (part_at (a.first.now ++ a.second.now) a.list.now a.i) a.end.now in
     let p = c.requires.end_in_bounds in
-    (omega arith, omega arith, omega arith)
+    omega arith
 
-pub put_part-b-requires : goal.put_part-b-requires
-put_part-b-requires c =
+pub put-b-requires : goal.put-b-requires
+put-b-requires c =
     let a = c.args in
     let s = sizes a.word.now (part_at (a.first.now ++ a.second.now) a.list.now a.i) a.end.now in
     let p = c.requires.end_in_bounds in
-    let x = c.put_part-a in
+    let x = c.put-a in
     let n = x.ensures.0 in
-    let w = ap length (whole_slice a.word.now) in
     let q = ap length c.part_at-p.ensures in
     let k = x.auto.out in
-    (omega arith, omega arith, omega arith)
+    omega arith
 
-pub put_part-requires : goal.put_part-requires
-put_part-requires c =
+pub put-requires : goal.put-requires
+put-requires c =
     let a = c.args in
     let s = sizes a.word.now (part_at (a.first.now ++ a.second.now) a.list.now a.i) a.end.now in
     let p = c.requires.end_in_bounds in
-    let x = c.put_part-a in
-    let y = c.put_part-b in
+    let x = c.put-a in
+    let y = c.put-b in
     let n = x.ensures.0 in
     let m = y.ensures.0 in
-    let w = ap length (whole_slice a.word.now) in
-    let v = ap length (whole_slice c.part_at-p.result.now) in
     let q = ap length c.part_at-p.ensures in
     let k = x.auto.out in
     let j = y.auto.out in
-    (omega arith, omega arith, omega arith)
+    omega arith
 
 pub returns : goal.returns
 returns c =
@@ -55,21 +51,17 @@ returns c =
     let W = a.word.now in
     let Z = a.end.now in
     let s = sizes W P Z in
-    let x = c.put_part-a in
-    let y = c.put_part-b in
-    let z = c.put_part in
-    let i = whole_slice W in
-    let j = whole_slice c.part_at-p.result.now ∙ c.part_at-p.ensures in
-    let k = whole_slice Z in
+    let x = c.put-a in
+    let y = c.put-b in
+    let z = c.put in
     let n = x.ensures.0 in
     let m = y.ensures.0 in
     let o = z.ensures.0 in
-    let il = ap length i in
-    let jl = ap length j in
-    let kl = ap length k in
+    let p = c.part_at-p.ensures in
+    let q = ap length p in
     let o₀ = a.out.now in (
       omega arith,
       gives_then o₀ y.new.out z.new.out (W ++ P) Z a.at y.result z.result
-          (gives_then o₀ x.new.out y.new.out W P a.at x.result y.result (gives_as o₀ x.new.out _ W a.at x.result i x.ensures.1) (gives_as x.new.out y.new.out _ P x.result y.result j y.ensures.1))
-          (gives_as y.new.out z.new.out _ Z y.result z.result k z.ensures.1),
+          (gives_then o₀ x.new.out y.new.out W P a.at x.result y.result x.ensures.1 (gives_as x.new.out y.new.out _ P x.result y.result p y.ensures.1))
+          z.ensures.1,
     )

@@ -17,19 +17,19 @@ size H =
     let j = length-append (text "start") (wrapped [] [] H) in
     omega arith
 
-pub put_part-word-requires : goal.put_part-word-requires
-put_part-word-requires c =
+pub put-word-requires : goal.put-word-requires
+put-word-requires c =
     let a = c.args in
     let n = size (parts_from (a.first.now ++ a.second.now) a.list.now a.lo (a.hi - a.lo)) in
     let p = c.requires.lo_in_bounds in
-    (omega arith, omega arith, omega arith)
+    omega arith
 
 pub put_all-names-requires : goal.put_all-names-requires
 put_all-names-requires c =
     let a = c.args in
     let n = size (parts_from (a.first.now ++ a.second.now) a.list.now a.lo (a.hi - a.lo)) in
     let p = c.requires.lo_in_bounds in
-    let x = c.put_part-word in
+    let x = c.put-word in
     let i = x.ensures.0 in
     let k = x.auto.out in
     record { inside = c.requires.inside; lo_le_hi = c.requires.lo_le_hi; lo_in_bounds = omega arith }
@@ -39,7 +39,7 @@ put-requires c =
     let a = c.args in
     let n = size (parts_from (a.first.now ++ a.second.now) a.list.now a.lo (a.hi - a.lo)) in
     let p = c.requires.lo_in_bounds in
-    let x = c.put_part-word in
+    let x = c.put-word in
     let y = c.put_all-names in
     let i = x.ensures.0 in
     let j = y.ensures.0 in
@@ -53,7 +53,7 @@ returns c =
     let H = parts_from (a.first.now ++ a.second.now) a.list.now a.lo (a.hi - a.lo) in
     let W = wrapped [] [] H in
     let n = size H in
-    let x = c.put_part-word in
+    let x = c.put-word in
     let y = c.put_all-names in
     let z = c.put in
     let i = x.ensures.0 in

@@ -10,7 +10,7 @@ use Rattle.parts.proofs.Turns.{wrapped_size, wrapped_none, part_short}
 use Rattle.parts.proofs.texts.size.Goals as goal
 
 pub loop-i-init : goal.loop-i-init
-loop-i-init c = (omega arith, omega (arith, c.requires.lo_le_hi.0), omega arith, λ w z h. omega arith)
+loop-i-init c = (omega arith, λ w z h. omega arith)
 
 pub part_at-p-requires : goal.part_at-p-requires
 part_at-p-requires c = c.requires.inside c.loop-i.i c.loop-i-test.true
@@ -31,7 +31,7 @@ overflow_add-n-in-loop-i c =
     let n = ap length c.part_at-p.ensures in
     let s = part_short (length a.first.now) u a.list.now c.loop-i.i (c.requires.inside c.loop-i.i c.loop-i-test.true) in
     let k = c.requires.lo_le_hi.3 in
-    omega arith in short) in let p = c.requires.lo_le_hi in let h = p.1 in let k = p.2 in let m = c.loop-i.invariant.2 in let t = c.loop-i-test.true in omega arith
+    omega arith in short) in let p = c.requires.lo_le_hi in let h = p.1 in let k = p.2 in let m = c.loop-i.invariant.0 in let t = c.loop-i-test.true in omega arith
 
 pub loop-i-preserved : goal.loop-i-preserved
 loop-i-preserved c =
@@ -46,15 +46,12 @@ loop-i-preserved c =
     let k = c.requires.lo_le_hi.3 in
     omega arith in short) in
     let k = c.requires.lo_le_hi.2 in
-    let m = l.invariant.2 in
-    let o = l.invariant.0 in
+    let m = l.invariant.0 in
     let t = c.loop-i-test.true in
     let e = ap length c.part_at-p.ensures in (
       omega arith,
-      omega arith,
-      omega arith,
       λ w x h.
-          let i = l.invariant.3 w x h in
+          let i = l.invariant.1 w x h in
           let f = ap (λ (y : List (List ℕ)). length (wrapped w x y)) (parts_first u z l.i a.hi t) ∙ wrapped_size w x (part_at u z l.i) (parts_from u z (l.i + 1) (a.hi - (l.i + 1))) in
           omega arith,
     )
@@ -65,10 +62,10 @@ returns c =
     let a = c.args in
     let u = a.first.now ++ a.second.now in
     let z = a.list.now in
-    let m = l.invariant.2 in
-    let k = l.invariant.1 in record {
+    let m = l.invariant.0 in
+    record {
       by_index = λ w x h.
-          let i = l.invariant.3 w x h in
+          let i = l.invariant.1 w x h in
           let f = ap (λ (y : List (List ℕ)). length (wrapped w x y)) (parts_none u z l.i a.hi c.loop-i-test.false) ∙ ap length (wrapped_none w x) in
           omega arith;
       upper_bound = omega arith;

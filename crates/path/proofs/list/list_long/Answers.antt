@@ -1,8 +1,8 @@
 -- `list_long` meets its contract: the count, and if the path has not too many states the leads, the first state, and the rest. Assumes nothing.
-use Prim.Native.Nat.{suc, ◌<◌, ◌≤◌}
+use Rattle.std.specs.Prelude.{Some}
+use Prim.Native.Nat.{ℕ, suc, ◌<◌, ◌≤◌}
 use native.Mathlib.Omega.{arith}
-use mathlib.Core.Path.{refl, ◌∙◌}
-use borrow.Author.Rules.{rules}
+use mathlib.Core.Path.{refl, ap, ◌∙◌}
 use borrow.Author.Tests.{lt-ltb, le-ltb}
 use lib.ListN.{length, length-set}
 use Rattle.unfolding.proofs.Walk.{lent, added_by}
@@ -36,6 +36,6 @@ returns c =
     let exact = c.count-added.ensures.2 (omega (arith, c.if-most-added.false)) in
     let room : suc (length (added_by it a.asked)) ≤ a.most = omega (arith, exact, c.if-most-added.false) in
     record {
-      the_count = rw (le-ltb _ _ room) (omega (arith, exact));
+      the_count = rw (le-ltb _ _ room) (ap (λ (n : ℕ). Some n) (omega (arith, exact)));
       the_list = rw (le-ltb _ _ room) (unrolled _ _ a.states.now _ (omega (arith, room, c.requires.1)) (rw c.start.ensures at c.unroll.ensures));
     }

@@ -1,9 +1,9 @@
 -- `list_short` meets its contract: the places, the first state, and the rest. Assumes nothing.
-use Prim.Native.Nat.{suc, ◌≤◌}
+use Rattle.std.specs.Prelude.{Some}
+use Prim.Native.Nat.{ℕ, suc, ◌≤◌}
 use native.Mathlib.Omega.{arith}
-use mathlib.Core.Path.{◌∙◌}
+use mathlib.Core.Path.{ap, ◌∙◌}
 use mathlib.Core.List.{◌∷◌}
-use borrow.Author.Rules.{rules}
 use borrow.Author.Tests.{le-ltb}
 use lib.ListN.{length, length-set}
 use Rattle.unfolding.proofs.Walk.{lent, start_at, added_by}
@@ -59,6 +59,6 @@ returns c =
     let it = lent a.plain a.rules.now a.goal.now a.second.now a.calls.now a.answers.now in
     let room : suc (length (added_by it a.asked)) ≤ a.most = omega (arith, p.5) in
     record {
-      the_count = rw (le-ltb _ _ room) (omega (arith, c.get.ensures, p.4.at a.asked (omega arith), p.5));
+      the_count = rw (le-ltb _ _ room) (ap (λ (n : ℕ). Some n) (omega (arith, c.get.ensures, p.4.at a.asked (omega arith), p.5)));
       the_list = rw (le-ltb _ _ room) (whole it _ a.asked a.states.now _ (omega (arith, room, p.1)) c.place_all.ensures.1 (rw c.start.ensures at c.write_all.ensures));
     }

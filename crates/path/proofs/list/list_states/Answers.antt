@@ -1,6 +1,5 @@
 -- `list_states` meets its contract: the rooms are all 0. Assumes nothing.
 use native.Mathlib.Omega.{arith}
-use borrow.Author.Rules.{rules}
 use Rattle.cells.proofs.NumberLaws.{zeros}
 use Rattle.path.proofs.list.list_states.Goals as goal
 

@@ -1,6 +1,5 @@
 -- `note` meets its contract. Assumes nothing.
 use mathlib.Core.Path.{refl, sym, ◌∙◌}
-use borrow.Author.Rules.{rules}
 use Rattle.path.proofs.place.note.Goals as goal
 
 pub put-requires : goal.put-requires

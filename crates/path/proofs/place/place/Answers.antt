@@ -1,11 +1,11 @@
-use Prim.Native.Nat.{◌-◌, ◌<◌}
+-- `place` meets its contract. Assumes nothing.
+use Prim.Native.Nat.{◌<◌}
 use native.Mathlib.Omega.{arith}
-use mathlib.Core.Path.{◌≡◌, refl, ap, ◌∙◌}
-use lib.ListN.{length, get_or}
-use Rattle.cells.specs.Numbers.{numbers}
+use mathlib.Core.Path.{◌≡◌, ap}
+use lib.ListN.{length}
 use Rattle.checks.proofs.WidthLaws.{answer_within}
 use Rattle.unfolding.proofs.Walk.{lent, leads_below, words_at, stands_first, stands_goes}
-use Rattle.unfolding.proofs.Places.{Along, along_first, along_next, exact, room_left, Laying, laying_none, laying_more}
+use Rattle.unfolding.proofs.Places.{along_first, along_next, exact, room_left, laying_none, laying_more}
 use Rattle.path.proofs.place.place.Goals as goal
 
 pub steps_of-steps-requires : goal.steps_of-steps-requires
@@ -18,13 +18,7 @@ pub get-at-requires : goal.get-at-requires
 get-at-requires c = c.requires.0.offsets_long
 
 pub loop-q-init : goal.loop-q-init
-loop-q-init c = (c.steps_of-steps.ensures.0, rw (c.start-state.ensures, c.get-at.ensures) (along_first _ (stands_first _ c.requires.0.checked (omega arith))), laying_none _ _ _, refl)
-
-pub offset_bounds-steps-q : goal.offset_bounds-steps-q
-offset_bounds-steps-q c = omega (arith, c.requires.0.checked.readable.most, c.steps_of-steps.ensures.1)
-
-pub bounds-steps-q : goal.bounds-steps-q
-bounds-steps-q c = omega (arith, c.requires.0.checked.readable.most, c.steps_of-steps.ensures.1)
+loop-q-init c = record { along = rw (c.start-state.ensures, c.get-at.ensures) (along_first _ (stands_first _ c.requires.0.checked (omega arith))); laid = laying_none _ _ _ }
 
 pub evidence_of-used-requires : goal.evidence_of-used-requires
 evidence_of-used-requires c = (answer_within c.args.plain c.args.n c.requires.0.checked.readable.long (omega arith), omega (arith, c.steps_of-steps.ensures.1))
@@ -34,18 +28,18 @@ take_step-t-requires c =
     let a = c.args in
     let it = lent a.plain a.rules.now a.goal.now a.second.now a.calls.now a.answers.now in
     let i = c.loop-q.invariant in
-    let l : c.loop-q.q < length (words_at it a.n) = omega (arith, ap length i.0) in
-    (c.requires.0.checked.readable, c.requires.0.sizes_long, rw (i.0, c.evidence_of-used.ensures) (stands_goes it a.n _ _ l i.1.stands))
+    let l : c.loop-q.q < length (words_at it a.n) = omega (arith, ap length c.steps_of-steps.ensures.0, c.loop-q-test.true) in
+    (c.requires.0.checked.readable, c.requires.0.sizes_long, rw (c.steps_of-steps.ensures.0, c.evidence_of-used.ensures) (stands_goes it a.n _ _ l i.along.stands))
 
 pub note-requires : goal.note-requires
 note-requires c =
     let a = c.args in
     let it = lent a.plain a.rules.now a.goal.now a.second.now a.calls.now a.answers.now in
     let i = c.loop-q.invariant in
-    let l : c.loop-q.q < length (words_at it a.n) = omega (arith, ap length i.0, c.loop-q-test.true) in
-    let u = rw (i.0, c.evidence_of-used.ensures) at c.take_step-t.ensures in (
-      λ k. omega (arith, leads_below k c.take_step-t.ensures.to, c.requires.0.offsets_long, i.2.long),
-      omega (arith, room_left it a.n _ _ _ _ i.1 l c.requires.0.roomy u, c.requires.1),
+    let l : c.loop-q.q < length (words_at it a.n) = omega (arith, ap length c.steps_of-steps.ensures.0, c.loop-q-test.true) in
+    let u = rw (c.steps_of-steps.ensures.0, c.evidence_of-used.ensures) at c.take_step-t.ensures in (
+      λ k. omega (arith, leads_below k c.take_step-t.ensures.to, c.requires.0.offsets_long, i.laid.long),
+      omega (arith, room_left it a.n _ _ _ _ i.along l c.requires.0.roomy u, c.requires.1),
     )
 
 pub overflow_add-at : goal.overflow_add-at
@@ -53,35 +47,25 @@ overflow_add-at c =
     let a = c.args in
     let it = lent a.plain a.rules.now a.goal.now a.second.now a.calls.now a.answers.now in
     let i = c.loop-q.invariant in
-    let l : c.loop-q.q < length (words_at it a.n) = omega (arith, ap length i.0, c.loop-q-test.true) in
-    omega (arith, room_left it a.n _ _ _ _ i.1 l c.requires.0.roomy (rw (i.0, c.evidence_of-used.ensures) at c.take_step-t.ensures), c.requires.0.roomy.room, c.requires.0.roomy.small)
-
-pub overflow_add-q : goal.overflow_add-q
-overflow_add-q c = omega (arith, c.requires.0.checked.readable.most, c.steps_of-steps.ensures.1)
-
-pub loop-q-smaller : goal.loop-q-smaller
-loop-q-smaller c = omega (arith, c.requires.0.checked.readable.most, c.steps_of-steps.ensures.1)
+    let l : c.loop-q.q < length (words_at it a.n) = omega (arith, ap length c.steps_of-steps.ensures.0, c.loop-q-test.true) in
+    omega (arith, room_left it a.n _ _ _ _ i.along l c.requires.0.roomy (rw (c.steps_of-steps.ensures.0, c.evidence_of-used.ensures) at c.take_step-t.ensures), c.requires.0.roomy.room, c.requires.0.roomy.small)
 
 pub loop-q-preserved : goal.loop-q-preserved
 loop-q-preserved c =
     let a = c.args in
     let it = lent a.plain a.rules.now a.goal.now a.second.now a.calls.now a.answers.now in
     let i = c.loop-q.invariant in
-    let l : c.loop-q.q < length (words_at it a.n) = omega (arith, ap length i.0, c.loop-q-test.true) in
-    let u = rw (i.0, c.evidence_of-used.ensures) at c.take_step-t.ensures in (
-      i.0,
-      along_next it a.n _ _ _ _ i.1 l _ u.to _ (exact it a.n _ _ _ _ i.1 l c.requires.0.roomy u),
-      rw (c.note.ensures, i.0, c.evidence_of-used.ensures) (laying_more it a.n _ _ _ _ _ _ i.2 (omega (arith, c.requires.0.offsets_long)) i.1 c.requires.0.roomy.after_first l u.to),
-      c.offsets-1.given ∙ i.3,
-    )
-
-pub shape_of-offsets : goal.shape_of-offsets
-shape_of-offsets c = c.loop-q.invariant.3
+    let l : c.loop-q.q < length (words_at it a.n) = omega (arith, ap length c.steps_of-steps.ensures.0, c.loop-q-test.true) in
+    let u = rw (c.steps_of-steps.ensures.0, c.evidence_of-used.ensures) at c.take_step-t.ensures in
+    record {
+      along = along_next it a.n _ _ _ _ i.along l _ u.to _ (exact it a.n _ _ _ _ i.along l c.requires.0.roomy u);
+      laid = rw (c.note.ensures, c.steps_of-steps.ensures.0, c.evidence_of-used.ensures) (laying_more it a.n _ _ _ _ _ _ i.laid (omega (arith, c.requires.0.offsets_long)) i.along c.requires.0.roomy.after_first l u.to);
+    }
 
 pub returns : goal.returns
 returns c =
     let a = c.args in
     let it = lent a.plain a.rules.now a.goal.now a.second.now a.calls.now a.answers.now in
     let i = c.loop-q.invariant in
-    let e : c.loop-q.q ≡ length (words_at it a.n) = omega (arith, ap length i.0, i.1.stands.within) in
-    rw e at i.2
+    let e : c.loop-q.q ≡ length (words_at it a.n) = omega (arith, ap length c.steps_of-steps.ensures.0, i.along.stands.within) in
+    rw e at i.laid

@@ -1,7 +1,6 @@
 -- `show` meets its contract. Assumes nothing.
 use native.Mathlib.Omega.{arith}
 use mathlib.Core.Path.{sym, ◌∙◌}
-use borrow.Author.Rules.{rules}
 use Rattle.steps.specs.Words.{step_of}
 use Rattle.unfolding.proofs.Walk.{shown_small}
 use Rattle.unfolding.proofs.Unrolling.{put_unshown, put_shown}

@@ -1,7 +1,6 @@
 -- `state_before` meets its contract. Assumes nothing.
 use native.Mathlib.Omega.{arith}
 use mathlib.Core.Path.{sym, ◌∙◌}
-use borrow.Author.Rules.{rules}
 use Rattle.checks.proofs.WidthLaws.{answer_within, answer_others}
 use Rattle.unfolding.proofs.Rests.{state_at, fresh_final}
 use Rattle.path.proofs.unroll.state_before.Goals as goal

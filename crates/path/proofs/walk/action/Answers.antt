@@ -1,7 +1,6 @@
 -- `action` meets its contract. Assumes nothing.
 use native.Mathlib.Omega.{arith}
 use mathlib.Core.Path.{sym, ◌∙◌}
-use borrow.Author.Rules.{rules}
 use Rattle.steps.proofs.EachBelow.{true_not_false}
 use Rattle.checks.proofs.WidthLaws.{call_key, answer_within}
 use Rattle.path.proofs.walk.action.Goals as goal

@@ -2,7 +2,6 @@
 use Prim.Native.Nat.{ℕ}
 use native.Mathlib.Omega.{arith}
 use mathlib.Core.Path.{sym, subst, ◌∙◌}
-use borrow.Author.Rules.{rules}
 use Rattle.steps.specs.Next.{onward}
 use Rattle.steps.proofs.WordLaws.{not_on, on_same}
 use Rattle.checks.proofs.WidthLaws.{answer_within, answer_others}
@@ -21,16 +20,16 @@ returns-then-is_call c =
     let final = leads_final (sym c.is_call.ensures ∙ c.if-is_call.true) c.requires.1.1 in
     subst (λ (t : ℕ). LeadsTo a.plain a.calls.now a.answers.now a.n a.step a.state a.evidence t) (final ∙ sym (rw c.answer_width.ensures at c.final_of.ensures)) c.requires.1.1
 
-pub returns-in-On : goal.returns-in-On
+pub returns-in-Some : goal.returns-in-Some
 unfolding onward
-returns-in-On c =
+returns-in-Some c =
     let a = c.args in
     let done = leads_elementary (sym c.is_call.ensures ∙ c.if-is_call.false) c.requires.1.1 in
     subst (λ (t : ℕ). LeadsTo a.plain a.calls.now a.answers.now a.n a.step a.state a.evidence t)
-    (sym (on_same (rw c.of.ensures at c.in-On.ensures ∙ done))) c.requires.1.1
+    (sym (on_same (rw c.of.ensures at c.in-Some.ensures ∙ done))) c.requires.1.1
 
-pub returns-in-Stuck : goal.returns-in-Stuck
+pub returns-in-None : goal.returns-in-None
 unfolding onward
-returns-in-Stuck c =
+returns-in-None c =
     let done = leads_elementary (sym c.is_call.ensures ∙ c.if-is_call.false) c.requires.1.1 in
-    absurd (not_on (rw c.of.ensures at c.in-Stuck.ensures ∙ done))
+    absurd (not_on (rw c.of.ensures at c.in-None.ensures ∙ done))

@@ -1,5 +1,4 @@
 -- `evidence_of` meets its contract. Assumes nothing.
-use borrow.Author.Rules.{rules}
 use Rattle.checks.proofs.WidthLaws.{answer_others}
 use Rattle.path.proofs.walk.evidence_of.Goals as goal
 

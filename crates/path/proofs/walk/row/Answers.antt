@@ -1,5 +1,4 @@
 -- `row` meets its contract. Assumes nothing.
-use borrow.Author.Rules.{rules}
 use Rattle.checks.proofs.WidthLaws.{answer_others}
 use Rattle.path.proofs.walk.row.Goals as goal
 

@@ -1,6 +1,5 @@
 -- `start` meets its contract. Assumes nothing.
 use native.Mathlib.Omega.{arith}
-use borrow.Author.Rules.{rules}
 use Rattle.checks.proofs.WidthLaws.{call_key, answer_within}
 use Rattle.path.proofs.walk.start.Goals as goal
 

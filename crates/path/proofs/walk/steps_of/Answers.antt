@@ -1,7 +1,6 @@
 -- `steps_of` meets its contract: where the parties have a goal each the action tells which. Assumes nothing.
 use native.Mathlib.Omega.{arith}
 use mathlib.Core.Path.{◌∙◌}
-use borrow.Author.Rules.{rules}
 use Rattle.checks.proofs.WidthLaws.{answer_within, answer_others}
 use Rattle.unfolding.proofs.Walk.{lent, answers_of, words_alone}
 use Rattle.path.proofs.walk.steps_of.Goals as goal

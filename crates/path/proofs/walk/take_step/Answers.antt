@@ -1,7 +1,6 @@
 -- `take_step` meets its contract, by the step's kind. Assumes nothing.
 use native.Mathlib.Omega.{arith}
 use mathlib.Core.Path.{sym, ◌∙◌}
-use borrow.Author.Rules.{rules}
 use Rattle.unfolding.proofs.Walk.{leads_below}
 use Rattle.unfolding.proofs.Sizes.{size_of}
 use Rattle.path.proofs.walk.take_step.Goals as goal

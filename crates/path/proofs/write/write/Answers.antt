@@ -1,12 +1,12 @@
-use Prim.Native.Nat.{◌-◌, ◌<◌}
+-- `write` meets its contract. Assumes nothing.
+use Prim.Native.Nat.{◌<◌}
 use native.Mathlib.Omega.{arith}
-use mathlib.Core.Path.{◌≡◌, ap}
-use lib.ListN.{length, get_or}
-use Rattle.cells.specs.Numbers.{numbers}
+use mathlib.Core.Path.{ap}
+use lib.ListN.{length}
 use Rattle.checks.proofs.WidthLaws.{answer_within}
 use Rattle.unfolding.proofs.Walk.{lent, leads_most, words_at, stands_first, stands_goes}
-use Rattle.unfolding.proofs.Places.{Along, along_first, along_next, along_end, exact, exact_call, room_left}
-use Rattle.unfolding.proofs.Writing.{Wrote, wrote_none, wrote_more}
+use Rattle.unfolding.proofs.Places.{along_first, along_next, along_end, exact, exact_call, room_left}
+use Rattle.unfolding.proofs.Writing.{wrote_none, wrote_more}
 use Rattle.path.proofs.write.write.Goals as goal
 
 pub steps_of-steps-requires : goal.steps_of-steps-requires
@@ -19,13 +19,7 @@ pub get-at-requires : goal.get-at-requires
 get-at-requires c = c.requires.offsets_long
 
 pub loop-q-init : goal.loop-q-init
-loop-q-init c = (c.steps_of-steps.ensures.0, rw (c.start-state.ensures, c.get-at.ensures) (along_first _ (stands_first _ c.requires.checked (omega arith))), rw c.get-at.ensures (wrote_none _ _ _ _))
-
-pub offset_bounds-steps-q : goal.offset_bounds-steps-q
-offset_bounds-steps-q c = omega (arith, c.requires.checked.readable.most, c.steps_of-steps.ensures.1)
-
-pub bounds-steps-q : goal.bounds-steps-q
-bounds-steps-q c = omega (arith, c.requires.checked.readable.most, c.steps_of-steps.ensures.1)
+loop-q-init c = record { along = rw (c.start-state.ensures, c.get-at.ensures) (along_first _ (stands_first _ c.requires.checked (omega arith))); wrote = rw c.get-at.ensures (wrote_none _ _ _ _) }
 
 pub evidence_of-used-requires : goal.evidence_of-used-requires
 evidence_of-used-requires c = (answer_within c.args.plain c.args.n c.requires.checked.readable.long (omega arith), omega (arith, c.steps_of-steps.ensures.1))
@@ -35,8 +29,8 @@ take_step-t-requires c =
     let a = c.args in
     let it = lent a.plain a.rules.now a.goal.now a.second.now a.calls.now a.answers.now in
     let i = c.loop-q.invariant in
-    let l : c.loop-q.q < length (words_at it a.n) = omega (arith, ap length i.0) in
-    (c.requires.checked.readable, c.requires.sizes_long, rw (i.0, c.evidence_of-used.ensures) (stands_goes it a.n _ _ l i.1.stands))
+    let l : c.loop-q.q < length (words_at it a.n) = omega (arith, ap length c.steps_of-steps.ensures.0, c.loop-q-test.true) in
+    (c.requires.checked.readable, c.requires.sizes_long, rw (c.steps_of-steps.ensures.0, c.evidence_of-used.ensures) (stands_goes it a.n _ _ l i.along.stands))
 
 pub get-from-requires : goal.get-from-requires
 get-from-requires c = omega (arith, leads_most c.take_step-t.ensures.to, c.requires.offsets_long)
@@ -46,11 +40,11 @@ write_step-requires c =
     let a = c.args in
     let it = lent a.plain a.rules.now a.goal.now a.second.now a.calls.now a.answers.now in
     let i = c.loop-q.invariant in
-    let l : c.loop-q.q < length (words_at it a.n) = omega (arith, ap length i.0, c.loop-q-test.true) in
-    let u = rw (i.0, c.evidence_of-used.ensures) at c.take_step-t.ensures in
+    let l : c.loop-q.q < length (words_at it a.n) = omega (arith, ap length c.steps_of-steps.ensures.0, c.loop-q-test.true) in
+    let u = rw (c.steps_of-steps.ensures.0, c.evidence_of-used.ensures) at c.take_step-t.ensures in
     let r = c.requires.roomy in (
-      omega (arith, room_left it a.n _ _ _ _ i.1 l r u, c.requires.inside a.n r.after_first, i.2.long),
-      λ k. (let k' = rw i.0 at k in rw (c.get-from.ensures, c.evidence_of-used.ensures) (omega (arith, exact_call it a.n _ _ _ _ i.1 l r u k', c.requires.inside _ (c.requires.linked _ l k'), i.2.long))),
+      omega (arith, room_left it a.n _ _ _ _ i.along l r u, c.requires.inside a.n r.after_first, i.wrote.long),
+      λ k. (let k' = rw c.steps_of-steps.ensures.0 at k in rw (c.get-from.ensures, c.evidence_of-used.ensures) (omega (arith, exact_call it a.n _ _ _ _ i.along l r u k', c.requires.inside _ (c.requires.linked _ l k'), i.wrote.long))),
     )
 
 pub overflow_add-at : goal.overflow_add-at
@@ -58,36 +52,27 @@ overflow_add-at c =
     let a = c.args in
     let it = lent a.plain a.rules.now a.goal.now a.second.now a.calls.now a.answers.now in
     let i = c.loop-q.invariant in
-    let l : c.loop-q.q < length (words_at it a.n) = omega (arith, ap length i.0, c.loop-q-test.true) in
-    let u = rw (i.0, c.evidence_of-used.ensures) at c.take_step-t.ensures in
-    omega (arith, room_left it a.n _ _ _ _ i.1 l c.requires.roomy u, c.requires.roomy.room, c.requires.roomy.small)
-
-pub overflow_add-q : goal.overflow_add-q
-overflow_add-q c = omega (arith, c.requires.checked.readable.most, c.steps_of-steps.ensures.1, c.loop-q-test.true)
-
-pub loop-q-smaller : goal.loop-q-smaller
-loop-q-smaller c = omega (arith, c.requires.checked.readable.most, c.steps_of-steps.ensures.1, c.loop-q-test.true)
+    let l : c.loop-q.q < length (words_at it a.n) = omega (arith, ap length c.steps_of-steps.ensures.0, c.loop-q-test.true) in
+    let u = rw (c.steps_of-steps.ensures.0, c.evidence_of-used.ensures) at c.take_step-t.ensures in
+    omega (arith, room_left it a.n _ _ _ _ i.along l c.requires.roomy u, c.requires.roomy.room, c.requires.roomy.small)
 
 pub loop-q-preserved : goal.loop-q-preserved
 loop-q-preserved c =
     let a = c.args in
     let it = lent a.plain a.rules.now a.goal.now a.second.now a.calls.now a.answers.now in
     let i = c.loop-q.invariant in
-    let l : c.loop-q.q < length (words_at it a.n) = omega (arith, ap length i.0, c.loop-q-test.true) in
-    let u = rw (i.0, c.evidence_of-used.ensures) at c.take_step-t.ensures in
-    let e = exact it a.n _ _ _ _ i.1 l c.requires.roomy u in (
-      i.0,
-      along_next it a.n _ _ _ _ i.1 l _ u.to _ e,
-      wrote_more it _ a.n _ _ _ _ _ _ _ _ i.2 c.requires.roomy.after_first i.1 c.requires.linked l u.to e (rw (c.get-from.ensures, i.0, c.evidence_of-used.ensures) at c.write_step.ensures),
-    )
-
-pub shape_of-list : goal.shape_of-list
-shape_of-list c = c.loop-q.invariant.2.long
+    let l : c.loop-q.q < length (words_at it a.n) = omega (arith, ap length c.steps_of-steps.ensures.0, c.loop-q-test.true) in
+    let u = rw (c.steps_of-steps.ensures.0, c.evidence_of-used.ensures) at c.take_step-t.ensures in
+    let e = exact it a.n _ _ _ _ i.along l c.requires.roomy u in
+    record {
+      along = along_next it a.n _ _ _ _ i.along l _ u.to _ e;
+      wrote = wrote_more it _ a.n _ _ _ _ _ _ _ _ i.wrote c.requires.roomy.after_first i.along c.requires.linked l u.to e (rw (c.get-from.ensures, c.steps_of-steps.ensures.0, c.evidence_of-used.ensures) at c.write_step.ensures);
+    }
 
 pub returns : goal.returns
 returns c =
     let a = c.args in
     let it = lent a.plain a.rules.now a.goal.now a.second.now a.calls.now a.answers.now in
     let i = c.loop-q.invariant in
-    let e = along_end it a.n _ _ _ _ i.1 (omega (arith, ap length i.0)) in
-    rw e at i.2
+    let e = along_end it a.n _ _ _ _ i.along (omega (arith, ap length c.steps_of-steps.ensures.0)) in
+    rw e at i.wrote

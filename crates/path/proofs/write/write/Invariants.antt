@@ -1,18 +1,12 @@
--- `write` meets its contract. The loop's invariant: the walk stands at place q and the next state at its own place, and the states so far are written;
--- the measure: the steps left. Assumes nothing.
-use Prim.Native.Nat.{◌-◌, ◌<◌}
-use native.Mathlib.Omega.{arith}
-use mathlib.Core.Path.{◌≡◌, ap}
-use lib.ListN.{length, get_or}
+-- The walk stands at place q and the next state at its own place, and the states so far are written. Assumes nothing.
+use lib.ListN.{get_or}
 use Rattle.cells.specs.Numbers.{numbers}
-use Rattle.checks.proofs.WidthLaws.{answer_within}
-use Rattle.unfolding.proofs.Walk.{lent, leads_most, words_at, stands_first, stands_goes}
-use Rattle.unfolding.proofs.Places.{Along, along_first, along_next, along_end, exact, exact_call, room_left}
-use Rattle.unfolding.proofs.Writing.{Wrote, wrote_none, wrote_more}
+use Rattle.unfolding.proofs.Walk.{lent}
+use Rattle.unfolding.proofs.Places.{Along}
+use Rattle.unfolding.proofs.Writing.{Wrote}
 use Rattle.path.proofs.write.write.Given as goal
 
 abbrev pub invariant-loop-q : goal.invariant-loop-q
-invariant-loop-q l = (l.steps ≡ words_at (lent l.plain l.rules l.goal l.second l.calls l.answers) l.n) × Along (lent l.plain l.rules l.goal l.second l.calls l.answers) l.n (get_or (numbers l.offsets) l.n 0) l.q l.state l.at × Wrote (lent l.plain l.rules l.goal l.second l.calls l.answers) (numbers l.offsets) l.n l.at l.initial.list l.list
-
-abbrev pub decreases-loop-q : goal.decreases-loop-q
-decreases-loop-q l = length l.steps - l.q
+invariant-loop-q l =
+    let it = lent l.plain l.rules l.goal l.second l.calls l.answers in
+    record { along : Along it l.n (get_or (numbers l.offsets) l.n 0) l.q l.state l.at; wrote : Wrote it (numbers l.offsets) l.n l.at l.initial.list l.list }

@@ -1,7 +1,6 @@
 -- `write_step` meets its contract, by the step's kind. Assumes nothing.
 use native.Mathlib.Omega.{arith}
 use mathlib.Core.Path.{sym, ◌∙◌}
-use borrow.Author.Rules.{rules}
 use Rattle.unfolding.proofs.Lies.{copied_same}
 use Rattle.unfolding.proofs.Writing.{stepped_copy, stepped_none, stepped_store}
 use Rattle.path.proofs.write.write_step.Goals as goal

@@ -1,42 +1,21 @@
-use Prim.Native.Nat.{◌/◌, ◌<◌}
-use native.Mathlib.Omega.{arith}
-use mathlib.Core.Path.{◌≡◌, refl, sym, ◌∙◌}
-use borrow.Author.Tests.{not-true, not-false}
+-- `bad_rules` meets its contract. Assumes nothing.
+use Prim.Native.Nat.{◌/◌}
+use mathlib.Core.Path.{◌≡◌, refl, ◌∙◌}
 use lib.ListN.{length}
+use Rattle.std.proofs.Common.{arith, rules}
+use Rattle.std.specs.List.{list_all, range_with_len}
+use Rattle.std.proofs.lemmas.Iterator.{YieldsList-from_range}
+use Rattle.std.proofs.lemmas.Iterator.Search.{all_from_yields_List}
 use Rattle.steps.specs.Acceptance.{good_rule, bad_rules}
-use Rattle.steps.proofs.EachBelow.{each_none, each_more, each_not}
 use Rattle.steps.specs.Widths.{rule_width}
+use Rattle.steps.proofs.EachBelow.{each_number}
 use Rattle.steps.proofs.accept.bad_rules.Goals as goal
-
-pub loop-r-init : goal.loop-r-init
-loop-r-init c = (omega arith, refl, each_none _)
-
-pub good_rule-requires : goal.good_rule-requires
-good_rule-requires c = omega arith
-
-pub returns-then-not-good_rule : goal.returns-then-not-good_rule
-unfolding bad_rules
-returns-then-not-good_rule c =
-    let l = c.loop-r.invariant in
-    let rules = c.args.rules.now in
-    let r = c.loop-r.r in
-    let within : r < length rules / rule_width = omega arith in
-    rw (each_not _ _ r within (sym c.good_rule.ensures ∙ not-true _ c.if-not-good_rule.true-raw)) refl
-
-pub overflow_add-r : goal.overflow_add-r
-overflow_add-r c = omega arith
-
-pub loop-r-smaller : goal.loop-r-smaller
-loop-r-smaller c = omega arith
-
-pub loop-r-preserved : goal.loop-r-preserved
-loop-r-preserved c =
-    let l = c.loop-r.invariant in
-    (omega arith, l.1, each_more _ _ l.2 (sym c.good_rule.ensures ∙ not-false _ c.if-not-good_rule.false-raw))
 
 pub returns : goal.returns
 unfolding bad_rules
 returns c =
-    let l = c.loop-r.invariant in
-    let e : c.loop-r.r ≡ length c.args.rules.now / rule_width = omega arith in
-    rw (rw e at l.2) refl
+    let a = c.args in
+    let n = length a.rules.now / rule_width in
+    let all : c.all.result ≡ list_all (good_rule a.fluents a.actions a.rules.now) (range_with_len 0 n)
+    = all_from_yields_List _ _ _ _ c.all.ensures.ran (YieldsList-from_range 0 n n refl (omega arith)) (λ x b q k. search rules) in
+    rw (all, each_number) refl

@@ -11,21 +11,3 @@ pub overflow_shl-result : goal.overflow_shl-result
 overflow_shl-result c =
     let a = c.args in
     held_low 64 a.k a.self.0 (omega arith) (held a.self.0 a.k (sym c.holds.ensures ∙ c.if-holds.true))
-
-pub overflow_sub-result : goal.overflow_sub-result
-overflow_sub-result c =
-    let a = c.args in
-    let yes = held a.self.0 a.k (sym c.holds.ensures ∙ c.if-holds.true) in
-    omega (arith, one_shl a.k (held_low 64 a.k a.self.0 (omega arith) yes), has a.self.0 a.k yes)
-
-pub returns-then-holds : goal.returns-then-holds
-returns-then-holds c =
-    let a = c.args in
-    let yes : holds a.self.0 a.k ≡ true = sym c.holds.ensures ∙ c.if-holds.true in
-    rw yes (ap (λ (n : ℕ). a.self.0 - n) (one_shl a.k (held_low 64 a.k a.self.0 (omega arith) (held a.self.0 a.k yes))))
-
-pub returns : goal.returns
-returns c =
-    let a = c.args in
-    let no : holds a.self.0 a.k ≡ false = sym c.holds.ensures ∙ c.if-holds.false in
-    rw no refl

@@ -8,25 +8,9 @@ use Rattle.steps.specs.State.{holds}
 use Rattle.steps.proofs.StateLaws.{room, not_held, one_shl}
 use Rattle.steps.proofs.state.State.insert.Goals as goal
 
-pub returns-then-holds : goal.returns-then-holds
-returns-then-holds c =
-    let a = c.args in
-    let yes : holds a.self.0 a.k ≡ true = sym c.holds.ensures ∙ c.if-holds.true in
-    rw (lt-ltb a.k 64 c.if-k-lt64.true, yes) refl
-
 pub overflow_add-result : goal.overflow_add-result
 overflow_add-result c =
     let a = c.args in
-    let no : holds a.self.0 a.k ≡ false = sym c.holds.ensures ∙ c.if-holds.false in
+    let no : holds a.self.0 a.k ≡ false = sym c.holds.ensures ∙ c.if-not-holds.true in
     let low : a.k < 64 = c.if-k-lt64.true in
     omega (arith, one_shl a.k low, room 64 a.k a.self.0 low (omega arith) (not_held a.self.0 a.k no))
-
-pub returns-then-k-lt64 : goal.returns-then-k-lt64
-returns-then-k-lt64 c =
-    let a = c.args in
-    let no : holds a.self.0 a.k ≡ false = sym c.holds.ensures ∙ c.if-holds.false in
-    let low : a.k < 64 = c.if-k-lt64.true in
-    rw (lt-ltb a.k 64 low, no, one_shl a.k low) refl
-
-pub returns : goal.returns
-returns c = rw (le-ltb c.args.k 64 c.if-k-lt64.false) refl
