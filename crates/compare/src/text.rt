@@ -1,156 +1,155 @@
-// A book written as the text of a sheet. Fluents 0 to 63 have the names aa to hh, actions 0 to 3 the names p, q, r, s. In dress 0 the text is
-// the plain one that the library writes; any other dress adds comment lines and CR LF at random and has the names of `start` in some order.
-use relation::random;
+// A book written as the text of a sheet. Fluents 0 to 63 have the names aa to hh, actions 0 to 3 the names p, q, r, s. In dress
+// 0 the text is the plain one that the library writes; any other dress adds comment lines and CR LF at random and has the names
+// of `start` in some order.
+use relation::{Book, Record, Step, body, has, head, random};
+use std::alloc::{AllocError, Global};
 
-// Writes bytes from a place on, so far as there is room; the place after them.
-fn put(text: &mut [u8], from: usize, bytes: &[u8]) -> usize {
-    let mut at = from;
-    for i in 0..bytes.len() {
-        if text.len() <= at {
-            return at;
+// A text as it is written, in a dress.
+#[derive(Drop)]
+struct Dressed {
+    text: String,
+    dress: u64,
+}
+
+// The letter so many after another; there are eight of each kind.
+fn letter(first: u8, index: u64) -> char {
+    char::from(first % 128 + (index % 8) as u8)
+}
+
+impl Dressed {
+    // A number below 7 for the dress and the place that the text has come to.
+    fn turn(&self) -> u64 {
+        let at = (self.text.len() % 4096) as u64;
+        random::pick(
+            random::next(random::next(self.dress % 65536 * 4096 + at)),
+            7,
+        )
+    }
+
+    // The end of a line, in a dress with CR LF or with comment lines after it.
+    fn end(&mut self) -> Result<(), AllocError> {
+        let kind = if self.dress == 0 { 4 } else { self.turn() };
+        self.text.push_str(match kind {
+            0 => "\r\n",
+            1 => "\n# valve 2\tshut\n",
+            2 => "\r\n#\r\n",
+            3 => "\n#goal\t!p\r\n# ~\n",
+            _ => "\n",
+        })
+    }
+
+    fn line(&mut self, line: &str) -> Result<(), AllocError> {
+        self.text.push_str(line)?;
+        self.end()
+    }
+
+    // In some dresses a comment line above all others.
+    fn top(&mut self) -> Result<(), AllocError> {
+        if self.dress % 2 == 0 {
+            return Ok(());
         }
-        text[at] = bytes[i];
-        at += 1;
+        self.text.push_str("# boiler 7\r\n")
     }
-    at
-}
 
-// A number below 7 for a dress and a place.
-fn turn(dress: u64, at: usize) -> u64 {
-    random::pick(
-        random::next(random::next(dress % 65536 * 4096 + (at % 4096) as u64)),
-        7,
-    )
-}
-
-// The end of a line, in a dress with CR LF or with comment lines after it; the place after it.
-fn put_end(text: &mut [u8], at: usize, dress: u64) -> usize {
-    if dress == 0 {
-        return put(text, at, b"\n");
+    // A fluent's name, after a mark.
+    fn name(&mut self, mark: &str, index: u64) -> Result<(), AllocError> {
+        self.text.push_str(mark)?;
+        self.text.push(letter(b'a', index / 8))?;
+        self.text.push(letter(b'a', index))
     }
-    let kind = turn(dress, at);
-    match kind {
-        0 => put(text, at, b"\r\n"),
-        1 => put(text, at, b"\n# valve 2\tshut\n"),
-        2 => put(text, at, b"\r\n#\r\n"),
-        3 => put(text, at, b"\n#goal\t!p\r\n# ~\n"),
-        _ => put(text, at, b"\n"),
+
+    // An action's name.
+    fn action(&mut self, index: u64) -> Result<(), AllocError> {
+        self.text.push(letter(b'p', index % 4))
     }
-}
 
-// A line; the place after it.
-fn put_line(text: &mut [u8], at: usize, bytes: &[u8], dress: u64) -> usize {
-    let end = put(text, at, bytes);
-    put_end(text, end, dress)
-}
-
-// In some dresses a comment line above all others; the place after it.
-fn put_top(text: &mut [u8], dress: u64) -> usize {
-    if dress % 2 == 0 {
-        return 0;
-    }
-    put(text, 0, b"# boiler 7\r\n")
-}
-
-// The field of a fluent's name, after a byte; the place after it.
-fn put_name(text: &mut [u8], at: usize, mark: u8, index: u16) -> usize {
-    put(
-        text,
-        at,
-        &[mark, b'a' + (index / 8 % 8) as u8, b'a' + (index % 8) as u8],
-    )
-}
-
-// An action's name.
-fn action(index: u16) -> u8 {
-    b'p' + (index % 4) as u8
-}
-
-// A step; the place after it.
-fn put_step(text: &mut [u8], at: usize, word: u16) -> usize {
-    let index = word % 256;
-    match word / 256 {
-        0 => put_name(text, at, b'?', index),
-        1 => put_name(text, at, b'+', index),
-        2 => put_name(text, at, b'-', index),
-        4 => put_name(text, at, b'~', index),
-        _ => put(text, at, &[b'!', action(index)]),
-    }
-}
-
-// The fields with a record's steps and the line's end; the place after them.
-fn put_steps(text: &mut [u8], from: usize, book: &[u16; 126], rule: usize, dress: u64) -> usize {
-    let count = relation::word_at(book, rule, 1);
-    let mut at = from;
-    for k in 0..count {
-        at = put(text, at, b"\t");
-        at = put_step(
-            text,
-            at,
-            relation::word_at(book, rule, (k % 16) as usize + 2),
-        );
-    }
-    put_end(text, at, dress)
-}
-
-// The lines of the fluents; the place after them.
-fn put_fluents(text: &mut [u8], from: usize, dress: u64) -> usize {
-    let mut at = from;
-    for k in 0..64u16 {
-        at = put(text, at, b"fluent");
-        at = put_name(text, at, b'\t', k);
-        at = put_end(text, at, dress);
-    }
-    at
-}
-
-// The lines of the actions; the place after them.
-fn put_actions(text: &mut [u8], at: usize, dress: u64) -> usize {
-    let p = put_line(text, at, b"action\tp", dress);
-    let q = put_line(text, p, b"action\tq", dress);
-    let r = put_line(text, q, b"action\tr", dress);
-    put_line(text, r, b"action\ts", dress)
-}
-
-// The lines of the six rules; the place after them.
-fn put_rules(text: &mut [u8], from: usize, book: &[u16; 126], dress: u64) -> usize {
-    let mut at = from;
-    for rule in 0..6usize {
-        at = put(text, at, b"rule\t");
-        at = put(text, at, &[action(relation::word_at(book, rule, 0))]);
-        at = put_steps(text, at, book, rule, dress);
-    }
-    at
-}
-
-// The fluent at place k of 64 in `start`: each of the six orders of three fluents is that of some dress, and in dress 0 it is the fluents' own.
-fn at_place(dress: u64, k: u64) -> u16 {
-    let turned = dress / 4 % 64;
-    if dress % 4 < 2 {
-        return ((k % 64 + turned) % 64) as u16;
-    }
-    ((63 - k % 64 + turned) % 64) as u16
-}
-
-// The start line; the place after it.
-fn put_start(text: &mut [u8], from: usize, start: u64, dress: u64) -> usize {
-    let mut at = put(text, from, b"start");
-    for k in 0..64u64 {
-        let f = at_place(dress, k);
-        if relation::has(start, f as u64) {
-            at = put_name(text, at, b'\t', f);
+    fn step(&mut self, step: Step) -> Result<(), AllocError> {
+        match step {
+            Step::Query(fluent) => self.name("?", fluent),
+            Step::Insert(fluent) => self.name("+", fluent),
+            Step::Delete(fluent) => self.name("-", fluent),
+            Step::Deny(fluent) => self.name("~", fluent),
+            Step::Call(action) => {
+                self.text.push_str("!")?;
+                self.action(action)
+            }
+            Step::Idle => Ok(()),
         }
     }
-    put_end(text, at, dress)
+
+    // The fields with a record's steps and the line's end.
+    fn steps(&mut self, record: &Record) -> Result<(), AllocError> {
+        for word in body(record) {
+            self.text.push_str("\t")?;
+            self.step(Step::from(*word))?;
+        }
+        self.end()
+    }
+
+    // The lines of the fluents.
+    fn fluents(&mut self) -> Result<(), AllocError> {
+        for fluent in 0..64 {
+            self.text.push_str("fluent")?;
+            self.name("\t", fluent)?;
+            self.end()?;
+        }
+        Ok(())
+    }
+
+    // The lines of the actions.
+    fn actions(&mut self) -> Result<(), AllocError> {
+        for line in ["action\tp", "action\tq", "action\tr", "action\ts"] {
+            self.line(line)?;
+        }
+        Ok(())
+    }
+
+    // The lines of the six rules.
+    fn rules(&mut self, rules: &[Record; 6]) -> Result<(), AllocError> {
+        for rule in rules {
+            self.text.push_str("rule\t")?;
+            self.action(head(rule))?;
+            self.steps(rule)?;
+        }
+        Ok(())
+    }
+
+    // The fluent at place k of 64 in `start`: each of the six orders of three fluents is that of some dress, and in dress 0 it
+    // is the fluents' own.
+    fn fluent_at(&self, k: u64) -> u64 {
+        let turned = self.dress / 4 % 64;
+        if self.dress % 4 < 2 {
+            (k % 64 + turned) % 64
+        } else {
+            (63 - k % 64 + turned) % 64
+        }
+    }
+
+    // The start line.
+    fn start(&mut self, start: u64) -> Result<(), AllocError> {
+        self.text.push_str("start")?;
+        for k in 0..64 {
+            let fluent = self.fluent_at(k);
+            if has(start, fluent) {
+                self.name("\t", fluent)?;
+            }
+        }
+        self.end()
+    }
 }
 
-// Writes the sheet of a book with a start in a dress; its length.
-pub fn write(text: &mut [u8], book: &[u16; 126], start: u64, dress: u64) -> usize {
-    let top = put_top(text, dress);
-    let fluents = put_fluents(text, top, dress);
-    let actions = put_actions(text, fluents, dress);
-    let rules = put_rules(text, actions, book, dress);
-    let started = put_start(text, rules, start, dress);
-    let goal = put(text, started, b"goal");
-    put_steps(text, goal, book, 6, dress)
+// The sheet of a book with a start in a dress: at most 3,072 bytes.
+pub fn write(alloc: Global, book: &Book, start: u64, dress: u64) -> Result<String, AllocError> {
+    let mut sheet = Dressed {
+        text: String::with_capacity(alloc, 3072)?,
+        dress,
+    };
+    sheet.top()?;
+    sheet.fluents()?;
+    sheet.actions()?;
+    sheet.rules(&book.rules)?;
+    sheet.start(start)?;
+    sheet.text.push_str("goal")?;
+    sheet.steps(&book.goal)?;
+    Ok(sheet.text)
 }

@@ -1,140 +1,115 @@
-// Denials (request R-2): the step `~`, kind 4, in goals, rules and paths. Every word lent is 7 before.
-use crate::runs;
+// Denials (request R-2): the step `~`, kind 4, in goals, rules and paths.
+use crate::asked::{Question, Rooms, asked};
+use crate::walked;
+use print::books::{Answer, CALL, DELETE, DENY, INSERT, QUERY, Rule, answers, book};
 use std::io;
 
-// A question in rooms of 4 records, with lists of 4.
-fn asked<'a>(
-    rt: &impl Print,
-    name: &[u8],
+// A question over one action, in rooms of 4 records, with lists of 4.
+fn drill(
+    rt: &(impl Print + AllocGlobal),
+    name: &str,
     fluents: u64,
-    rules: &'a [u16],
-    goal: &'a [u16],
+    rules: &[Rule],
+    goal: &[u16],
     start: u64,
 ) -> io::Result<()> {
-    let mut calls = [7u64; 12];
-    let mut answers = [7u64; 80];
-    let mut ends = [7u64; 4];
-    let mut list = [7u64; 4];
-    runs::shown(
-        rt,
-        name,
+    let rules = book(rt.alloc(), rules)?;
+    let q = Question {
         fluents,
-        rules,
+        actions: 1,
+        rules: &rules,
         goal,
         start,
-        &mut calls,
-        &mut answers,
-        &mut ends,
-        &mut list,
-    )
+    };
+    asked(rt, name, q, Rooms::of(4, 4, 4))
 }
 
-fn goals(rt: &impl Print) -> io::Result<()> {
-    let none = [0u16; 0];
-    asked(rt, b"~b where b does not hold", 2, &none, &[1025], 0)?;
-    asked(rt, b"~b where b holds", 2, &none, &[1025], 2)?;
-    asked(
+fn goals(rt: &(impl Print + AllocGlobal)) -> io::Result<()> {
+    let last = [DENY + 63];
+    drill(rt, "~b where b does not hold", 2, &[], &[DENY + 1], 0)?;
+    drill(rt, "~b where b holds", 2, &[], &[DENY + 1], 2)?;
+    drill(
         rt,
-        b"the last of 64 fluents does not hold",
+        "the last of 64 fluents does not hold",
         64,
-        &none,
-        &[1087],
+        &[],
+        &last,
         0,
     )?;
-    asked(
-        rt,
-        b"the last of 64 fluents holds",
-        64,
-        &none,
-        &[1087],
-        9223372036854775808,
-    )
+    drill(rt, "the last of 64 fluents holds", 64, &[], &last, 1 << 63)
 }
 
-fn refused(rt: &impl Print) -> io::Result<()> {
-    let none = [0u16; 0];
-    asked(rt, b"23 ~ of no fluent", 2, &none, &[1026], 0)?;
-    asked(rt, b"23 of kind 5", 2, &none, &[1280], 0)?;
-    let mut rule = [0u16; 18];
-    rule[1] = 1;
-    rule[2] = 1280;
-    asked(rt, b"22 of kind 5", 2, &rule, &[768], 0)
+// A step of kind 5.
+const NO_KIND: u16 = 1280;
+
+fn refused(rt: &(impl Print + AllocGlobal)) -> io::Result<()> {
+    drill(rt, "23 ~ of no fluent", 2, &[], &[DENY + 2], 0)?;
+    drill(rt, "23 of kind 5", 2, &[], &[NO_KIND], 0)?;
+    drill(rt, "22 of kind 5", 2, &[(0, &[NO_KIND])], &[CALL], 0)
 }
 
-// g: `~a +a`; g: `?a -a`. In each state just one of the two goes on.
-fn one_of_two(rt: &impl Print) -> io::Result<()> {
-    let mut rules = [0u16; 36];
-    rules[1] = 2;
-    rules[2] = 1024;
-    rules[3] = 256;
-    rules[19] = 2;
-    rules[21] = 512;
-    asked(
+// In each state just one of the two rules goes on.
+fn one_of_two(rt: &(impl Print + AllocGlobal)) -> io::Result<()> {
+    let rules = [
+        (0, [DENY, INSERT].as_slice()),
+        (0, [QUERY, DELETE].as_slice()),
+    ];
+    drill(
         rt,
-        b"g: ~a +a; g: ?a -a; goal !g !g",
+        "g: ~a +a; g: ?a -a; goal !g !g",
         2,
         &rules,
-        &[768, 768],
+        &[CALL, CALL],
         0,
     )
 }
 
 // D15: a denial in a rule that calls itself first.
-fn after_itself(rt: &impl Print) -> io::Result<()> {
-    let mut rules = [0u16; 36];
-    rules[1] = 3;
-    rules[2] = 768;
-    rules[3] = 1024;
-    rules[4] = 256;
-    rules[19] = 1;
-    rules[20] = 257;
-    asked(rt, b"D15 g: !g ~a +a; g: +b; goal !g", 2, &rules, &[768], 0)
+fn after_itself(rt: &(impl Print + AllocGlobal)) -> io::Result<()> {
+    let rules = [
+        (0, [CALL, DENY, INSERT].as_slice()),
+        (0, [INSERT + 1].as_slice()),
+    ];
+    drill(rt, "D15 g: !g ~a +a; g: +b; goal !g", 2, &rules, &[CALL], 0)
 }
 
 // The path of the goal's answer where g is `~a +a ~b`, with this evidence at g's first step.
-fn shown(rt: &impl Print, name: &[u8], evidence: u64) -> io::Result<()> {
-    let mut rules = [0u16; 18];
-    rules[1] = 3;
-    rules[2] = 1024;
-    rules[3] = 256;
-    rules[4] = 1025;
-    let mut answers = [0u64; 40];
-    answers[0] = 1;
-    answers[1] = 1;
-    answers[3] = evidence;
-    answers[19] = 2;
-    answers[21] = 1;
-    answers[22] = 256;
-    answers[39] = 3;
-    let mut states = [7u64; 4];
-    let r = path::path(
-        2,
-        1,
-        &rules,
-        &[768],
-        &[64, 0, 0, 0, 0, 1],
-        2,
-        &answers,
-        2,
-        1,
-        &mut states,
-    );
-    print::text(rt, name)?;
-    print::number(rt, b"refusal", r.refusal)?;
-    print::number(rt, b"states", r.states)?;
-    print::buffer(rt, b"list", &states)?;
-    print::text(rt, b"\n")
+fn path_of(rt: &(impl Print + AllocGlobal), name: &str, evidence: u64) -> io::Result<()> {
+    let rules = book(rt.alloc(), &[(0, &[DENY, INSERT, DENY + 1])])?;
+    let g = Answer {
+        call: 1,
+        last: 1,
+        rule: 0,
+        evidence: &[evidence],
+        round: 2,
+    };
+    let goal = Answer {
+        call: 0,
+        last: 1,
+        rule: 256,
+        evidence: &[],
+        round: 3,
+    };
+    let words = answers(rt.alloc(), &[g, goal])?;
+    let q = walked::Question {
+        fluents: 2,
+        actions: 1,
+        rules: &rules,
+        goal: &[CALL],
+        calls: &[64, 0, 0, 0, 0, 1],
+        call_count: 2,
+        answers: &words,
+        answer_count: 2,
+        record: 1,
+    };
+    walked::asked(rt, name, q, 4)
 }
 
-fn paths(rt: &impl Print) -> io::Result<()> {
-    shown(rt, b"path of ~a +a ~b", 0)?;
-    shown(rt, b"42 evidence at ~", 1)
-}
-
-pub fn all(rt: &impl Print) -> io::Result<()> {
+pub fn all(rt: &(impl Print + AllocGlobal)) -> io::Result<()> {
     goals(rt)?;
     refused(rt)?;
     one_of_two(rt)?;
     after_itself(rt)?;
-    paths(rt)
+    path_of(rt, "path of ~a +a ~b", 0)?;
+    path_of(rt, "42 evidence at ~", 1)
 }

@@ -3,12 +3,14 @@
 // holds afterwards.
 #![tactic(auto)]
 
+mod asked;
 mod classes;
 mod cuts;
 mod denials;
 mod depths;
 mod paths;
 mod runs;
+mod walked;
 
 use std::io;
 

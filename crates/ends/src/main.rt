@@ -3,6 +3,7 @@
 
 ghost use Rattle.std.specs.Prelude.{◌≤◌, length};
 
+use naming::Span;
 use std::io;
 use std::io::Read;
 use steps::state::State;
@@ -19,41 +20,33 @@ fn field(rt: &impl Print, n: u64) -> io::Result<()> {
     print!(rt; "\t{n}")
 }
 
-// Notes where the name of each fluent stands in an accepted sheet: to find them again for each end would be slow.
-fn find_names(sheet: &[u8], at: &mut [usize; 64], len: &mut [usize; 64]) {
-    for k in 0..64usize {
-        let name = naming::name_in(sheet, k as u64);
-        at[k] = name.at;
-        len[k] = name.len;
-        if name.len == 0 {
-            return;
-        }
+// A part of the sheet; nothing where it has no such part.
+fn part<'a>(sheet: &'a [u8], span: Span) -> &'a [u8] {
+    match sheet.get(span.at..) {
+        Some(rest) if span.len <= rest.len() => &rest[..span.len],
+        _ => b"",
     }
 }
 
-// Prints a part of the sheet.
-fn print_part(rt: &impl Print, sheet: &[u8], at: usize, len: usize) -> io::Result<()> {
-    if at <= sheet.len() {
-        if len <= sheet.len() - at {
-            let end = at + len;
-            rt.write_all(&sheet[at..end])?;
+// The name of each fluent of an accepted sheet: to find them again for each end would be slow.
+fn find_names<'a>(sheet: &'a [u8]) -> [&'a [u8]; 64] {
+    let mut names: [&'a [u8]; 64] = [b""; 64];
+    for (k, name) in names.iter_mut().enumerate() {
+        let span = naming::name_in(sheet, k as u64);
+        if span.len == 0 {
+            break;
         }
+        *name = part(sheet, span);
     }
-    Ok(())
+    names
 }
 
 // Prints the names that hold in a state, in fluent order.
-fn print_names(
-    rt: &impl Print,
-    sheet: &[u8],
-    at: &[usize; 64],
-    len: &[usize; 64],
-    state: u64,
-) -> io::Result<()> {
-    for k in 0..64usize {
-        if State::of(state).holds(k as u64) {
+fn print_names(rt: &impl Print, names: &[&[u8]; 64], state: State) -> io::Result<()> {
+    for (k, name) in names.iter().enumerate() {
+        if state.holds(k as u64) {
             tab(rt)?;
-            print_part(rt, sheet, at[k], len[k])?;
+            rt.write_all(name)?;
         }
     }
     Ok(())
@@ -61,16 +54,14 @@ fn print_names(
 
 // Prints the first ends of the list, as many as there are.
 fn print_ends(rt: &impl Print, sheet: &[u8], ends: &[u64], count: u64) -> io::Result<()> {
-    let mut at = [0usize; 64];
-    let mut len = [0usize; 64];
-    find_names(sheet, &mut at, &mut len);
-    for i in 0..ends.len() {
+    let names = find_names(sheet);
+    for (i, end) in ends.iter().enumerate() {
         if count <= i as u64 {
             break;
         }
         rt.print("end")?;
-        field(rt, ends[i])?;
-        print_names(rt, sheet, &at, &len, ends[i])?;
+        field(rt, *end)?;
+        print_names(rt, &names, State::of(*end))?;
         line_feed(rt)?;
     }
     Ok(())

@@ -6,6 +6,7 @@
 mod afresh;
 mod openings;
 mod order;
+mod panels;
 mod rows;
 mod tampered;
 mod traced;

@@ -1,106 +1,67 @@
-// Openings of tables of 4 call records and 10 answer records, or fewer, whose words are 7 before.
-use accounts::writing::Kept;
-use opening::Opened;
+// Openings of tables of 4 call records and 10 answer records, or others, whose words are 7 before.
+use crate::panels::{Limits, Panel};
 use std::io;
 
-// Prints what an opening gives and leaves: the tables are told word by word.
-fn told(rt: &impl Print, name: &[u8], r: Opened, calls: &[u64], answers: &[u64]) -> io::Result<()> {
-    let kept = r.kept;
-    let words = kept.words;
-    print::text(rt, name)?;
-    print::number(rt, b"refusal", r.refusal)?;
-    print::buffer(rt, b"kept", &words)?;
-    print::buffer(rt, b"calls", calls)?;
-    print::buffer(rt, b"answers", answers)?;
-    print::text(rt, b"\n")
-}
+// The limits of the statement's row of runs.
+pub const STATED: Limits = Limits {
+    first: (2, 4),
+    second: (2, 4),
+};
 
-// Opens tables for these limits, and gives the words that are kept then.
-pub fn opened(
-    rt: &impl Print,
-    name: &[u8],
-    first_calls: u64,
-    first_answers: u64,
-    second_calls: u64,
-    second_answers: u64,
-    calls: &mut [u64],
-    answers: &mut [u64],
-) -> io::Result<Kept> {
-    let r = opening::open(
-        first_calls,
-        first_answers,
-        second_calls,
-        second_answers,
-        calls,
-        answers,
-    );
-    told(rt, name, r, calls, answers)?;
-    Ok(r.kept)
-}
-
-// Opens tables that are lent for it alone.
-fn shown(
-    rt: &impl Print,
-    name: &[u8],
-    first_calls: u64,
-    first_answers: u64,
-    second_calls: u64,
-    second_answers: u64,
+// Opens tables of so many words that are lent for it alone.
+fn opened(
+    rt: &(impl Print + AllocGlobal),
+    name: &str,
+    calls: usize,
+    answers: usize,
+    limits: Limits,
 ) -> io::Result<()> {
-    let mut calls = [7u64; 8];
-    let mut answers = [7u64; 190];
-    opened(
-        rt,
-        name,
-        first_calls,
-        first_answers,
-        second_calls,
-        second_answers,
-        &mut calls,
-        &mut answers,
-    )?;
-    Ok(())
+    let mut panel = Panel::of(rt.alloc(), calls, answers)?;
+    panel.open(rt, name, limits)
 }
 
-// A word more in each table adds no room.
-fn odd_words(rt: &impl Print) -> io::Result<()> {
-    let mut calls = [7u64; 9];
-    let mut answers = [7u64; 208];
-    opened(rt, b"90 of odd words", 3, 5, 2, 5, &mut calls, &mut answers)?;
-    opened(rt, b"odd words", 2, 5, 2, 5, &mut calls, &mut answers)?;
-    Ok(())
+// Tables of 4 and 10 records.
+fn shown(
+    rt: &(impl Print + AllocGlobal),
+    name: &str,
+    first: (u64, u64),
+    second: (u64, u64),
+) -> io::Result<()> {
+    opened(rt, name, 8, 190, Limits { first, second })
 }
 
-// No words at all have room for no record.
-fn no_words(rt: &impl Print) -> io::Result<()> {
-    let mut calls = [7u64; 0];
-    let mut answers = [7u64; 0];
-    opened(rt, b"90 of no words", 0, 0, 0, 1, &mut calls, &mut answers)?;
-    opened(rt, b"no words", 0, 0, 0, 0, &mut calls, &mut answers)?;
-    Ok(())
+// A word more in each table adds no room; and no words at all have room for no record.
+fn odd_words(rt: &(impl Print + AllocGlobal)) -> io::Result<()> {
+    let mut odd = Panel::of(rt.alloc(), 9, 208)?;
+    let over = Limits {
+        first: (3, 5),
+        second: (2, 5),
+    };
+    odd.open(rt, "90 of odd words", over)?;
+    let just = Limits {
+        first: (2, 5),
+        ..over
+    };
+    odd.open(rt, "odd words", just)?;
+    let mut none = Panel::of(rt.alloc(), 0, 0)?;
+    let one = Limits {
+        first: (0, 0),
+        second: (0, 1),
+    };
+    none.open(rt, "90 of no words", one)?;
+    let nothing = Limits {
+        second: (0, 0),
+        ..one
+    };
+    none.open(rt, "no words", nothing)
 }
 
-pub fn all(rt: &impl Print) -> io::Result<()> {
-    shown(rt, b"open 2 4 2 4", 2, 4, 2, 4)?;
-    shown(rt, b"open just the rooms", 1, 9, 3, 1)?;
-    shown(rt, b"90 of 5 calls", 3, 4, 2, 4)?;
-    shown(rt, b"90 of 11 answers", 2, 4, 2, 7)?;
-    shown(
-        rt,
-        b"90 of limits past a word",
-        18446744073709551615,
-        4,
-        18446744073709551615,
-        4,
-    )?;
-    shown(
-        rt,
-        b"90 of answers past a word",
-        2,
-        18446744073709551615,
-        2,
-        1,
-    )?;
-    odd_words(rt)?;
-    no_words(rt)
+pub fn all(rt: &(impl Print + AllocGlobal)) -> io::Result<()> {
+    shown(rt, "open 2 4 2 4", (2, 4), (2, 4))?;
+    shown(rt, "open just the rooms", (1, 9), (3, 1))?;
+    shown(rt, "90 of 5 calls", (3, 4), (2, 4))?;
+    shown(rt, "90 of 11 answers", (2, 4), (2, 7))?;
+    shown(rt, "90 of limits past a word", (u64::MAX, 4), (u64::MAX, 4))?;
+    shown(rt, "90 of answers past a word", (2, u64::MAX), (2, 1))?;
+    odd_words(rt)
 }

@@ -1,91 +1,96 @@
 // What a party's run is to give, by the other evaluator.
-use crate::held::Account;
-use crate::{held, wanted, words};
+use crate::questions::Asked;
+use crate::wanted;
 use panel::Shared;
+use relation::Book;
+use relation::records::{self, LENT};
+
+// The refusals that a run can meet here: counts, the goal, its start, the tables, the list of ends, and tables not as kept.
+#[derive(Clone, Copy, PartialEq, Eq, Debug)]
+pub enum Refusal {
+    Counts = 20,
+    Goal = 23,
+    Start = 24,
+    Full = 30,
+    Short = 31,
+    NotKept = 91,
+}
 
 // The refusal, the set of ends, and the counts.
-#[derive(Clone, Copy)]
+#[derive(Clone, Copy, PartialEq, Eq, Debug)]
 pub struct Want {
-    pub refusal: u64,
+    pub refusal: Option<Refusal>,
     pub set: u64,
     pub ends: u64,
     pub calls: u64,
     pub answers: u64,
 }
 
-fn refused(refusal: u64) -> Want {
-    Want {
-        refusal: refusal,
-        set: 0,
-        ends: 0,
-        calls: 0,
-        answers: 0,
-    }
-}
-
-// What a run of a good goal from a good start gives, within the limits of its account and with so many places for ends.
-fn accepted(book: &[u16; 126], own: Account, places: u64) -> Want {
-    let f = wanted::found(book, own);
-    if own.calls < f.calls || own.answers < f.answers {
-        return refused(30);
-    }
-    let ends = relation::ones(f.ends);
-    let mut refusal: u64 = 0;
-    if places < ends {
-        refusal = 31;
-    }
-    Want {
-        refusal: refusal,
-        set: f.ends,
-        ends: ends,
-        calls: f.calls,
-        answers: f.answers,
-    }
-}
-
-// What a run gives that would leave this account, where the tables are as kept or not.
-pub fn of_run(book: &[u16; 126], fluents: u64, as_kept: bool, own: Account, places: u64) -> Want {
-    if 64 < fluents {
-        return refused(20);
-    }
-    if !as_kept {
-        return refused(91);
-    }
-    if !held::good_goal(own) {
-        return refused(23);
-    }
-    if 7 < own.start {
-        return refused(24);
-    }
-    accepted(book, own, places)
-}
-
-// Whether these are the counts given.
-pub fn same_counts(w: Want, r: Shared) -> bool {
-    if w.ends != r.ends {
-        return false;
-    }
-    w.calls == r.calls && w.answers == r.answers
-}
-
-// Whether the list begins with the states of a set in rising order and is unchanged past them.
-fn listed(ends: &[u64], set: u64) -> bool {
-    let mut at: usize = 0;
-    for s in 0..8u64 {
-        if relation::has(set, s) {
-            if words::word(ends, at) != s {
-                return false;
-            }
-            at = at % 8 + 1;
+impl Want {
+    fn refused(refusal: Refusal) -> Want {
+        Want {
+            refusal: Some(refusal),
+            set: 0,
+            ends: 0,
+            calls: 0,
+            answers: 0,
         }
     }
-    words::all_from(ends, at, words::MARK)
+
+    // The number of the refusal, 0 for none.
+    pub fn number(&self) -> u64 {
+        match self.refusal {
+            None => 0,
+            Some(refusal) => refusal as u64,
+        }
+    }
+
+    // Whether the party holds the rows of its goal then.
+    pub fn holds(&self) -> bool {
+        matches!(self.refusal, None | Some(Refusal::Short))
+    }
+
+    // Whether these are the counts given.
+    pub fn has_counts_of(&self, reply: &Shared) -> bool {
+        self.ends == reply.ends && self.calls == reply.calls && self.answers == reply.answers
+    }
+
+    // Whether the list is as it is to be.
+    pub fn is_list(&self, ends: &[u64]) -> bool {
+        match self.refusal {
+            None => records::is_list_of(ends, self.set),
+            Some(_) => ends.iter().all(|word| *word == LENT),
+        }
+    }
 }
 
-// Whether the list is as it is to be.
-pub fn same_list(w: Want, ends: &[u64]) -> bool {
-    if w.refusal == 0 {
-        return listed(ends, w.set);
+// What a run of a good goal from a good start gives, within the limits and with the places for ends that are asked for.
+fn accepted(book: &Book, q: &Asked) -> Want {
+    let found = wanted::found(book, &q.goal);
+    if q.limits.calls < found.calls || q.limits.answers < found.answers {
+        return Want::refused(Refusal::Full);
     }
-    words::all_from(ends, 0, words::MARK)
+    let ends = relation::ones(found.ends);
+    Want {
+        refusal: ((q.places as u64) < ends).then_some(Refusal::Short),
+        set: found.ends,
+        ends,
+        calls: found.calls,
+        answers: found.answers,
+    }
+}
+
+// What a run gives, where the tables are as kept or not.
+pub fn of_run(book: &Book, q: &Asked, as_kept: bool) -> Want {
+    if 64 < q.fluents {
+        Want::refused(Refusal::Counts)
+    } else if !as_kept {
+        Want::refused(Refusal::NotKept)
+    } else if !q.goal.is_good() {
+        Want::refused(Refusal::Goal)
+    } else if 7 < q.goal.start {
+        Want::refused(Refusal::Start)
+    } else {
+        accepted(book, q)
+    }
 }

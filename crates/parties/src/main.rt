@@ -1,8 +1,8 @@
-// Plays rows of runs of two parties at random (request R-14). Each opening and each run is held to an evaluator and a check of the tables written
-// apart, and each run to one of the library's own evaluator alone in tables of the party's limits. The books have 3 fluents, 4 actions and 6 rules.
+// Plays rows of runs of two parties at random (request R-14). Each opening and each run is held to an evaluator and a check of
+// the tables written apart, and each run to one of the library's own evaluator alone in tables of the party's limits. The books
+// have 3 fluents, 4 actions and 6 rules.
 #![tactic(auto)]
 
-mod evidence;
 mod expected;
 mod held;
 mod judge;
@@ -12,49 +12,45 @@ mod play;
 mod questions;
 mod tally;
 mod wanted;
-mod words;
 
 use relation::random;
+use std::alloc::{AllocError, Global};
 use std::io;
-
-// Writes six rules at random over zeros: rule 0 to a last one are base rules; the generator's next number.
-fn random_book(seed: u64, book: &mut [u16; 126], last: usize) -> u64 {
-    let mut x = seed;
-    for rule in 0..6usize {
-        x = random::record(book, rule, x, rule <= last);
-    }
-    random::next(x)
-}
+use tally::{Tally, count};
 
 // The generator's number some places on.
 fn later(x: u64) -> u64 {
-    random::next(random::next(random::next(random::next(random::next(x)))))
+    (0..5).fold(x, |y, _| random::next(y))
 }
 
-// Plays a row of eight runs over one book; the generator's next number.
-fn row(seed: u64, last: usize, t: &mut [u64; 30]) -> u64 {
-    let mut book = [0u16; 126];
-    let x = random_book(seed, &mut book, last);
-    tally::count(t, tally::ROWS, true);
-    let mut panel = openings::opened(&book, x, random::next(x), t);
+// Plays a row of eight runs over one book, of which so many first rules are base rules; the generator's next number.
+fn play_row(alloc: Global, seed: u64, bases: u16, t: &mut Tally) -> Result<u64, AllocError> {
+    let (book, next) = random::rules(seed, bases);
+    let x = random::next(next);
+    count(&mut t.rows, true);
+    let mut panel = openings::open_row(alloc, &book, x, random::next(x), t)?;
     let mut y = x;
-    for i in 0..8u64 {
+    for _ in 0..8 {
         y = later(y);
-        panel = play::turn_at(&book, x, panel, y, t);
+        panel = play::turn_at(&book, x, panel, y, t)?;
     }
-    random::next(y)
+    Ok(random::next(y))
 }
 
 // Plays so many rows. In turn the books have one to five base rules.
-fn rows(count: u64, from: u64, t: &mut [u64; 30]) {
+fn play_rows(alloc: Global, rows: u64, from: u64) -> Result<Tally, AllocError> {
+    let mut t = Tally::default();
     let mut seed = from;
-    for k in 0..count {
-        seed = row(seed, (k % 5) as usize, t);
+    for k in 0..rows {
+        seed = play_row(alloc, seed, (k % 5 + 1) as u16, &mut t)?;
     }
+    Ok(t)
 }
 
 fn main(rt: HostRuntime) -> io::Result<()> {
-    let mut t = [0u64; 30];
-    rows(500, 2026, &mut t);
-    tally::print_all(&rt, &t)
+    let tally = play_rows(rt.alloc(), 500, 2026)?;
+    for (name, n) in tally.lines() {
+        println!(rt; "{name}\t{n}")?;
+    }
+    Ok(())
 }

@@ -1,63 +1,49 @@
 // Questions at random: of few goals and starts for each row, so that both parties often need the same rows.
-use crate::held::Account;
-use relation::random::{next, pick};
+use crate::held::{Goal, Limits};
+use relation::random::{self, next, pick};
 
-// A party's question, as the account that it would hold, with so many places for ends.
-#[derive(Clone, Copy)]
+// A party's question under its limits, with so many places for ends.
+// Stays: which party asks holds beside all else, so `second` is no flag of a value.
+#[derive(Clone, Copy, PartialEq, Eq, Debug)]
 pub struct Asked {
     pub second: bool,
     pub fluents: u64,
     pub places: usize,
-    pub own: Account,
+    pub limits: Limits,
+    pub goal: Goal,
 }
 
-// A goal of the row at random, as an account with these limits.
-pub fn goal(row: u64, number: u64, limits: Account, start: u64) -> Account {
-    let mut scratch = [0u16; 126];
-    relation::random::record(
-        &mut scratch,
-        6,
-        next(row % 65536 + number % 4 * 104729),
-        false,
-    );
-    let mut goal = [0u64; 16];
-    for i in 0..16usize {
-        goal[i] = relation::word_at(&scratch, 6, i + 2) as u64;
+// A goal of the row at random.
+pub fn goal(row: u64, number: u64, start: u64) -> Goal {
+    let (record, _) = random::record(next(row % 65536 + number % 4 * 104729), None);
+    let mut words = [0; 16];
+    for (word, step) in words.iter_mut().zip(&record[2..]) {
+        *word = u64::from(*step);
     }
-    Account {
-        calls: limits.calls,
-        answers: limits.answers,
-        holds: true,
-        start: start,
-        steps: relation::word_at(&scratch, 6, 1) as u64,
-        goal: goal,
+    Goal {
+        start,
+        steps: u64::from(record[1]),
+        words,
     }
 }
 
 // With a step that is none, or with 17 steps.
-fn spoilt(a: Account, x: u64) -> Account {
-    let mut goal = a.goal;
-    let mut steps = a.steps;
-    if steps == 0 {
-        steps = 1;
-    }
-    goal[0] = 772;
-    if pick(x, 3) == 0 {
-        goal[0] = 1280 + pick(x, 2) % 2;
-    }
-    if pick(x, 3) == 1 {
-        goal[0] = 3;
-    }
-    if pick(x, 5) == 0 {
-        steps = 17;
-    }
-    Account {
-        calls: a.calls,
-        answers: a.answers,
-        holds: true,
-        start: a.start,
-        steps: steps,
-        goal: goal,
+fn spoilt(goal: Goal, x: u64) -> Goal {
+    let mut words = goal.words;
+    words[0] = match pick(x, 3) {
+        0 => 1280 + pick(x, 2),
+        1 => 3,
+        _ => 772,
+    };
+    let steps = if pick(x, 5) == 0 {
+        17
+    } else {
+        goal.steps.max(1)
+    };
+    Goal {
+        start: goal.start,
+        steps,
+        words,
     }
 }
 
@@ -68,41 +54,41 @@ pub fn start_of(row: u64, number: u64) -> u64 {
 
 // A start: one in twelve has a bit too high.
 fn start(row: u64, x: u64) -> u64 {
-    let s = start_of(row, pick(x, 3));
+    let start = start_of(row, pick(x, 3));
     if pick(next(x), 12) == 0 {
-        return s % 8 + 8;
+        start % 8 + 8
+    } else {
+        start
     }
-    s
 }
 
-// The question of a party with these limits.
-fn question_of(row: u64, limits: Account, x: u64) -> Account {
-    let a = goal(row, pick(x, 3), limits, start(row, next(x)));
+// The goal of a question.
+fn goal_asked(row: u64, x: u64) -> Goal {
+    let goal = goal(row, pick(x, 3), start(row, next(x)));
     if pick(next(next(next(x))), 12) == 0 {
-        return spoilt(a, x);
+        spoilt(goal, x)
+    } else {
+        goal
     }
-    a
 }
 
 // Places for ends: often 8, which serve any goal.
 fn places(x: u64) -> usize {
     if pick(x, 4) == 0 {
-        return pick(next(x), 3) as usize;
+        pick(next(x), 3) as usize
+    } else {
+        8
     }
-    8
 }
 
 // A question at random: one in thirty-seven is of 65 fluents.
-pub fn at_random(row: u64, second: bool, limits: Account, x: u64) -> Asked {
-    let mut fluents: u64 = 3;
-    if pick(next(next(next(x))), 37) == 0 {
-        fluents = 65;
-    }
-    let own = question_of(row, limits, next(x));
+pub fn at_random(row: u64, second: bool, limits: Limits, x: u64) -> Asked {
+    let is_wide = pick(next(next(next(x))), 37) == 0;
     Asked {
-        second: second,
-        fluents: fluents,
+        second,
+        fluents: if is_wide { 65 } else { 3 },
         places: places(next(next(x))),
-        own: own,
+        limits,
+        goal: goal_asked(row, next(x)),
     }
 }

@@ -1,138 +1,94 @@
-// Lines of a program that runs drills: a name, numbers, and buffers with equal neighbours told as one value and how often it stands.
+// How programs that run drills tell what is given and left: numbers with how often each stands in a row, and bytes as text; and how they write
+// rules (module `books`).
 #![tactic(auto)]
 
 ghost use Rattle.std.specs.Prelude.{◌<◌, ◌≤◌, length};
 
-use std::io;
+pub mod books;
 
-pub fn text(rt: &impl Print, s: &[u8]) -> io::Result<()> {
-    rt.write_all(s)
-}
+use std::fmt;
+use std::fmt::Display;
 
-pub fn number(rt: &impl Print, name: &[u8], n: u64) -> io::Result<()> {
-    text(rt, b"\t")?;
-    text(rt, name)?;
-    print!(rt; " {n}")
-}
+// Each number after a space.
+#[derive(Clone, Copy)]
+pub struct Each<'a, T>(pub &'a [T]);
 
-// One value and how often it stands.
-fn times(rt: &impl Print, value: u64, count: u64) -> io::Result<()> {
-    print!(rt; " {value}")?;
-    if 1 < count {
-        print!(rt; "x{count}")?;
+impl<'a, T: Display> Display for Each<'a, T> {
+    fn fmt<W: fmt::Write>(&self, f: &mut fmt::Formatter<W>) -> fmt::Result {
+        for x in self.0 {
+            write!(f, " {x}")?;
+        }
+        Ok(())
     }
-    Ok(())
 }
 
-// The place after the equal words that begin here.
-fn run_of(words: &[u64], from: usize) -> usize
-    requires { from < length words.now }
-    ensures { (from < result) × (result ≤ length words.now) }
+// Each number after a space, equal neighbours told once with how often the number stands: ` 7x3 0`.
+#[derive(Clone, Copy)]
+pub struct Runs<'a, T>(pub &'a [T]);
+
+// How many elements at the head are equal to the first.
+fn run_of<T: PartialEq>(s: &[T]) -> usize
+    requires { 0 < length s.now }
+    ensures { (0 < result) × (result ≤ length s.now) }
 {
-    for i in from + 1..words.len() {
-        if words[i] != words[from] {
+    for (i, x) in s.iter().enumerate().skip(1) {
+        if *x != s[0] {
             return i;
         }
     }
-    words.len()
+    s.len()
 }
 
-// The words of a buffer.
-pub fn buffer(rt: &impl Print, name: &[u8], words: &[u64]) -> io::Result<()> {
-    text(rt, b"\t")?;
-    text(rt, name)?;
-    let mut i: usize = 0;
-    while i < words.len() {
-        let end = run_of(words, i);
-        times(rt, words[i], (end - i) as u64)?;
-        i = end;
-    }
-    Ok(())
-}
-
-fn wide(word: u16) -> u64 {
-    word as u64
-}
-
-// A byte of text as it stands, tab, CR and LF as in a program.
-fn letter(rt: &impl Print, b: u8) -> io::Result<()> {
-    match b {
-        b'\t' => text(rt, b"\\t"),
-        b'\n' => text(rt, b"\\n"),
-        b'\r' => text(rt, b"\\r"),
-        _ => text(rt, &[b]),
+impl<'a, T: Display + PartialEq> Display for Runs<'a, T> {
+    fn fmt<W: fmt::Write>(&self, f: &mut fmt::Formatter<W>) -> fmt::Result {
+        let mut rest = self.0;
+        while !rest.is_empty() {
+            let count = run_of(rest);
+            write!(f, " {}", rest[0])?;
+            if 1 < count {
+                write!(f, "x{count}")?;
+            }
+            rest = &rest[count..];
+        }
+        Ok(())
     }
 }
+
+// Bytes: text as it stands, tab, CR and LF as in a program, behind a space where it comes first; any other byte as a number, as in `Runs`.
+#[derive(Clone, Copy)]
+pub struct Bytes<'a>(pub &'a [u8]);
 
 // Whether a byte is told as text.
 fn is_text(b: u8) -> bool {
-    if 126 < b {
-        return false;
+    matches!(b, b'\t' | b'\n' | b'\r' | b' '..=b'~')
+}
+
+// A byte of text.
+fn letter<W: fmt::Write>(f: &mut fmt::Formatter<W>, b: u8) -> fmt::Result {
+    match b {
+        b'\t' => f.write_str("\\t"),
+        b'\n' => f.write_str("\\n"),
+        b'\r' => f.write_str("\\r"),
+        _ => f.write_char(char::from(b)),
     }
-    31 < b || b == b'\t' || b == b'\n' || b == b'\r'
 }
 
-fn wide_byte(b: u8) -> u64 {
-    b as u64
-}
-
-// The place after the equal bytes that begin here.
-fn equal_bytes(bytes: &[u8], from: usize) -> usize
-    requires { from < length bytes.now }
-    ensures { (from < result) × (result ≤ length bytes.now) }
-{
-    for i in from + 1..bytes.len() {
-        if bytes[i] != bytes[from] {
-            return i;
+impl<'a> Display for Bytes<'a> {
+    fn fmt<W: fmt::Write>(&self, f: &mut fmt::Formatter<W>) -> fmt::Result {
+        if self.0.first().is_some_and(|b| is_text(*b)) {
+            f.write_str(" ")?;
         }
-    }
-    bytes.len()
-}
-
-// A space before a text.
-fn gap(rt: &impl Print, bytes: &[u8]) -> io::Result<()> {
-    if bytes.len() == 0 {
-        return Ok(());
-    }
-    if is_text(bytes[0]) {
-        text(rt, b" ")?;
-    }
-    Ok(())
-}
-
-// The bytes of a buffer: text, and any other byte as a number.
-pub fn bytes(rt: &impl Print, name: &[u8], bytes: &[u8]) -> io::Result<()> {
-    text(rt, b"\t")?;
-    text(rt, name)?;
-    gap(rt, bytes)?;
-    let mut i: usize = 0;
-    while i < bytes.len() {
-        if is_text(bytes[i]) {
-            letter(rt, bytes[i])?;
-            i += 1;
-        } else {
-            let end = equal_bytes(bytes, i);
-            times(rt, wide_byte(bytes[i]), (end - i) as u64)?;
-            i = end;
+        let mut rest = self.0;
+        while !rest.is_empty() {
+            if is_text(rest[0]) {
+                letter(f, rest[0])?;
+                rest = &rest[1..];
+            } else {
+                let count = run_of(rest);
+                write!(f, "{}", Runs(&rest[..count]))?;
+                rest = &rest[count..];
+            }
         }
+        Ok(())
     }
-    Ok(())
-}
-
-// The words of a buffer of 40, of 16 bits each.
-pub fn short_buffer(rt: &impl Print, name: &[u8], words: &[u16; 40]) -> io::Result<()> {
-    let mut wider = [0u64; 40];
-    for k in 0..40usize {
-        wider[k] = wide(words[k]);
-    }
-    buffer(rt, name, &wider)
-}
-
-// The 16 words of a goal.
-pub fn goal(rt: &impl Print, words: &[u16; 16]) -> io::Result<()> {
-    text(rt, b"\tgoal")?;
-    for k in 0..16usize {
-        times(rt, wide(words[k]), 1)?;
-    }
-    Ok(())
 }

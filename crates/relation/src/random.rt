@@ -1,35 +1,35 @@
 // Books at random, with rules that call themselves or each other first.
-ghost use Rattle.std.specs.Prelude.{◌≤◌};
+ghost use Rattle.std.specs.Prelude.{◌≤◌, ◌<◌};
+
+use crate::{Book, Record};
 
 // The next number of the generator, below 2 to the power 31.
 pub fn next(x: u64) -> u64 {
     (x % 2147483648 * 1103515245 + 12345) % 2147483648
 }
 
-// A number below n, from the upper bits of x.
-pub fn pick(x: u64, n: u64) -> u64 {
-    if n == 0 {
-        return 0;
-    }
-    x / 65536 % n
+// A number below n, or 0, from the upper bits of x.
+pub fn pick(x: u64, n: u64) -> u64
+    ensures { 0 < n → result < n }
+{
+    (x / 65536).checked_rem(n).unwrap_or(0)
 }
 
 // An action: one of three, or seldom the fourth.
-fn action(x: u64) -> u16 {
-    (pick(x, 31) / 10 % 4) as u16
+fn action(x: u64) -> u16
+    ensures { result < 4 }
+{
+    (pick(x, 31) / 10) as u16
 }
 
 // A query, insert, delete or denial: of sixteen, one is a query and one a denial, so that most bodies go on to their ends.
 fn elementary(x: u64) -> u16 {
-    let kind = pick(x, 16);
-    let fluent = pick(next(x), 3) % 3;
-    if kind == 0 {
-        return fluent as u16;
+    let fluent = pick(next(x), 3) as u16;
+    match pick(x, 16) {
+        0 => fluent,
+        15 => 1024 + fluent,
+        kind => (kind % 2 + 1) as u16 * 256 + fluent,
     }
-    if kind == 15 {
-        return (1024 + fluent) as u16;
-    }
-    (kind % 2 * 256 + 256 + fluent) as u16
 }
 
 // A step: a call half the time; where it is the first, seven times in eight.
@@ -37,9 +37,10 @@ fn step(x: u64, first: bool) -> u16 {
     let kind = pick(x, 8);
     let y = next(x);
     if 3 < kind || (first && 0 < kind) {
-        return action(y) % 4 + 768;
+        768 + action(y)
+    } else {
+        elementary(y)
     }
-    elementary(y)
 }
 
 // How many steps a record has: at most 4 three times in four, else at most 16.
@@ -47,32 +48,42 @@ fn length(x: u64) -> u64
     ensures { result ≤ 16 }
 {
     if pick(x, 4) == 0 {
-        return pick(next(x), 17) % 17;
+        pick(next(x), 17)
+    } else {
+        (pick(next(x), 9) + 1) / 2
     }
-    (pick(next(x), 9) % 9 + 1) / 2
 }
 
-// Writes a record with up to 16 steps over a record of zeros; the generator's next number. A base rule is of a given action and
-// calls nothing.
-pub fn record(words: &mut [u16; 126], rule: usize, x: u64, base: bool) -> u64 {
-    let at = rule % 7 * 18;
+// A record with up to 16 steps; and the generator's next number. A base rule is of a given action and calls nothing.
+pub fn record(x: u64, base: Option<u16>) -> (Record, u64) {
+    let mut record = [0; 18];
     let mut seed = next(x);
-    words[at] = if base {
-        (rule % 3) as u16
-    } else {
-        action(seed)
-    };
+    record[0] = base.unwrap_or(action(seed));
     seed = next(seed);
     let count = length(seed);
-    words[at + 1] = count as u16;
-    for k in 0..count {
+    record[1] = count as u16;
+    for (k, word) in record[2..2 + count as usize].iter_mut().enumerate() {
         seed = next(next(next(seed)));
-        let i = at + 2 + (k % 16) as usize;
-        words[i] = if base {
+        *word = if base.is_some() {
             elementary(seed)
         } else {
             step(seed, k == 0)
         };
     }
-    seed
+    (record, seed)
+}
+
+// Six rules, of which some are base rules, and a goal of no steps; and the generator's next number.
+pub fn rules(x: u64, bases: u16) -> (Book, u64) {
+    let mut book = Book {
+        rules: [[0; 18]; 6],
+        goal: [0; 18],
+    };
+    let mut seed = x;
+    for (i, rule) in book.rules.iter_mut().enumerate() {
+        let number = i as u16;
+        let base = (number < bases).then_some(number % 3);
+        (*rule, seed) = record(seed, base);
+    }
+    (book, seed)
 }
