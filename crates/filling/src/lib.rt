@@ -144,81 +144,83 @@ fn round<'a>(
     let mut n = rows;
     let mut m = known;
     let mut walk = stage.walk;
-    for row in low..top {
-        if high <= row && row < walked {
-            continue;
-        }
-        let own = desk::action_of(calls, row);
-        let from = first_body(rules, goals, own);
-        let past = past_body(rules, goals, own);
-        for rule in from..past {
-            let action = desk::action_of(calls, row);
-            if !bodies::is_at(rules, goals, rule, action) {
+    // A full table breaks out of the rows, rules and steps by this label, to what follows.
+    'round: {
+        for row in low..top {
+            if high <= row && row < walked {
                 continue;
             }
-            let number = bodies::number_of(rule, count);
-            let body = bodies::steps_for(rules, goal, second, goals, number, action);
-            if !goes_on(body, desk::state_of(calls, row)) {
-                continue;
-            }
-            walk = marks::next_walk(calls, n, walk);
-            let job = Job {
-                rule: number,
-                row: row,
-                known: known,
-                most: most,
-                walk: walk,
-                first: first,
-                old: span.old,
-                seen: seen,
-                warm: span.warm,
-                round: round,
-            };
-            let mut chosen = [0u64; 16];
-            let mut rest = body;
-            let mut spot = Spot {
-                state: desk::state_of(calls, row),
-                last: 0,
-            };
-            loop {
-                let turn = search::turn(
-                    body,
-                    rest,
-                    job,
-                    calls,
-                    n,
-                    list,
-                    answers,
-                    m,
-                    &mut chosen,
-                    spot,
-                );
-                n = turn.calls;
-                m = turn.answers;
-                match turn.leave {
-                    Leave::On(after) => {
-                        rest = &rest[1..];
-                        spot = after;
-                    }
-                    Leave::Back(place, after) => {
-                        rest = &body[place..];
-                        spot = after;
-                    }
-                    Leave::Done => break,
-                    Leave::Full => {
-                        return Err(Full {
-                            calls: n,
-                            answers: m,
-                        });
+            let own = desk::action_of(calls, row);
+            let from = first_body(rules, goals, own);
+            let past = past_body(rules, goals, own);
+            for rule in from..past {
+                let action = desk::action_of(calls, row);
+                if !bodies::is_at(rules, goals, rule, action) {
+                    continue;
+                }
+                let number = bodies::number_of(rule, count);
+                let body = bodies::steps_for(rules, goal, second, goals, number, action);
+                if !goes_on(body, desk::state_of(calls, row)) {
+                    continue;
+                }
+                walk = marks::next_walk(calls, n, walk);
+                let job = Job {
+                    rule: number,
+                    row: row,
+                    known: known,
+                    most: most,
+                    walk: walk,
+                    first: first,
+                    old: span.old,
+                    seen: seen,
+                    warm: span.warm,
+                    round: round,
+                };
+                let mut chosen = [0u64; 16];
+                let mut rest = body;
+                let mut spot = Spot {
+                    state: desk::state_of(calls, row),
+                    last: 0,
+                };
+                loop {
+                    let turn = search::turn(
+                        body,
+                        rest,
+                        job,
+                        calls,
+                        n,
+                        list,
+                        answers,
+                        m,
+                        &mut chosen,
+                        spot,
+                    );
+                    n = turn.calls;
+                    m = turn.answers;
+                    match turn.leave {
+                        Leave::On(after) => {
+                            rest = &rest[1..];
+                            spot = after;
+                        }
+                        Leave::Back(place, after) => {
+                            rest = &body[place..];
+                            spot = after;
+                        }
+                        Leave::Done => break,
+                        Leave::Full => break 'round,
                     }
                 }
             }
         }
+        return Ok(Ended {
+            calls: n,
+            answers: m,
+            walk: walk,
+        });
     }
-    Ok(Ended {
+    Err(Full {
         calls: n,
         answers: m,
-        walk: walk,
     })
 }
 

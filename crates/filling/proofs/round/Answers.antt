@@ -5,27 +5,24 @@ use mathlib.Core.Path.{◌≡◌, refl, sym, ap, subst, ◌∙◌}
 use mathlib.Core.Bool.{Bool, true}
 use mathlib.Core.List.{List}
 use lib.ListN.{length, get_or, replicate, length-replicate, get_or-replicate, get_or-eq_default}
-use borrow.Author.Tests.{not-true, not-false}
 use Rattle.steps.proofs.EachBelow.{true_not_false}
 use Rattle.steps.specs.State.{State}
 use Rattle.steps.specs.Widths.{rule_width}
 use Rattle.records.specs.Records.{Bodies, Calls}
 use Rattle.records.proofs.BodyLaws.{short_of}
-use Rattle.desk.specs.Desk.{open_calls, packed_answers, mark_words}
+use Rattle.desk.specs.Desk.{open_calls, packed_answers}
 use Rattle.marks.proofs.MarksLaws.{alone_calls}
-use Rattle.uses.specs.Uses.{Uses, UsesGrew, Lit, uses_in}
+use Rattle.uses.specs.Uses.{Uses, UsesGrew, uses_in}
 use Rattle.uses.proofs.UsesLaws.{kept_same, uses_refl, uses_trans}
 use Rattle.tabling.proofs.Evidence.{Among, inside_of}
 use Rattle.records.specs.Bodies.{number_at, bodies_with}
 use Rattle.records.proofs.Numbers.{numbers_all, proper_with, lower_number}
 use Rattle.invariants.proofs.Turn.{Begin, begin, before, Given, turn_start, body_short}
-use Rattle.search.specs.Leaving.{spot_of}
 use Rattle.records.proofs.Growth.{Tables, tables}
 use Rattle.invariants.proofs.Cold.{Past}
 use Rattle.invariants.proofs.Frames.{uses_same, looked_kept, looked_indexed, marked_uses, marked_kept, marked_indexed}
-use Rattle.invariants.proofs.Going.{in_words, Going, going_start, going_on, going_back, going_fits, on_less, back_less}
-use Rattle.invariants.proofs.Rounds.{Round, Rows, Rules, round_kept, rows_past, rows_start, rows_round, rows_passed, rules_start, rules_stopped, rules_skip, rules_next, rows_next, rows_finished, rows_gathered, rows_sooner, rules_lower}
-use borrow.Author.Rules.{rules}
+use Rattle.invariants.proofs.Going.{in_words, going_start, going_on, going_back, going_fits, on_less, back_less}
+use Rattle.invariants.proofs.Rounds.{Round, Rules, round_kept, rows_past, rows_start, rows_round, rows_passed, rules_start, rules_stopped, rules_skip, rules_next, rows_next, rows_finished, rows_gathered, rows_sooner, rules_lower}
 use Rattle.filling.proofs.round.Goals as goal
 use Rattle.filling.proofs.round.Goals.{After-next_walk-walk}
 
@@ -418,9 +415,9 @@ returns c =
       outgrown = λ e. absurd (true_not_false (sym e));
     }
 
-pub returns-in-Full : goal.returns-in-Full
-returns-in-Full c =
-    let N = (goal.at.returns-in-Full c).After-next_walk-walk in
+pub returns-2 : goal.returns-2
+returns-2 c =
+    let N = (goal.at.returns-2 c).After-next_walk-walk in
     let s = c.turn-turn.ensures.stays in
     let w = c.loop-after.invariant.words in
     let l = c.loop-rule.invariant.words in
