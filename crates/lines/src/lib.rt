@@ -117,7 +117,10 @@ fn put_rule(words: &mut [u16], at: usize, head: u16, body: &Body)
 {
     words[at] = head;
     words[at + 1] = body.len as u16;
-    words[at + 2..at + RULE_WORDS].copy_from_slice(&body.words);
+    // Stays: with `copy_from_slice` the words lent are filled with 0 at each call, which takes longer than to read a small sheet.
+    for k in 0..RULE_WORDS - 2 {
+        words[at + 2 + k] = body.words[k];
+    }
 }
 
 impl<'a> Parse<'a> {
