@@ -5,13 +5,15 @@ use mathlib.Core.List.{List, [], ◌∷◌}
 use Prim.Native.Nat.{ℕ, suc, ◌+◌, ◌≤◌, ◌<◌}
 use native.Mathlib.Nat.{le_of_suc-le-suc, not-suc-le-zero}
 use native.Mathlib.Omega.{arith}
+use native.Mathlib.Numerals.{add-one}
+use borrow.Author.Tests.{eq-eqb, ne_eqb}
 use lib.Dec.{eqb}
 use Rattle.std.proofs.Common.{Some, None}
 use Rattle.std.specs.List.{position, position_or_len}
 use Rattle.std.proofs.lemmas.List.Recursion.{is_position_or_len}
 use Rattle.std.proofs.lemmas.Bool.Decides.{nat_tests}
-use lib.ListN.{length, take, drop}
-use lib.Seq.{slice, take-add, take-take, drop_at, drop-drop, length-take-le}
+use lib.ListN.{get_or, length, take, drop}
+use lib.Seq.{slice, slice-cons, slice_empty, take-add, take-take, drop_at, drop-drop, length-take-le}
 use Rattle.chars.specs.Inner.{index_of, index_after}
 use Rattle.chars.specs.Pieces.{pieces, piece_then, grow}
 
@@ -87,3 +89,23 @@ index_Some b xs k e = let f = index_position b xs in grind (arith, nat_tests)
 -- where it finds none
 pub index_None : (b : ℕ) (xs : List ℕ) → position (λ x. eqb x b) xs ≡ None → index_of b xs ≡ length xs
 index_None b xs e = let f = index_position b xs in let g = index_le b xs in grind (arith, nat_tests)
+
+-- the index of a byte in a part, by the part's first
+pub index_first : (b : ℕ) (s : List ℕ) (i to : ℕ) → i < to → to ≤ length s → index_of b (slice i to s) ≡ index_after (eqb (get_or s i 0) b) (index_of b (slice (i + 1) to s))
+unfolding index_of
+index_first b s i to h k = rw (add-one, slice-cons i to s 0) refl
+
+-- in a part that begins with the byte
+pub index_hit : (b : ℕ) (s : List ℕ) (i to : ℕ) → i < to → to ≤ length s → get_or s i 0 ≡ b → index_of b (slice i to s) ≡ 0
+unfolding index_after
+index_hit b s i to h k e = index_first b s i to h k ∙ rw (eq-eqb (get_or s i 0) b e) refl
+
+-- in a part that begins with another byte
+pub index_miss : (b : ℕ) (s : List ℕ) (i to : ℕ) → i < to → to ≤ length s → (get_or s i 0 ≡ b → ⊥) → index_of b (slice i to s) ≡ suc (index_of b (slice (i + 1) to s))
+unfolding index_after
+index_miss b s i to h k e = index_first b s i to h k ∙ rw (ne_eqb (get_or s i 0) b e) refl
+
+-- in an empty part
+pub index_none : (b : ℕ) (s : List ℕ) (i to : ℕ) → i ≡ to → index_of b (slice i to s) ≡ 0
+unfolding index_of
+index_none b s i to e = rw (e, slice_empty to s) refl

@@ -40,6 +40,9 @@ pub buckets_some : (most : ℕ) → 0 < buckets most
 unfolding buckets
 buckets_some most = pow_pos (63 - count_leading_zeros 64 most)
 
+pub some_bucket : {n most : ℕ} → n ≢ 0 → n ≤ most → 0 < most
+some_bucket d l = omega arith
+
 -- The bucket of record i.
 abbrev pub key_in : ℕ → ℕ → ℕ → List ℕ → ℕ → ℕ
 key_in most unit width words i = bucket most (get_or words (width * i) 0 / unit) (get_or words (width * i + 1) 0)
@@ -199,6 +202,18 @@ answer_index_same {calls} {answers} {calls'} {answers'} {most} {m} c firsts same
 pub answer_index_calls : {calls calls' answers : List ℕ} {most m : ℕ} → AnswerIndex most calls answers m → ((r : ℕ) → firsts_in calls' r ≡ firsts_in calls r)
     → AnswerIndex most calls' answers m
 answer_index_calls c firsts = answer_index_same c firsts (λ x l. (refl, refl)) (λ p j l. refl)
+
+-- Where heads and links were written anew for records of the same call records in other order, the queues are as they were.
+pub answer_index_again : {calls answers answers' : List ℕ} {most m : ℕ} → AnswerIndex most calls answers m → AnswersKeyed most answers' m
+    → ((x : ℕ) → x < m → (packed_answers answers' m).call x ≡ (packed_answers answers m).call x)
+    → ((p j : ℕ) → j < 2 → answer_notes most ≤ p → quarter (get_or answers' p 0) j ≡ quarter (get_or answers p 0) j) → AnswerIndex most calls answers' m
+answer_index_again {calls} {answers} {answers'} {most} {m} c keyed same notes =
+    let b = answer_notes most in
+    record {
+      covers = keyed;
+      queued = queued_same _ _ _ _ _ _ _ _ m c.queued same (λ r. refl) (λ r. notes (b + firsts_in calls r) 1 (omega arith) (omega arith))
+          (λ x. notes (b + x) 0 (omega arith) (omega arith));
+    }
 
 -- One answer more of call record `row`, whose first answer is f, or m where it has none.
 module _ {calls answers : List ℕ} {most m row f last : ℕ} (c : AnswerIndex most calls answers m) (small : row < 65536)

@@ -92,6 +92,18 @@ marked_by marks walk q r l true e = word_mark marks walk q r q l (held (word_in 
 marked_by marks walk q r l false e = λ m. omega (arith, not_held (word_in marks walk r) q (sym e), mark_word marks walk q r q m)
 
 -- ---- in the words of the call table
+pub alone_refl : (n : ℕ) (words : List ℕ) → MarksAlone n words words
+alone_refl n words = record { long = refl; above = λ i. refl; states = λ i. refl; thirds = λ i. refl; past = λ p l. refl }
+
+pub alone_trans : {n : ℕ} {words words' words'' : List ℕ} → MarksAlone n words words' → MarksAlone n words' words'' → MarksAlone n words words''
+alone_trans a b = record {
+  long = b.long ∙ a.long;
+  above = λ i. b.above i ∙ a.above i;
+  states = λ i. b.states i ∙ a.states i;
+  thirds = λ i. b.thirds i ∙ a.thirds i;
+  past = λ p l. b.past p l ∙ a.past p l;
+}
+
 -- Where marks alone differ, they do among more records too,
 pub alone_up : {m n : ℕ} {words words' : List ℕ} → m ≤ n → MarksAlone m words words' → MarksAlone n words words'
 alone_up l a = record { long = a.long; above = a.above; states = a.states; thirds = a.thirds; past = λ p h. a.past p (omega arith) }

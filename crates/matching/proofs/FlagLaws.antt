@@ -45,6 +45,9 @@ module _ {width at n : ℕ} where
     other = λ p a. get_or-set_other words' (width * r + at) p v 0 (a r l) ∙ k.other p a;
   }
 
+  pub flagged_kept : {words words' : List ℕ} → Flagged width at n words → Kept width at n words words' → Flagged width at n words'
+  flagged_kept f k = record { inside = f.inside; fits = omega (arith, f.fits, k.long) }
+
   module _ {words : List ℕ} (f : Flagged width at n words) (r v : ℕ) (l : r < n) where
     pub flag_set : flag width at (set words (width * r + at) v) r ≡ v
     flag_set = get_or-set_same words (width * r + at) v 0 (flag_inside r f l)

@@ -3,20 +3,21 @@ use Prim.Native.Nat.{ℕ, ◌+◌, ◌*◌, ◌<◌, ◌≤◌}
 use native.Mathlib.Omega.{arith}
 use native.Mathlib.Decide.{dec_lt}
 use mathlib.Core.Path.{◌≡◌, refl, sym, ap, ap₂, ◌∙◌}
+use mathlib.Core.Bool.{Bool, true, false}
 use mathlib.Core.List.{List}
 use lib.ListN.{get_or}
 use Rattle.steps.specs.State.{State}
 use Rattle.quarters.specs.Quarters.{quarter}
 use Rattle.records.specs.Records.{Calls, Answers, call_width}
 use Rattle.records.specs.Storage.{CallAt, AnswerAt, FindCall}
-use Rattle.records.proofs.Growth.{CallsOnce, row_once}
+use Rattle.records.proofs.Growth.{Tables, CallsOnce, row_once}
 use Rattle.desk.specs.Desk.{open_calls, packed_answers, packed_width}
 use Rattle.index.specs.Index.{answer_notes}
 use Rattle.index.proofs.Chains.{covers_same}
 use Rattle.index.proofs.IndexLaws.{call_index_same}
 use Rattle.stowing.specs.Stowing.{freed_words, stowed_words}
-use Rattle.matching.specs.Flags.{Kept, Flagged, RowFound, RowForRow}
-use Rattle.matching.specs.Matching.{call_row, answer_row, stowed_row, run_row, CallsReady, AnswersReady}
+use Rattle.matching.specs.Flags.{Whether, Kept, Flagged, RowFound, RowForRow}
+use Rattle.matching.specs.Matching.{call_row, answer_row, stowed_row, run_row, CallsReady, AnswersReady, SameRows}
 use Rattle.matching.proofs.Pairs.{rows_same}
 
 pub row_of_parts : {a b : ℕ} {D F : State} → a ≡ b → D ≡ F → ◌≡◌ {A = ℕ × State} (a, D) (b, F)
@@ -164,3 +165,11 @@ module _ {n stowed m most kept : ℕ} {answers : List ℕ} (c : AnswersReady n s
         by (yes p) q = absurd (c.once x y (given.call y) (given.final y) p l at_x at_y)
         by (no p) (yes q) = absurd (c.once y x (given.call y) (given.final y) q k at_y at_x)
         by (no p) (no q) = omega arith
+
+-- ---- both tables
+module _ (t e : Tables) (p : RowForRow (answer_row t.calls t.answers) t.answers.count (answer_row e.calls e.answers) e.answers.count) where
+  -- Where the answers are the same, the calls tell.
+  pub calls_tell : (b : Bool) → Whether (RowForRow (call_row t.calls) t.calls.count (call_row e.calls) e.calls.count) b
+      → Whether (SameRows t e) b
+  calls_tell true h = record { calls = h; answers = p }
+  calls_tell false h = λ s. h s.calls

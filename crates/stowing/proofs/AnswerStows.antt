@@ -26,6 +26,9 @@ alike_trans s t = record {
   evidence = λ q l. s.evidence q l ∙ t.evidence q l;
 }
 
+pub alike_sym : {a b : Answers} {x : ℕ} → AnswerAlike a b x → AnswerAlike b a x
+alike_sym s = record { call = sym s.call; final = sym s.final; rule = sym s.rule; evidence = λ q l. sym (s.evidence q l) }
+
 -- A record whose words stay is the same,
 pub plain_kept : (words words' : List ℕ) (m x : ℕ)
     → ((p : ℕ) → answer_words * x ≤ p → p < answer_words * x + 19 → get_or words' p 0 ≡ get_or words p 0) → AnswerAlike (plain_answers words' m) (plain_answers words m) x

@@ -10,9 +10,21 @@ use Rattle.quarters.specs.Quarters.{quarter, QuarterPut}
 use Rattle.records.specs.Records.{call_width}
 use Rattle.records.specs.Storage.{Stored}
 use Rattle.desk.specs.Desk.{open_calls, mark_words, round_unit, round_top, action_unit}
-use Rattle.uses.specs.Uses.{third, uses_in, heat, after_both, UseAdded, ViaNoted, StartPut, SameLooks, UsesAlone, LooksAlone}
+use Rattle.uses.specs.Uses.{third, uses_in, heat, after_both, UseAdded, ViaNoted, StartPut, SameLooks, UsesAlone, LooksAlone, AnswersHeld}
 
 -- ---- the call table
+pub alone_refl : (n : ℕ) (words : List ℕ) → UsesAlone n words words
+alone_refl n words = record { long = refl; heads = λ i. refl; states = λ i. refl; firsts = λ i. refl; past = λ p l. refl }
+
+pub alone_trans : {n : ℕ} {words words' words'' : List ℕ} → UsesAlone n words words' → UsesAlone n words' words'' → UsesAlone n words words''
+alone_trans a b = record {
+  long = b.long ∙ a.long;
+  heads = λ i. b.heads i ∙ a.heads i;
+  states = λ i. b.states i ∙ a.states i;
+  firsts = λ i. b.firsts i ∙ a.firsts i;
+  past = λ p l. b.past p l ∙ a.past p l;
+}
+
 -- where uses alone differ, they do among more records too
 pub alone_up : {m n : ℕ} {words words' : List ℕ} → m ≤ n → UsesAlone m words words' → UsesAlone n words words'
 alone_up l a = record { long = a.long; heads = a.heads; states = a.states; firsts = a.firsts; past = λ p h. a.past p (omega arith) }
@@ -29,6 +41,10 @@ alone_calls a m = λ d. record {
 -- and their marks
 pub alone_marks : {n : ℕ} {words words' : List ℕ} → UsesAlone n words words' → mark_words words' ≡ mark_words words
 alone_marks a = λ d i. a.heads i d % round_unit
+
+-- and their first answers
+pub alone_firsts : {n : ℕ} {words words' : List ℕ} → UsesAlone n words words' → ◌≡◌ {A = ℕ → ℕ} (λ i. third words' i 3) (λ i. third words i 3)
+alone_firsts a = λ d i. a.firsts i d
 
 -- and all is 0 past them
 pub alone_stored : {n : ℕ} {words words' : List ℕ} → UsesAlone n words words' → Stored call_width words n → Stored call_width words' n
@@ -112,8 +128,18 @@ via_noted {words} {words'} {last} {i} {v} list p e = record {
 }
 
 -- ---- the list
+pub looks_refl : (list : List ℕ) → LooksAlone list list
+looks_refl list = record { long = refl; links = λ i. refl; heads = λ i. refl }
+
 pub looks_trans : {list list' list'' : List ℕ} → LooksAlone list list' → LooksAlone list' list'' → LooksAlone list list''
 looks_trans a b = record { long = b.long ∙ a.long; links = λ i. b.links i ∙ a.links i; heads = λ i. b.heads i ∙ a.heads i }
+
+-- links and heads of the list as functions
+pub looks_links : {list list' : List ℕ} → LooksAlone list list' → ◌≡◌ {A = ℕ → ℕ} (λ i. quarter (get_or list' i 0) 2) (λ i. quarter (get_or list i 0) 2)
+looks_links a = λ d i. a.links i d
+
+pub looks_heads : {list list' : List ℕ} → LooksAlone list list' → ◌≡◌ {A = ℕ → ℕ} (λ i. quarter (get_or list' i 0) 3) (λ i. quarter (get_or list i 0) 3)
+looks_heads a = λ d i. a.heads i d
 
 -- Where a round begins, and for which answer.
 module _ {list list' list'' : List ℕ} {k y h : ℕ} (p : QuarterPut list k 0 y list') (q : QuarterPut list' k 1 h list'') where
@@ -128,3 +154,7 @@ module _ {list list' list'' : List ℕ} {k y h : ℕ} (p : QuarterPut list k 0 y
     starts = λ i n. at_other i 0 n;
     heats = λ i n. at_other i 1 n;
   }
+
+-- the answers are held still
+pub held_same : {calls list list' answers : List ℕ} {known rows : ℕ} → LooksAlone list list' → AnswersHeld calls list answers known rows → AnswersHeld calls list' answers known rows
+held_same a h = record { answers_fit = h.answers_fit; calls_fit = h.calls_fit; listed = omega (arith, a.long, h.listed); few = h.few; small = h.small; inside = h.inside }
